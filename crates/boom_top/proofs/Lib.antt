@@ -1,0 +1,8 @@
+pub mod Both
+pub mod Lines
+pub mod Made
+pub mod Only
+pub mod Positions
+pub mod Sent
+pub mod Texts
+pub mod Words

@@ -1,0 +1,7 @@
+-- What a reading has room for.
+use Rattle.std.specs.Prelude.{ℕ, ◌^◌, ◌<◌, length}
+use Rattle.form_one.specs.declared.code.Main.{Main}
+
+-- there are fewer than 2^32 statements and locals
+abbrev pub AreFew : Main → Type 0
+AreFew main = (length main.code < 2 ^ 32) × (length main.locals < 2 ^ 32)

@@ -1,0 +1,56 @@
+//! How a call ended.
+ghost use Rattle.std.specs.Prelude.{◌≡◌};
+ghost use Rattle.boom_top.specs.Replies.{number_of};
+
+/// The part of a place that isn't there.
+#[derive(Clone, Copy, Debug, PartialEq, Eq)]
+pub enum Which {
+    /// No method has this text.
+    Method,
+    /// The method has no statement with this index.
+    Index,
+    /// The method declares no local of this name.
+    Local,
+}
+
+/// How a call ended. What each means stands at `boomer`.
+#[derive(Clone, Copy, Debug, PartialEq, Eq)]
+pub enum Status {
+    /// The answer was written whole.
+    Done,
+    /// The words are no command.
+    Usage,
+    /// A read failed.
+    ReadFault,
+    /// There are more than 16,777,216 bytes.
+    TooLong,
+    /// A part of the place that the command names isn't there: the first in the order of `Which`.
+    NoSuchPlace { which: Which },
+    /// More nodes than this budget are demanded.
+    OverBudget { budget: u32 },
+    /// A write failed.
+    WriteFault,
+    /// Memory that was asked for wasn't found.
+    NoMemory,
+    /// The bytes spell no program of the first form for the entry. The index is 0.
+    Unsupported { index: u32 },
+}
+
+impl Status {
+    /// The number with which the program ends.
+    pub fn number(&self) -> u8
+        ensures { result ≡ number_of self.now }
+    {
+        match self {
+            Status::Done => 0,
+            Status::Usage => 1,
+            Status::ReadFault => 2,
+            Status::TooLong => 3,
+            Status::NoSuchPlace { .. } => 7,
+            Status::OverBudget { .. } => 11,
+            Status::WriteFault => 12,
+            Status::NoMemory => 13,
+            Status::Unsupported { .. } => 14,
+        }
+    }
+}

@@ -1,0 +1,12 @@
+pub mod Classes
+pub mod Codes
+pub mod Counts
+pub mod Keys
+pub mod Paths
+pub mod Runs
+pub mod SameName
+pub mod SameNode
+pub mod Searches
+pub mod Sites
+pub mod Sizes
+pub mod Tables

@@ -1,0 +1,3 @@
+pub mod FirstForm
+pub mod Reading
+pub mod Spells

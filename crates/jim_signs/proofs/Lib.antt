@@ -1,0 +1,6 @@
+pub mod DigitLemmas
+pub mod KnownLemmas
+pub mod LeadLemmas
+pub mod NameLemmas
+pub mod TextLemmas
+pub mod SignLemmas

@@ -1,0 +1,11 @@
+pub mod AloneLemmas
+pub mod CharLemmas
+pub mod CommentLemmas
+pub mod DigitLemmas
+pub mod MarkLemmas
+pub mod NameLemmas
+pub mod NumberLemmas
+pub mod ReadLemmas
+pub mod TextLemmas
+pub mod TokenLemmas
+pub mod WordLemmas

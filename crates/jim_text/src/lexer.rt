@@ -1,0 +1,139 @@
+//! The lexer: at each place what begins there, by the first byte.
+ghost use Rattle.std.specs.Prelude.{◌≡◌, ◌+◌, ◌^◌, ◌<◌, ◌≤◌, ℕ, length, vec_len, slice_index, IsFalse, MatchOption, IfOk, IfErr, All};
+ghost use Rattle.jim_text.specs.Spelling.{IsName};
+ghost use Rattle.jim_text.specs.Ends.{IsMade, IsNameToken, is_lead, is_number_lead};
+ghost use Rattle.jim_text.specs.Lexes.{NoTokenAt, TokenAt, Lexes, IsSpelled, InOrder, Explains};
+
+use super::chars::is_blank;
+use super::comment::comment_end;
+use super::mark::mark_end;
+use super::name::{is_lead, name_end};
+use super::number::{is_number_lead, number_end};
+use super::text::{at_end, text_end};
+use super::word::is_reserved;
+use super::{Kind, LexError, Token};
+use std::alloc::{AllocFailed, Global};
+
+impl From<AllocFailed<Token>> for LexError {
+    ghost use Rattle.std.specs.Prelude.{◌≡◌};
+    ghost use Rattle.jim_text.specs.declared.LexError.TheVariants.{NoMemory};
+
+    ghost from_gives = { λ _ e. e ≡ NoMemory };
+
+    fn from(_error: AllocFailed<Token>) -> Self {
+        LexError::NoMemory
+    }
+}
+
+// The token up to a place, unless that is where it would begin.
+fn made(kind: Kind, from: usize, to: usize) -> Option<Token>
+    requires low { from < 2 ^ 32 }
+    requires high { to < 2 ^ 32 }
+    ensures { MatchOption result (from ≡ to) (IsMade kind from to) }
+{
+    if from == to {
+        return None;
+    }
+    Some(Token {
+        kind,
+        from: from as u32,
+        to: to as u32,
+    })
+}
+
+fn name_at(bytes: &[u8], at: usize) -> Option<Token>
+    requires long { length bytes.now < 2 ^ 32 }
+    requires within { at < length bytes.now }
+    ensures { MatchOption result ((to : ℕ) → ¬ (IsName bytes.now at to)) (IsNameToken bytes.now at) }
+{
+    let to = name_end(bytes, at);
+    if is_reserved(&bytes[at..to]) {
+        made(Kind::Word, at, to)
+    } else {
+        made(Kind::Name, at, to)
+    }
+}
+
+// The longest token that begins with `<`.
+fn less_at(bytes: &[u8], at: usize) -> Option<Token>
+    requires long { length bytes.now < 2 ^ 32 }
+    requires within { at < length bytes.now }
+    requires less { slice_index bytes.now at ≡ 60 }
+    ensures { MatchOption result (NoTokenAt bytes.now at) (TokenAt bytes.now at) }
+{
+    match name_at(bytes, at) {
+        Some(token) => Some(token),
+        None => made(Kind::Mark, at, mark_end(bytes, at)),
+    }
+}
+
+// The longest mark, where nothing else can begin.
+fn mark_at(bytes: &[u8], at: usize) -> Option<Token>
+    requires long { length bytes.now < 2 ^ 32 }
+    requires within { at < length bytes.now }
+    requires lead { IsFalse (is_lead (slice_index bytes.now at)) }
+    requires less { ¬ (slice_index bytes.now at ≡ 60) }
+    requires quote { ¬ (slice_index bytes.now at ≡ 34) }
+    requires sign { ¬ (slice_index bytes.now at ≡ 64) }
+    requires digit { IsFalse (is_number_lead (slice_index bytes.now at)) }
+    ensures { MatchOption result (NoTokenAt bytes.now at) (TokenAt bytes.now at) }
+{
+    made(Kind::Mark, at, mark_end(bytes, at))
+}
+
+// The longest token that begins at a place.
+fn token_at(bytes: &[u8], at: usize) -> Option<Token>
+    requires long { length bytes.now < 2 ^ 32 }
+    requires within { at < length bytes.now }
+    ensures { MatchOption result (NoTokenAt bytes.now at) (TokenAt bytes.now at) }
+{
+    let first = bytes[at];
+    if is_lead(first) {
+        name_at(bytes, at)
+    } else if first == b'"' {
+        made(Kind::Text, at, text_end(bytes, at))
+    } else if first == b'@' {
+        made(Kind::At, at, at_end(bytes, at))
+    } else if is_number_lead(first) {
+        made(Kind::Number, at, number_end(bytes, at))
+    } else if first == b'<' {
+        less_at(bytes, at)
+    } else {
+        mark_at(bytes, at)
+    }
+}
+
+/// Cuts a text into its tokens: at each place the longest that begins there, with blanks and comments passed over.
+///
+/// The text is any bytes, at most 16,777,216 of them. A token's text is `bytes[from..to]`, byte places from 0. The
+/// tokens come in the order of the text; none is empty, and none stands over another, so there are at most as many as
+/// there are bytes. The time is linear in the bytes, whatever they are.
+///
+/// `BadText { at }` comes exactly where bytes have no list of tokens: `at` is the first byte at which no blank, comment
+/// or token begins. A comment, a text or a quoted component without an end, or with a malformed character before its
+/// end, does not begin. `NoMemory` comes where there is none for the list.
+pub fn lex(alloc: Global, bytes: &[u8]) -> Result<Vec<Token>, LexError>
+    requires { length bytes.now ≤ 16777216 }
+    ensures tokens { IfOk result (λ tokens. Lexes bytes.now tokens.items) }
+    ensures spelled { IfOk result (λ tokens. All (IsSpelled bytes.now) tokens.items) }
+    ensures order { IfOk result (λ tokens. InOrder 0 tokens.items (length bytes.now)) }
+    ensures few { IfOk result (λ tokens. vec_len tokens ≤ length bytes.now) }
+    ensures error { IfErr result (Explains bytes.now) }
+{
+    let mut tokens = Vec::new(alloc);
+    let mut at = 0;
+    while at < bytes.len() {
+        if is_blank(bytes[at]) {
+            at += 1;
+        } else if let Some(to) = comment_end(bytes, at) {
+            at = to;
+        } else {
+            let Some(token) = token_at(bytes, at) else {
+                return Err(LexError::BadText { at: at as u32 });
+            };
+            tokens.push(token)?;
+            at = token.to as usize;
+        }
+    }
+    Ok(tokens)
+}
