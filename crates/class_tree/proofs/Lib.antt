@@ -1,0 +1,15 @@
+pub mod Positions
+pub mod Listed
+pub mod Parents
+pub mod RowLists
+pub mod StepLists
+pub mod Visited
+pub mod Searches
+pub mod Placed
+pub mod Spanned
+pub mod Reached
+pub mod KeyLists
+pub mod OrderFacts
+pub mod TreeFacts
+pub mod Building
+pub mod LawFacts

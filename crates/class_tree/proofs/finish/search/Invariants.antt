@@ -1,0 +1,13 @@
+use Rattle.std.proofs.Common.{◌+◌, ◌*◌, length}
+use Rattle.class_tree.specs.Tables.{IsSearch, HasBegun}
+use Rattle.class_tree.proofs.Searches.{new_count}
+use Rattle.class_tree.proofs.finish.search.Given as goal
+
+abbrev pub invariant-loop-visit : goal.invariant-loop-visit
+invariant-loop-visit l = record {
+  searched : IsSearch l.below l.stages.items l.order.items l.path.items;
+  begun : HasBegun l.fn.stages.items l.start l.stages.items;
+}
+
+abbrev pub decreases-loop-visit : goal.decreases-loop-visit
+decreases-loop-visit l = 2 * new_count l.stages.items + length l.path.items

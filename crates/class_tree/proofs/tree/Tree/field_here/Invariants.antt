@@ -1,0 +1,14 @@
+use Rattle.std.proofs.Common.{◌≡◌, ℕ, ◌<◌, ◌⊎◌, Some, length, get_or}
+use Rattle.class_tree.specs.Indexed.{HasFieldNear}
+use Rattle.class_tree.specs.Lookups.{FieldHere}
+use Rattle.class_tree.proofs.tree.Tree.field_here.Given as goal
+
+abbrev pub invariant-loop-row : goal.invariant-loop-row
+invariant-loop-row l = record {
+  within : l.at < length l.self.classes;
+  goes_on : (r : ℕ) → FieldHere l.self l.key l.at (Some r) → FieldHere l.self l.key l.class (Some r);
+  near : (l.at ≡ l.class) ⊎ HasFieldNear l.self l.at l.key;
+}
+
+abbrev pub decreases-loop-row : goal.decreases-loop-row
+decreases-loop-row l = get_or l.self-inside.places.items l.at 0

@@ -1,0 +1,53 @@
+use Rattle.std.proofs.Common.{◌≡◌, ℕ, ◌↔◌, List, length, subst, inr, ◌∙◌}
+use Rattle.class_tree.specs.declared.rows.ClassRow.{ClassRow}
+use Rattle.class_tree.specs.Rows.{rows_of, HasInterface, IsOwnAncestor, Step}
+use Rattle.class_tree.specs.Tables.{ArePlaces, IsReach, Under}
+use Rattle.class_tree.proofs.Building.{step-below, interfaces_known, reach_map, acyclic_from_places, tells_declared, tells_near}
+use Rattle.class_tree.proofs.tree.indexed.Goals as goal
+
+pub places_of-requires-clause-known : goal.places_of-requires-clause-known
+places_of-requires-clause-known c = λ a b u. rw c.requires.len (step-below _ _ a b c.requires.named.implements ((c.requires.steps a b).0 u))
+
+pub reach_spans-requires-clause-known : goal.reach_spans-requires-clause-known
+reach_spans-requires-clause-known c = λ a b u. rw c.requires.len (step-below _ _ a b c.requires.named.implements ((c.requires.steps a b).0 u))
+
+pub near_spans-requires-clause-class : goal.near_spans-requires-clause-class
+near_spans-requires-clause-class c = rw c.requires.len c.requires.named.implements
+
+pub near_spans-requires-clause-interface : goal.near_spans-requires-clause-interface
+near_spans-requires-clause-interface c = rw c.requires.len (interfaces_known c.args.classes.now c.args.implements.now c.requires.known)
+
+pub near_spans-requires-clause-below : goal.near_spans-requires-clause-below
+near_spans-requires-clause-below c = λ a b m. (c.requires.steps a b).1 (inr m)
+
+pub new-requires-clause-methods : goal.new-requires-clause-methods
+new-requires-clause-methods c = let len : length c.in_ok-reach.reach ≡ length c.args.classes.now = c.in_ok-reach.ensures.len ∙ c.requires.len in rw len c.requires.named.methods
+
+pub new-requires-clause-fields : goal.new-requires-clause-fields
+new-requires-clause-fields c = let len : length c.in_ok-near.near ≡ length c.args.classes.now = c.in_ok-near.ensures.len ∙ c.requires.len in rw len c.requires.named.fields
+
+-- no class is its own ancestor, since places fall
+acyclic : (classes : List ClassRow) (implements : List (ℕ × ℕ)) (below : List (List ℕ)) (places : List ℕ) → ((a b : ℕ) → Under below a b ↔ Step classes implements a b) → ArePlaces below places
+    → (a : ℕ) → IsOwnAncestor classes implements a → ⊥
+acyclic classes implements below places steps p = acyclic_from_places (Step classes implements) places (λ a b s. p.falls a b ((steps a b).1 s))
+
+pub invariant_of-result : goal.invariant_of-result
+invariant_of-result c =
+    let reached = reach_map (Under c.args.below.now) (Step c.args.classes.now c.args.implements.now) _ _ c.in_ok-places.places.items c.in_ok-reach.reach
+    (λ a b u. (c.requires.steps a b).0 u) (λ a b s. (c.requires.steps a b).1 s) c.requires.len (rw c.as_slice.ensures.value at c.in_ok-reach.ensures) in
+    let near = subst (λ n. IsReach (HasInterface c.args.implements.now) n c.in_ok-places.places.items c.in_ok-near.near) c.requires.len (rw c.as_slice-2.ensures.value at c.in_ok-near.ensures) in
+    rw c.in_ok-rows.ensures (record {
+      named = c.requires.named;
+      hierarchy = record { known = c.requires.known; acyclic = acyclic _ _ _ _ c.requires.steps c.in_ok-places.ensures };
+      placed = record { len = c.in_ok-places.ensures.len ∙ c.requires.len; falls = λ a b s. c.in_ok-places.ensures.falls a b ((c.requires.steps a b).1 s) };
+      interfaces_len = c.in_ok-interfaces.ensures.len;
+      interfaces_are = c.in_ok-interfaces.ensures.lists;
+      reached = reached;
+      declares = tells_declared (rows_of c.args.classes.now c.args.implements.now c.args.methods.now c.args.fields.now) _ _ _ c.requires.named reached c.in_ok-members.ensures.declares;
+      near_fields = tells_near (rows_of c.args.classes.now c.args.implements.now c.args.methods.now c.args.fields.now) _ _ _ c.requires.named near c.in_ok-members.ensures.near_fields;
+      bodies = c.in_ok-members.ensures.bodies;
+      fields = c.in_ok-members.ensures.own_fields;
+    })
+
+pub returns-clause-acyclic : goal.returns-clause-acyclic
+returns-clause-acyclic c = acyclic _ _ _ _ c.requires.steps c.in_ok-places.ensures

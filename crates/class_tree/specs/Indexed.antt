@@ -1,0 +1,70 @@
+-- What a tree keeps of its rows.
+use Rattle.std.specs.Prelude.{◌≡◌, ℕ, ◌<◌, ◌↔◌, List, Some, length, map, slice_get, slice_index}
+use Rattle.class_tree.specs.declared.key_spans.KeySpans.{KeySpans}
+use Rattle.class_tree.specs.declared.kept.KeptRows.{KeptRows}
+use Rattle.class_tree.specs.declared.members.Members.{Members}
+use Rattle.class_tree.specs.declared.rows.MethodRow.{MethodRow}
+use Rattle.class_tree.specs.declared.rows.FieldRow.{FieldRow}
+use Rattle.class_tree.specs.declared.spans.Span.{Span}
+use Rattle.class_tree.specs.FirstRows.{row_at}
+use Rattle.class_tree.specs.Groups.{group}
+use Rattle.class_tree.specs.KeySpans.{IsKeyed, member_of_field, member_of_method, spans_of}
+use Rattle.class_tree.specs.Lookups.{own_body, own_field, Declared}
+use Rattle.class_tree.specs.Paths.{Path}
+use Rattle.class_tree.specs.Rows.{Rows, rows_of, NameClasses, NamesUnknown, IsOwnAncestor, Step, HasInterface, interfaces_of}
+use Rattle.class_tree.specs.Spans.{AreApart, Holds}
+use Rattle.class_tree.specs.Tables.{IsReach}
+
+-- every parent and interface is a class, and no class is its own ancestor
+pub record IsHierarchy (rows : Rows) : Type 0 where
+  pub known : (a : ℕ) → NamesUnknown rows.classes rows.implements a → ⊥
+  pub acyclic : (a : ℕ) → IsOwnAncestor rows.classes rows.implements a → ⊥
+
+-- a class reached by interfaces alone has a field with this key
+pub record HasFieldNear (rows : Rows) (class key : ℕ) : Type 0 where
+  pub owner : ℕ
+  pub reached : Path (HasInterface rows.implements) class owner
+  pub row : ℕ
+  pub own : own_field rows.fields owner key ≡ Some row
+
+-- a place lies in the spans of a key where the fact holds of the class that has this place
+pub record TellsOf (P : ℕ → ℕ → Type 0) (count : ℕ) (places : List ℕ) (s : KeySpans) : Type 0 where
+  pub len : length s.spans ≡ length s.keys.keys
+  pub apart : (k : ℕ) → AreApart (spans_of s k)
+  pub exact : (a k : ℕ) → a < count → Holds (spans_of s k) (slice_index places a) ↔ P a k
+
+-- a place of its own for each class, after those of its parent and its interfaces
+pub record ArePlaced (rows : Rows) (places : List ℕ) : Type 0 where
+  pub len : length places ≡ length rows.classes
+  pub falls : (a b : ℕ) → Step rows.classes rows.implements a b → slice_index places b < slice_index places a
+
+-- the rows that are kept
+abbrev pub rows_in : KeptRows → Rows
+rows_in k = rows_of k.classes.items k.implements.items k.methods.items k.fields.items
+
+-- what is kept of methods and fields, over the tables of all steps and of the interfaces alone
+pub record AreMembers (methods : List MethodRow) (fields : List FieldRow) (reach near : List (List Span)) (m : Members) : Type 0 where
+  pub declares : IsKeyed (map member_of_method methods) reach m.declared
+  pub near_fields : IsKeyed (map member_of_field fields) near m.near_fields
+  pub bodies : (c k : ℕ) → row_at m.bodies c k ≡ own_body methods c k
+  pub own_fields : (c k : ℕ) → row_at m.own_fields c k ≡ own_field fields c k
+
+-- the tables say what the rows say
+pub record IsIndexed (rows : Rows) (interfaces : List (List ℕ)) (places : List ℕ) (reach : List (List Span)) (members : Members) : Type 0 where
+  pub named : NameClasses rows
+  pub hierarchy : IsHierarchy rows
+  pub placed : ArePlaced rows places
+  pub interfaces_len : length interfaces ≡ length rows.classes
+  pub interfaces_are : (a : ℕ) → group interfaces a ≡ interfaces_of rows.implements a
+  pub reached : IsReach (Step rows.classes rows.implements) (length rows.classes) places reach
+  pub declares : TellsOf (Declared rows) (length rows.classes) places members.declared
+  pub near_fields : TellsOf (HasFieldNear rows) (length rows.classes) places members.near_fields
+  pub bodies : (c k : ℕ) → row_at members.bodies c k ≡ own_body rows.methods c k
+  pub fields : (c k : ℕ) → row_at members.own_fields c k ≡ own_field rows.fields c k
+
+-- the class is the first of those for which there is such a field
+pub record IsFirstNear (rows : Rows) (classes : List ℕ) (key class : ℕ) : Type 0 where
+  pub index : ℕ
+  pub there : slice_get classes index ≡ Some class
+  pub near : HasFieldNear rows class key
+  pub first : (k c : ℕ) → k < index → slice_get classes k ≡ Some c → HasFieldNear rows c key → ⊥

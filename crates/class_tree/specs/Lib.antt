@@ -1,0 +1,12 @@
+pub mod Bodies
+pub mod FirstRows
+pub mod Groups
+pub mod Lookups
+pub mod Orders
+pub mod Paths
+pub mod Rows
+pub mod Tables
+pub mod Spans
+pub mod KeySpans
+pub mod Indexed
+pub mod Laws

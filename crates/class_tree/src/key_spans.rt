@@ -1,0 +1,78 @@
+ghost use Rattle.std.specs.Prelude.{◌≡◌, ℕ, ◌<◌, ◌↔◌, length, All, Contains, IfOk, IsTrue};
+ghost use Rattle.class_tree.specs.Groups.{group};
+ghost use Rattle.class_tree.specs.KeySpans.{AreClassesByKey, IsKeyed, spans_of};
+ghost use Rattle.class_tree.specs.Spans.{AreApart, Holds};
+
+use super::first_rows::Member;
+use super::groups::Groups;
+use super::reach::gathered;
+use super::spans::{Span, holds, united};
+use indexmap::IndexSet;
+use std::alloc::{AllocError, Global};
+
+/// For each key the places of the classes that reach one with a member of this key.
+#[derive(Drop)]
+pub struct KeySpans {
+    keys: IndexSet<u32>,
+    spans: Groups<Span>,
+}
+
+fn keys_of(alloc: Global, members: &[Member]) -> Result<IndexSet<u32>, AllocError>
+    ensures { IfOk result (λ keys. All (λ m. Contains keys.keys m.key) members.now) }
+{
+    let mut keys: IndexSet<u32> = IndexSet::new(alloc);
+    for member in members {
+        keys.insert(member.key)?;
+    }
+    Ok(keys)
+}
+
+// For each of the keys the classes of its members.
+fn classes_by_key(
+    alloc: Global,
+    members: &[Member],
+    keys: &IndexSet<u32>,
+) -> Result<Groups<u32>, AllocError>
+    requires { All (λ m. Contains keys.now.keys m.key) members.now }
+    ensures len { IfOk result (λ classes. length classes ≡ length keys.now.keys) }
+    ensures classes { IfOk result (AreClassesByKey members.now keys.now.keys) }
+{
+    let mut classes = Groups::new(alloc, keys.len())?;
+    for member in members {
+        if let Some(at) = keys.get_index_of(&member.key) {
+            classes.push(at, member.class)?;
+        }
+    }
+    Ok(classes)
+}
+
+impl KeySpans {
+    /// The spans of each key of the members. `reach` has for each class the places of those from
+    /// which it is reached.
+    pub fn new(alloc: Global, members: &[Member], reach: &Groups<Span>) -> Result<Self, AllocError>
+        requires known { All (λ m. m.class < length reach.now) members.now }
+        requires apart { (c : ℕ) → AreApart (group reach.now c) }
+        ensures { IfOk result (IsKeyed members.now reach.now) }
+    {
+        let keys = keys_of(alloc, members)?;
+        let classes = classes_by_key(alloc, members, &keys)?;
+        let mut spans = Groups::new(alloc, keys.len())?;
+        for at in 0..keys.len() {
+            let all = gathered(alloc, classes.get(at), reach)?;
+            spans.put(at, united(alloc, all)?);
+        }
+        Ok(KeySpans { keys, spans })
+    }
+
+    /// Whether a place lies in one of the spans of a key.
+    pub fn holds(&self, key: u32, place: u32) -> bool
+        requires len { length self.now.spans ≡ length self.now.keys.keys }
+        requires apart { AreApart (spans_of self.now key) }
+        ensures { IsTrue result ↔ Holds (spans_of self.now key) place }
+    {
+        match self.keys.get_index_of(&key) {
+            Some(at) => holds(self.spans.get(at), place),
+            None => false,
+        }
+    }
+}

@@ -1,0 +1,21 @@
+ghost use Rattle.class_tree.specs.Laws.{LookUpFindsFields, LookUpGivesOneAnswer, PathFindsMethods, PathGivesOneAnswer, SubIsReflexive, SubIsTransitive};
+
+/// Sub-classing is reflexive and transitive.
+pub fn sub_is_an_order()
+    ensures reflexive { SubIsReflexive }
+    ensures transitive { SubIsTransitive }
+{}
+
+/// A method found along the parents has the key and a body, and stands at or above the class. No
+/// two answers are right.
+pub fn methods_are_found_above()
+    ensures found { PathFindsMethods }
+    ensures one { PathGivesOneAnswer }
+{}
+
+/// A field that is found has the key, and stands in a class that the first one is below. No two
+/// answers are right.
+pub fn fields_are_found_above()
+    ensures found { LookUpFindsFields }
+    ensures one { LookUpGivesOneAnswer }
+{}

@@ -1,0 +1,49 @@
+ghost use Rattle.std.specs.Prelude.{ℕ, ◌^◌, ◌<◌, length, All, IfOk};
+ghost use Rattle.class_tree.specs.Groups.{group};
+ghost use Rattle.class_tree.specs.Indexed.{AreMembers};
+ghost use Rattle.class_tree.specs.Spans.{AreApart};
+
+use super::first_rows::{FirstRows, field_members, method_members};
+use super::groups::Groups;
+use super::key_spans::KeySpans;
+use super::rows::{FieldRow, MethodRow};
+use super::spans::Span;
+use std::alloc::{AllocError, Global};
+
+/// What is kept of methods and fields.
+#[derive(Drop)]
+pub struct Members {
+    pub declared: KeySpans,
+    pub near_fields: KeySpans,
+    pub bodies: FirstRows,
+    pub own_fields: FirstRows,
+}
+
+impl Members {
+    /// The tables of some methods and fields. `reach` has for each class the places of those from which
+    /// it is reached, and `near` of those from which it is reached by interfaces alone.
+    pub fn new(
+        alloc: Global,
+        methods: &[MethodRow],
+        fields: &[FieldRow],
+        reach: &Groups<Span>,
+        near: &Groups<Span>,
+    ) -> Result<Self, AllocError>
+        requires few_methods { length methods.now < 2 ^ 32 }
+        requires few_fields { length fields.now < 2 ^ 32 }
+        requires methods { All (λ m. m.class < length reach.now) methods.now }
+        requires fields { All (λ f. f.class < length near.now) fields.now }
+        requires reach { (c : ℕ) → AreApart (group reach.now c) }
+        requires near { (c : ℕ) → AreApart (group near.now c) }
+        ensures { IfOk result (AreMembers methods.now fields.now reach.now near.now) }
+    {
+        let of_methods = method_members(alloc, methods)?;
+        let of_fields = field_members(alloc, fields)?;
+        Ok(Members {
+            declared: KeySpans::new(alloc, of_methods.as_slice(), reach)?,
+            near_fields: KeySpans::new(alloc, of_fields.as_slice(), near)?,
+            bodies: FirstRows::of_bodies(alloc, methods)?,
+            own_fields: FirstRows::of_fields(alloc, fields)?,
+        })
+    }
+}

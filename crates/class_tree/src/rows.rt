@@ -1,0 +1,79 @@
+use std::alloc::AllocError;
+
+/// What stands behind a method's head.
+#[derive(Clone, Copy, Debug, PartialEq, Eq)]
+pub enum BodyKind {
+    /// Statements.
+    Plain,
+    /// Code that isn't given. A look-up finds such a method.
+    Native,
+    /// Nothing, as for an abstract method. A look-up goes on past such a method.
+    Missing,
+}
+
+impl BodyKind {
+    ghost use Rattle.std.specs.Prelude.{◌≡◌};
+    ghost use Rattle.class_tree.specs.Bodies.{has_body};
+
+    /// Whether a look-up finds a method of this kind.
+    pub fn has_body(self) -> bool
+        ensures { result ≡ has_body self }
+    {
+        match self {
+            BodyKind::Plain => true,
+            BodyKind::Native => true,
+            BodyKind::Missing => false,
+        }
+    }
+}
+
+/// A class or an interface. Its number is its index in the list of classes, from 0.
+#[derive(Clone, Copy, Debug, PartialEq, Eq)]
+pub struct ClassRow {
+    /// The number of the parent.
+    pub parent: Option<u32>,
+    /// Whether it is an interface. No look-up depends on it: the rows alone are followed.
+    pub interface: bool,
+}
+
+/// A method of a class.
+#[derive(Clone, Copy, Debug, PartialEq, Eq)]
+pub struct MethodRow {
+    /// The number of the class.
+    pub class: u32,
+    /// A number for name, types and the static flag together. Any number may stand here.
+    pub key: u32,
+    pub body: BodyKind,
+}
+
+/// A field of a class.
+#[derive(Clone, Copy, Debug, PartialEq, Eq)]
+pub struct FieldRow {
+    /// The number of the class.
+    pub class: u32,
+    /// A number for name, type and the static flag together. Any number may stand here.
+    pub key: u32,
+}
+
+/// Why no tree is built.
+#[derive(Clone, Copy, Debug, PartialEq, Eq)]
+pub enum TreeError {
+    /// The least class with a parent or an interface that is no class.
+    UnknownParent { class: u32 },
+    /// The least class that is reached from itself by one or more steps to parents and interfaces.
+    /// Each parent and interface is a class.
+    Cyclic { class: u32 },
+    /// Memory ran out.
+    NoMemory,
+}
+
+impl From<AllocError> for TreeError {
+    ghost use Rattle.std.specs.Prelude.{◌≡◌};
+    ghost use Rattle.class_tree.specs.declared.rows.TreeError.TheVariants.{NoMemory};
+
+    ghost from_gives = { λ _ e. e ≡ NoMemory };
+
+    fn from(_error: AllocError) -> Self {
+        TreeError::NoMemory
+    }
+}

@@ -1,0 +1,76 @@
+ghost use Rattle.std.specs.Prelude.{◌≡◌, ℕ, ◌^◌, ◌<◌, ◌↔◌, length, All, IfOk};
+ghost use Rattle.class_tree.specs.Groups.{group};
+ghost use Rattle.class_tree.specs.Rows.{HasInterface, HasParent, NamesUnknown, Step, interfaces_of};
+ghost use Rattle.class_tree.specs.Tables.{Under};
+
+use super::groups::Groups;
+use super::rows::ClassRow;
+use std::alloc::{AllocError, Global};
+
+// For each class those that name it as their parent.
+fn children(alloc: Global, classes: &[ClassRow]) -> Result<Groups<u32>, AllocError>
+    requires few { length classes.now < 2 ^ 32 }
+    requires known { (a b : ℕ) → HasParent classes.now a b → b < length classes.now }
+    ensures len { IfOk result (λ below. length below ≡ length classes.now) }
+    ensures steps { IfOk result (λ below. (a b : ℕ) → Under below a b ↔ HasParent classes.now a b) }
+{
+    let mut below = Groups::new(alloc, classes.len())?;
+    for (class, row) in classes.iter().enumerate() {
+        if let Some(parent) = row.parent {
+            below.push(parent as usize, class as u32)?;
+        }
+    }
+    Ok(below)
+}
+
+/// For each class those that are one step below it.
+pub fn steps_down(
+    alloc: Global,
+    classes: &[ClassRow],
+    implements: &[(u32, u32)],
+) -> Result<Groups<u32>, AllocError>
+    requires few { length classes.now < 2 ^ 32 }
+    requires known { (a : ℕ) → NamesUnknown classes.now implements.now a → ⊥ }
+    ensures len { IfOk result (λ below. length below ≡ length classes.now) }
+    ensures steps { IfOk result (λ below. (a b : ℕ) → Under below a b ↔ Step classes.now implements.now a b) }
+{
+    let mut below = children(alloc, classes)?;
+    for (class, interface) in implements {
+        below.push(*interface as usize, *class)?;
+    }
+    Ok(below)
+}
+
+/// For each class its interfaces in order.
+pub fn interface_lists(
+    alloc: Global,
+    count: usize,
+    implements: &[(u32, u32)],
+) -> Result<Groups<u32>, AllocError>
+    requires { All (λ p. p.0 < count) implements.now }
+    ensures len { IfOk result (λ lists. length lists ≡ count) }
+    ensures lists { IfOk result (λ lists. (a : ℕ) → group lists a ≡ interfaces_of implements.now a) }
+{
+    let mut lists = Groups::new(alloc, count)?;
+    for (class, interface) in implements {
+        lists.push(*class as usize, *interface)?;
+    }
+    Ok(lists)
+}
+
+/// For each class those that name it as an interface.
+pub fn implementers(
+    alloc: Global,
+    count: usize,
+    implements: &[(u32, u32)],
+) -> Result<Groups<u32>, AllocError>
+    requires { All (λ p. p.1 < count) implements.now }
+    ensures len { IfOk result (λ lists. length lists ≡ count) }
+    ensures steps { IfOk result (λ lists. (a b : ℕ) → Under lists a b ↔ HasInterface implements.now a b) }
+{
+    let mut lists = Groups::new(alloc, count)?;
+    for (class, interface) in implements {
+        lists.push(*interface as usize, *class)?;
+    }
+    Ok(lists)
+}

@@ -1,0 +1,161 @@
+ghost use Rattle.std.specs.Prelude.{◌≡◌, ◌^◌, ◌<◌, length, All, IfOk};
+
+use super::{BodyKind, ClassRow, FieldRow, MethodRow, Tree, TreeError, build};
+use std::alloc::Global;
+use std::test::Fail;
+
+const TOP: ClassRow = ClassRow {
+    parent: None,
+    interface: false,
+};
+
+fn class(parent: u32) -> ClassRow {
+    ClassRow {
+        parent: Some(parent),
+        interface: false,
+    }
+}
+
+fn of_steps(
+    alloc: Global,
+    classes: &[ClassRow],
+    implements: &[(u32, u32)],
+) -> Result<Tree, TreeError>
+    requires classes { length classes.now < 2 ^ 32 }
+    requires implements { All (λ p. p.0 < length classes.now) implements.now }
+    ensures { IfOk result (λ tree. tree.classes ≡ classes.now) }
+{
+    build(alloc, classes, implements, &[], &[])
+}
+
+#[test]
+fn parents_alone(rt: HostRuntime) -> Result<(), Fail> {
+    let tree = of_steps(rt.alloc(), &[TOP, class(0), class(1)], &[])?;
+    assert!(rt; tree.sub(2, 0));
+    assert!(rt; !tree.sub(0, 2));
+    assert!(rt; tree.sub(1, 1));
+    Ok(())
+}
+
+// What is refused, where there are few classes and each pair begins with one.
+fn refusal(alloc: Global, classes: &[ClassRow], implements: &[(u32, u32)]) -> Option<TreeError> {
+    if classes.len() > 9 {
+        return None;
+    }
+    for (class, _) in implements {
+        if *class as usize >= classes.len() {
+            return None;
+        }
+    }
+    of_steps(alloc, classes, implements).err()
+}
+
+#[test]
+fn unknown_classes(rt: HostRuntime) {
+    let alloc = rt.alloc();
+    let alone = refusal(alloc, &[class(5)], &[]);
+    assert_eq!(rt; alone, Some(TreeError::UnknownParent { class: 0 }));
+    let two = [TOP, class(0), class(9), class(8)];
+    let least = refusal(alloc, &two, &[]);
+    assert_eq!(rt; least, Some(TreeError::UnknownParent { class: 2 }));
+    let interfaces = refusal(alloc, &two, &[(3, 7), (1, 4)]);
+    assert_eq!(rt; interfaces, Some(TreeError::UnknownParent { class: 1 }));
+    let before_cycles = refusal(alloc, &[class(1), class(0), class(3)], &[]);
+    assert_eq!(rt; before_cycles, Some(TreeError::UnknownParent { class: 2 }));
+}
+
+#[test]
+fn cycles(rt: HostRuntime) {
+    let alloc = rt.alloc();
+    let parents = refusal(alloc, &[class(1), class(0)], &[]);
+    assert_eq!(rt; parents, Some(TreeError::Cyclic { class: 0 }));
+    let alone = refusal(alloc, &[TOP], &[(0, 0)]);
+    assert_eq!(rt; alone, Some(TreeError::Cyclic { class: 0 }));
+    let interfaces = refusal(alloc, &[TOP, class(0), class(0)], &[(1, 2), (2, 1)]);
+    assert_eq!(rt; interfaces, Some(TreeError::Cyclic { class: 1 }));
+    let both = refusal(alloc, &[TOP, class(2), TOP], &[(2, 1)]);
+    assert_eq!(rt; both, Some(TreeError::Cyclic { class: 1 }));
+    // The class 0 comes to a cycle and isn't on it.
+    let above = refusal(alloc, &[class(2), TOP, class(3), class(2)], &[]);
+    assert_eq!(rt; above, Some(TreeError::Cyclic { class: 2 }));
+}
+
+// 0 is the top and 3 is below it. The interface 2 extends the interface 1, and its parent is 6.
+// 4 is below 3 and implements 5 and then 2.
+fn of_members(alloc: Global, methods: &[MethodRow], fields: &[FieldRow]) -> Result<Tree, TreeError>
+    requires few_methods { length methods.now < 2 ^ 32 }
+    requires few_fields { length fields.now < 2 ^ 32 }
+    requires methods { All (λ m. m.class < 7) methods.now }
+    requires fields { All (λ f. f.class < 7) fields.now }
+    ensures { IfOk result (λ tree. length tree.classes ≡ 7) }
+{
+    let classes = [
+        TOP,
+        class(0),
+        class(6),
+        class(0),
+        class(3),
+        class(0),
+        class(0),
+    ];
+    build(alloc, &classes, &[(2, 1), (4, 5), (4, 2)], methods, fields)
+}
+
+fn method(class: u32, key: u32, body: BodyKind) -> MethodRow
+    ensures { result.class ≡ class }
+{
+    MethodRow { class, key, body }
+}
+
+fn field(class: u32, key: u32) -> FieldRow
+    ensures { result.class ≡ class }
+{
+    FieldRow { class, key }
+}
+
+#[test]
+fn methods(rt: HostRuntime) -> Result<(), Fail> {
+    let methods = [
+        method(4, 7, BodyKind::Missing),
+        method(3, 7, BodyKind::Native),
+        method(3, 7, BodyKind::Plain),
+        method(1, 8, BodyKind::Missing),
+        method(0, 9, BodyKind::Missing),
+        method(0, 9, BodyKind::Plain),
+        method(5, 6, BodyKind::Plain),
+    ];
+    let tree = of_members(rt.alloc(), &methods, &[])?;
+    assert!(rt; tree.sub(4, 6));
+    assert!(rt; !tree.sub(3, 2));
+    assert_eq!(rt; tree.resolve(4, 7), Some(1));
+    assert_eq!(rt; tree.resolve(4, 8), None);
+    assert_eq!(rt; tree.resolve(4, 9), Some(5));
+    assert_eq!(rt; tree.resolve(4, 6), None);
+    assert!(rt; tree.declared(4, 8));
+    assert!(rt; tree.declared(4, 6));
+    assert!(rt; !tree.declared(3, 8));
+    Ok(())
+}
+
+#[test]
+fn fields(rt: HostRuntime) -> Result<(), Fail> {
+    let fields = [
+        field(3, 20),
+        field(1, 20),
+        field(0, 21),
+        field(2, 22),
+        field(5, 22),
+        field(6, 23),
+        field(4, 24),
+        field(4, 24),
+    ];
+    let tree = of_members(rt.alloc(), &[], &fields)?;
+    assert_eq!(rt; tree.field(4, 20), Some(1));
+    assert_eq!(rt; tree.field(3, 20), Some(0));
+    assert_eq!(rt; tree.field(4, 21), Some(2));
+    assert_eq!(rt; tree.field(4, 22), Some(4));
+    assert_eq!(rt; tree.field(4, 23), None);
+    assert_eq!(rt; tree.field(2, 23), Some(5));
+    assert_eq!(rt; tree.field(4, 24), Some(6));
+    Ok(())
+}

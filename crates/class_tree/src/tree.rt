@@ -1,0 +1,227 @@
+ghost use Rattle.std.specs.Prelude.{◌≡◌, ℕ, ◌^◌, ◌<◌, ◌↔◌, length, All, IsTrue, IfOk, IfNone, IfSome, Err};
+ghost use Rattle.class_tree.specs.Indexed.{HasFieldNear, IsFirstNear};
+ghost use Rattle.class_tree.specs.Paths.{IsLeast};
+ghost use Rattle.class_tree.specs.Rows.{rows_of, NameClasses, NamesUnknown, IsOwnAncestor, Step, Sub};
+ghost use Rattle.class_tree.specs.Tables.{IsFinishing, Under};
+ghost use Rattle.class_tree.specs.Lookups.{Resolve, Declared, FieldHere, FieldOf};
+
+use super::cycles::least_cyclic;
+use super::finish::{finish_order, tops_first};
+use super::groups::Groups;
+use super::kept::KeptRows;
+use super::members::Members;
+use super::places::places_of;
+use super::reach::{near_spans, reach_spans};
+use super::rows::{ClassRow, FieldRow, MethodRow, TreeError};
+use super::spans::{Span, holds};
+use super::steps::{interface_lists, steps_down};
+use super::unknown::first_unknown;
+use std::alloc::{AllocError, Global};
+use std::marker::Model;
+
+/// The hierarchy of the classes of some rows. Contracts see it as these rows. Its look-ups take no
+/// memory. `sub` and `declared` take a search in a short sorted list, `resolve` and `field` a hashed
+/// look-up for each parent on the way.
+#[derive(Drop)]
+pub struct Tree {
+    rows: KeptRows,
+    interfaces: Groups<u32>,
+    places: Vec<u32>,
+    reach: Groups<Span>,
+    members: Members,
+}
+
+impl Model for Tree {
+    ghost use Rattle.class_tree.specs.Rows.{Rows};
+    ghost use Rattle.class_tree.specs.Indexed.{IsIndexed, rows_in};
+
+    ghost Value = { Rows };
+
+    ghost view = { λ t. rows_in t.rows };
+
+    ghost invariant = { λ t. IsIndexed (rows_in t.rows) t.interfaces t.places.items t.reach t.members };
+}
+
+/// The tree of the rows. A class is named by its index in `classes`, and `implements` has pairs of a
+/// class and one of its interfaces, in the order in which fields are looked for.
+///
+/// `UnknownParent` comes where a parent or an interface is no class, `Cyclic` where each is one and
+/// a class is reached from itself, each with the least such class, and a tree where neither is so.
+/// `NoMemory` can come in place of any of them.
+pub fn build(
+    alloc: Global,
+    classes: &[ClassRow],
+    implements: &[(u32, u32)],
+    methods: &[MethodRow],
+    fields: &[FieldRow],
+) -> Result<Tree, TreeError>
+    requires classes { length classes.now < 2 ^ 32 }
+    requires methods { length methods.now < 2 ^ 32 }
+    requires fields { length fields.now < 2 ^ 32 }
+    requires named { NameClasses (rows_of classes.now implements.now methods.now fields.now) }
+
+    ensures ok { IfOk result (λ tree. tree ≡ rows_of classes.now implements.now methods.now fields.now) }
+    ensures known { IfOk result (λ _. (a : ℕ) → NamesUnknown classes.now implements.now a → ⊥) }
+    ensures acyclic { IfOk result (λ _. (a : ℕ) → IsOwnAncestor classes.now implements.now a → ⊥) }
+
+    // An unknown parent or interface comes first.
+    ensures unknown_parent { (c : ℕ) → result ≡ Err (TreeError.UnknownParent c) → IsLeast (NamesUnknown classes.now implements.now) c }
+    ensures cyclic { (c : ℕ) → result ≡ Err (TreeError.Cyclic c) → IsLeast (IsOwnAncestor classes.now implements.now) c }
+    ensures cyclic_is_known { (c : ℕ) → result ≡ Err (TreeError.Cyclic c) → (a : ℕ) → NamesUnknown classes.now implements.now a → ⊥ }
+{
+    if let Some(class) = first_unknown(classes, implements) {
+        return Err(TreeError::UnknownParent { class });
+    }
+    let below = steps_down(alloc, classes, implements)?;
+    let starts = tops_first(alloc, classes)?;
+    let Some(order) = finish_order(alloc, &below, starts.as_slice())? else {
+        let class = least_cyclic(alloc, &below)?;
+        return Err(TreeError::Cyclic { class });
+    };
+    let tree = indexed(
+        alloc,
+        classes,
+        implements,
+        methods,
+        fields,
+        &below,
+        order.as_slice(),
+    )?;
+    Ok(tree)
+}
+
+// The tree of rows whose classes stand in an order, each after those below it.
+fn indexed(
+    alloc: Global,
+    classes: &[ClassRow],
+    implements: &[(u32, u32)],
+    methods: &[MethodRow],
+    fields: &[FieldRow],
+    below: &Groups<u32>,
+    order: &[u32],
+) -> Result<Tree, AllocError>
+    requires classes { length classes.now < 2 ^ 32 }
+    requires methods { length methods.now < 2 ^ 32 }
+    requires fields { length fields.now < 2 ^ 32 }
+    requires named { NameClasses (rows_of classes.now implements.now methods.now fields.now) }
+    requires known { (a : ℕ) → NamesUnknown classes.now implements.now a → ⊥ }
+    requires len { length below.now ≡ length classes.now }
+    requires steps { (a b : ℕ) → Under below.now a b ↔ Step classes.now implements.now a b }
+    requires order { IsFinishing below.now order.now }
+    ensures ok { IfOk result (λ tree. tree ≡ rows_of classes.now implements.now methods.now fields.now) }
+    ensures acyclic { IfOk result (λ _. (a : ℕ) → IsOwnAncestor classes.now implements.now a → ⊥) }
+{
+    let places = places_of(alloc, below, order)?;
+    let reach = reach_spans(alloc, below, order, places.as_slice())?;
+    let near = near_spans(alloc, implements, below, order, places.as_slice())?;
+    let members = Members::new(alloc, methods, fields, &reach, &near)?;
+    let interfaces = interface_lists(alloc, classes.len(), implements)?;
+    let rows = KeptRows::copy_of(alloc, classes, implements, methods, fields)?;
+    Ok(Tree {
+        rows,
+        interfaces,
+        places,
+        reach,
+        members,
+    })
+}
+
+impl Tree {
+    /// Whether `b` is reached from `a` by parents and interfaces in any number of steps, none
+    /// included.
+    pub fn sub(&self, a: u32, b: u32) -> bool
+        requires a { a < length self.now.classes }
+        requires b { b < length self.now.classes }
+        ensures { IsTrue result ↔ Sub self.now a b }
+    {
+        holds(self.reach.get(b as usize), self.places[a as usize])
+    }
+
+    /// The row of the first method with this key and a body, from the class upwards by parents;
+    /// within one class the first row. A row is an index in the list of methods.
+    pub fn resolve(&self, class: u32, key: u32) -> Option<u32>
+        requires { class < length self.now.classes }
+        ensures { Resolve self.now class key result }
+    {
+        let mut at = class;
+        loop {
+            if let Some(row) = self.members.bodies.get(at, key) {
+                return Some(row);
+            }
+            match self.rows.classes[at as usize].parent {
+                Some(parent) => at = parent,
+                None => return None,
+            }
+        }
+    }
+
+    /// Whether the class or one that is reached from it has a method with this key.
+    pub fn declared(&self, class: u32, key: u32) -> bool
+        requires { class < length self.now.classes }
+        ensures { IsTrue result ↔ Declared self.now class key }
+    {
+        self.members
+            .declared
+            .holds(key, self.places[class as usize])
+    }
+
+    // Whether the class has a field with this key, or one of its interfaces with their own.
+    fn has_field_near(&self, class: u32, key: u32) -> bool
+        requires { class < length self.now.classes }
+        ensures { IsTrue result ↔ HasFieldNear self.now class key }
+    {
+        self.members
+            .near_fields
+            .holds(key, self.places[class as usize])
+    }
+
+    // The first of the classes that has a field near.
+    fn first_near(&self, classes: &[u32], key: u32) -> Option<u32>
+        requires { All (λ c. c < length self.now.classes) classes.now }
+        ensures some { IfSome result (IsFirstNear self.now classes.now key) }
+        ensures none { IfNone result (All (λ c. HasFieldNear self.now c key → ⊥) classes.now) }
+    {
+        for class in classes {
+            if self.has_field_near(*class, key) {
+                return Some(*class);
+            }
+        }
+        None
+    }
+
+    // The field of the class, or else of its interfaces in order, each with its own.
+    fn field_here(&self, class: u32, key: u32) -> Option<u32>
+        requires { class < length self.now.classes }
+        ensures { FieldHere self.now key class result }
+    {
+        let mut at = class;
+        loop {
+            if let Some(row) = self.members.own_fields.get(at, key) {
+                return Some(row);
+            }
+            match self.first_near(self.interfaces.get(at as usize), key) {
+                Some(interface) => at = interface,
+                None => return None,
+            }
+        }
+    }
+
+    /// The row of the field with this key that the class has or inherits: its own first row, or
+    /// else that of its interfaces in order, each with its own interfaces, or else its parent's. A
+    /// row is an index in the list of fields.
+    pub fn field(&self, class: u32, key: u32) -> Option<u32>
+        requires { class < length self.now.classes }
+        ensures { FieldOf self.now class key result }
+    {
+        let mut at = class;
+        loop {
+            if let Some(row) = self.field_here(at, key) {
+                return Some(row);
+            }
+            match self.rows.classes[at as usize].parent {
+                Some(parent) => at = parent,
+                None => return None,
+            }
+        }
+    }
+}
