@@ -1,0 +1,16 @@
+//! Weighted automata over the configurations of a pushdown system: a weight for each pair of an entry and a node, and for
+//! each link from an entry to an entry, with the rows of an entry for those who walk over them.
+#![tactic(auto)]
+
+pub mod entry;
+pub mod row;
+pub mod rule;
+pub mod table;
+
+pub use entry::Entry;
+pub use row::{Linked, Reached};
+pub use rule::Rule;
+pub use table::{NoMemory, Table};
+
+#[cfg(test)]
+mod tests;
