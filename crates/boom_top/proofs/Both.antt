@@ -1,5 +1,5 @@
 -- Facts on the value of a result.
-use Rattle.std.proofs.Common.{◌≡◌, Ok, Err, Result}
+use Rattle.std.proofs.Common.{Ok, Err, Result}
 use Rattle.std.specs.Result.{IfOk}
 
 -- two facts of the value, if there is one, make a third

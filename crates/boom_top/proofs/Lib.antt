@@ -4,5 +4,4 @@ pub mod Made
 pub mod Only
 pub mod Positions
 pub mod Sent
-pub mod Texts
 pub mod Words

@@ -1,7 +1,6 @@
 -- The sites of an answer, and the classes of their objects.
-use Rattle.std.proofs.Common.{◌≡◌, ℕ, zero, suc, ◌<◌, List, [], ◌∷◌, ◌++◌, length, map, slice_get, None, Some, refl, sym, ap, ◌∙◌, subst}
-use Rattle.std.proofs.lemmas.Option.{slice_get-map, slice_get_within}
-use Rattle.std.specs.Option.{option_map}
+use Rattle.std.proofs.Common.{◌≡◌, ℕ, zero, suc, ◌<◌, List, [], ◌∷◌, ◌++◌, map, slice_get, None, Some, refl, subst}
+use Rattle.std.proofs.lemmas.Option.{slice_get_within}
 use Rattle.jim_ast.specs.Lists.{Has}
 use Rattle.jim_ast.proofs.Places.{slice_get-below, slice_get-there}
 use Rattle.jim_ast.specs.declared.names.NameId.{NameId}
@@ -14,8 +13,7 @@ use Rattle.jim_ast.specs.declared.syntax.Expr.TheVariants as expr
 use Rattle.jim_ast.specs.declared.syntax.Imm.TheVariants as imm
 use Rattle.form_one.specs.declared.code.Code.TheVariants.{New}
 use Rattle.form_one.specs.declared.code.Main.{Main}
-use Rattle.form_one.specs.Form.{IsCode, IsFormOne, class_names}
-use Rattle.form_one.specs.Machine.{State, Run, Holds}
+use Rattle.form_one.specs.Form.{IsCode, IsFormOne}
 use Rattle.form_one.specs.Answer.{Covers}
 use Rattle.boom_top.specs.Requests.{Request}
 use Rattle.boom_top.specs.Replies.{IsMadeClass, SiteLines, none, some, site_line, query_line, count_lines, text_of}

@@ -1,18 +1,22 @@
 -- A request has one status over given bytes.
-use Rattle.std.proofs.Common.{◌≡◌, ℕ, ◌<◌, ◌≤◌, List, length, refl, sym, ap, ◌∙◌, subst, arith}
+use Rattle.std.proofs.Common.{◌≡◌, ℕ, ◌<◌, ◌≤◌, List, [], ◌∷◌, length, refl, sym, ap, ◌∙◌, subst, arith}
 use Rattle.jim_ast.specs.declared.syntax.Program.{Program}
 use Rattle.form_one.specs.declared.code.Main.{Main}
 use Rattle.form_one.specs.Answer.{local_at, IsDemandSize}
 use Rattle.form_one.specs.Query.{IsOver}
 use Rattle.form_one.proofs.Sizes.{IsOver-size}
+use Rattle.jim_text.proofs.ReadLemmas.{read_same, stop_no_list}
+use Rattle.jim_parse.specs.Derives.{Spells, IsRefusedAt}
+use Rattle.jim_parse.proofs.PlaceLemmas.{one_place}
+use Rattle.jim_parse.proofs.ProgramLemmas.{derives_any, same_tokens}
 use Rattle.boom_top.specs.Requests.{Request}
 use Rattle.boom_top.specs.Queries.{IsFirstForm, IsPlace, IsMissing, Query, limit}
-use Rattle.boom_top.specs.Replies.{IsAnswered, IsReplyTo}
+use Rattle.boom_top.specs.Replies.{IsAnswered, IsReplyTo, IsUnread, refusal}
 use Rattle.boom_top.specs.Parts.{Answers, PrintsRuns}
 use Rattle.boom_top.specs.declared.status.Which.{Which}
 use Rattle.boom_top.specs.declared.status.Which.TheVariants.{Method, Index, Local}
 use Rattle.boom_top.specs.declared.status.Status.{Status}
-use Rattle.boom_top.specs.declared.status.Status.TheVariants.{Done, Usage, ReadFault, TooLong, NoSuchPlace, OverBudget, WriteFault, NoMemory, Unsupported}
+use Rattle.boom_top.specs.declared.status.Status.TheVariants.{Done, Usage, ReadFault, TooLong, NotText, NotJimple, NoSuchPlace, OverBudget, WriteFault, NoMemory, Unsupported}
 
 module _ (r : Request) (bytes : List ℕ) where
   -- too many bytes are nothing else
@@ -21,24 +25,52 @@ module _ (r : Request) (bytes : List ℕ) where
   long-only long TooLong lines h = refl
   long-only long (NoSuchPlace which) lines h = absurd (omega (arith, h.0.2))
   long-only long (OverBudget budget) lines h = absurd (omega (arith, h.0.0.short))
+  long-only long (NotText at) lines h = absurd (omega (arith, h.0.0))
+  long-only long (NotJimple at) lines h = absurd (omega (arith, h.0.0))
   long-only long (Unsupported index) lines h = absurd (omega (arith, h.0.0))
   long-only long Usage lines h = absurd h.0
   long-only long ReadFault lines h = absurd h.0
   long-only long WriteFault lines h = absurd h.0
   long-only long NoMemory lines h = absurd h.0
 
-  -- where no program of the form is spelled, nothing else is answered
-  pub formless-only : length bytes ≤ limit → ((program : Program) (main : Main) → ¬ IsFirstForm bytes r.entry program main)
-      → (s : Status) (lines : List (List ℕ)) → IsReplyTo r bytes s lines → s ≡ Unsupported 0
-  formless-only short none Done lines h = absurd (none h.0.program h.0.main h.0.form)
-  formless-only short none TooLong lines h = absurd (omega (arith, h.0))
-  formless-only short none (NoSuchPlace which) lines h = absurd (none h.0.0 h.0.1 h.0.3)
-  formless-only short none (OverBudget budget) lines h = absurd (none h.0.0.program h.0.0.main h.0.0.form)
-  formless-only short none (Unsupported index) lines h = ap Unsupported h.0.2
-  formless-only short none Usage lines h = absurd h.0
-  formless-only short none ReadFault lines h = absurd h.0
-  formless-only short none WriteFault lines h = absurd h.0
-  formless-only short none NoMemory lines h = absurd h.0
+  -- bytes have one reason for which they aren't read
+  unread-one : (s t : Status) → IsUnread bytes r.entry s → IsUnread bytes r.entry t → s ≡ t
+  unread-one (NotText a) (NotText b) p q = ap NotText (read_same p.reached p.stuck q.reached q.stuck).0
+  unread-one (NotText a) (NotJimple b) p q = absurd (stop_no_list p q.0 q.1)
+  unread-one (NotText a) (Unsupported i) p q = absurd (stop_no_list p q.1.tokens q.1.lexed)
+  unread-one (NotJimple a) (NotText b) p q = absurd (stop_no_list q p.0 p.1)
+  unread-one (NotJimple a) (NotJimple b) p q =
+      ap NotJimple (one_place bytes p.0 a b p.2 (subst (λ ts. IsRefusedAt bytes ts b) (same_tokens bytes q.0 p.0 q.1 p.1) q.2))
+  unread-one (NotJimple a) (Unsupported i) p q = absurd (p.2.none q.0 (derives_any bytes p.0 q.0 p.1 q.1))
+  unread-one (Unsupported i) (NotText b) p q = absurd (stop_no_list q p.1.tokens p.1.lexed)
+  unread-one (Unsupported i) (NotJimple b) p q = absurd (q.2.none p.0 (derives_any bytes q.0 p.0 q.1 p.1))
+  unread-one (Unsupported i) (Unsupported j) p q = ap Unsupported (p.3 ∙ sym q.3)
+  unread-one _ (NotText b) p q = absurd p
+  unread-one _ (NotJimple b) p q = absurd p
+  unread-one _ (Unsupported i) p q = absurd p
+  unread-one s _ p q = absurd q
+
+  -- bytes that aren't read are answered in one way
+  pub unread-only : length bytes ≤ limit → ((program : Program) (main : Main) → ¬ IsFirstForm bytes r.entry program main) → (t : Status) → IsUnread bytes r.entry t
+      → (s : Status) (lines : List (List ℕ)) → IsReplyTo r bytes s lines → s ≡ t
+  unread-only short none t unread Done lines h = absurd (none h.0.program h.0.main h.0.form)
+  unread-only short none t unread TooLong lines h = absurd (omega (arith, h.0))
+  unread-only short none t unread (NotText at) lines h = unread-one (NotText at) t h.0.1 unread
+  unread-only short none t unread (NotJimple at) lines h = unread-one (NotJimple at) t h.0.1 unread
+  unread-only short none t unread (NoSuchPlace which) lines h = absurd (none h.0.0 h.0.1 h.0.3)
+  unread-only short none t unread (OverBudget budget) lines h = absurd (none h.0.0.program h.0.0.main h.0.0.form)
+  unread-only short none t unread (Unsupported index) lines h = unread-one (Unsupported index) t h.0.1 unread
+  unread-only short none t unread Usage lines h = absurd h.0
+  unread-only short none t unread ReadFault lines h = absurd h.0
+  unread-only short none t unread WriteFault lines h = absurd h.0
+  unread-only short none t unread NoMemory lines h = absurd h.0
+
+  -- and that is a reply to the request
+  pub unread-reply : length bytes ≤ limit → (t : Status) → IsUnread bytes r.entry t → IsReplyTo r bytes t (refusal t ∷ [])
+  unread-reply short (NotText at) unread = ((short, unread), refl)
+  unread-reply short (NotJimple at) unread = ((short, unread), refl)
+  unread-reply short (Unsupported index) unread = ((short, unread), refl)
+  unread-reply short _ unread = absurd unread
 
   -- a missing part isn't there
   no_place : (program : Program) (main : Main) (which : Which) → IsMissing r program main which → (local : ℕ) → ¬ IsPlace r program main local
@@ -60,7 +92,15 @@ module _ (r : Request) (bytes : List ℕ) where
 
   -- of a program that alone is spelled
   module _ (program : Program) (main : Main) (short : length bytes ≤ limit) (form : IsFirstForm bytes r.entry program main)
-      (only : (p : Program) (m : Main) → IsFirstForm bytes r.entry p m → (program ≡ p) × (main ≡ m)) where
+      (only : (p : Program) (m : Main) → IsFirstForm bytes r.entry p m → (program ≡ p) × (main ≡ m))
+      (one_program : (other : Program) → Spells bytes other → other ≡ program) where
+    -- there is no reason why it isn't read
+    read : (t : Status) → IsUnread bytes r.entry t → ⊥
+    read (NotText at) unread = stop_no_list unread form.spelled.tokens form.spelled.lexed
+    read (NotJimple at) unread = unread.2.none program (derives_any bytes unread.0 program unread.1 form.spelled)
+    read (Unsupported index) unread = unread.2 main (subst (λ (p : Program). IsFirstForm bytes r.entry p main) (sym (one_program unread.0 unread.1)) form)
+    read _ unread = unread
+
     -- a query is one of this program
     placed : (q : Query r bytes) → IsPlace r program main q.local
     placed q =
@@ -75,7 +115,9 @@ module _ (r : Request) (bytes : List ℕ) where
         let here = subst (λ (m : Main). IsMissing r program m other) (sym same.1) (subst (λ (p : Program). IsMissing r p h.0.1 other) (sym same.0) h.0.4) in
         ap NoSuchPlace (missing_one program main other which here missing)
     missing-only which missing (OverBudget budget) lines h = absurd (no_place program main which missing h.0.0.local (placed h.0.0))
-    missing-only which missing (Unsupported index) lines h = absurd (h.0.1 program main form)
+    missing-only which missing (NotText at) lines h = absurd (read (NotText at) h.0.1)
+    missing-only which missing (NotJimple at) lines h = absurd (read (NotJimple at) h.0.1)
+    missing-only which missing (Unsupported index) lines h = absurd (read (Unsupported index) h.0.1)
     missing-only which missing Usage lines h = absurd h.0
     missing-only which missing ReadFault lines h = absurd h.0
     missing-only which missing WriteFault lines h = absurd h.0
@@ -117,7 +159,9 @@ module _ (r : Request) (bytes : List ℕ) where
           let same = only h.0.0 h.0.1 h.0.3 in
           let here = subst (λ (m : Main). IsMissing r program m which) (sym same.1) (subst (λ (p : Program). IsMissing r p h.0.1 which) (sym same.0) h.0.4) in
           absurd (no_place program main which here local place)
-      answers-only t known a (Unsupported index) lines h = absurd (h.0.1 program main form)
+      answers-only t known a (NotText at) lines h = absurd (read (NotText at) h.0.1)
+      answers-only t known a (NotJimple at) lines h = absurd (read (NotJimple at) h.0.1)
+      answers-only t known a (Unsupported index) lines h = absurd (read (Unsupported index) h.0.1)
       answers-only t known a Usage lines h = absurd h.0
       answers-only t known a ReadFault lines h = absurd h.0
       answers-only t known a WriteFault lines h = absurd h.0

@@ -1,5 +1,5 @@
 -- What was written, and what the status then says.
-use Rattle.std.proofs.Common.{◌≡◌, ℕ, ◌+◌, ◌<◌, List, length, map, Option, Some, None, Result, Ok, Err, refl, sym, ap, ◌∙◌, subst, ◌⊎◌, inl, inr, string_bytes, arith}
+use Rattle.std.proofs.Common.{◌≡◌, ℕ, ◌+◌, ◌<◌, List, length, Option, Some, None, Result, Ok, Err, refl, sym, ◌∙◌, subst, ◌⊎◌, inl, inr, string_bytes, arith}
 use Rattle.std.specs.Result.{IfOk, OnErr}
 use Rattle.std.specs.Option.{IfSome}
 use Rattle.std.specs.declared.alloc.AllocError.{AllocError}
@@ -11,7 +11,7 @@ use Rattle.boom_top.specs.Replies.{GivesUp, IsReply, IsReplyTo, text_of}
 use Rattle.boom_top.specs.Parts.{Sends}
 use Rattle.boom_top.specs.declared.query.Reply.{Reply}
 use Rattle.boom_top.specs.declared.status.Status.{Status}
-use Rattle.boom_top.specs.declared.status.Status.TheVariants.{Done, Usage, ReadFault, TooLong, NoSuchPlace, OverBudget, WriteFault, NoMemory, Unsupported}
+use Rattle.boom_top.specs.declared.status.Status.TheVariants.{Done, Usage, ReadFault, TooLong, NotText, NotJimple, NoSuchPlace, OverBudget, WriteFault, NoMemory, Unsupported}
 
 -- what is said of the bytes that were read is said of those that were left
 pub IfSome-read : {A : Type 0} (o : Option A) (v : A) (P : A → Type 0) → IfSome o (λ x. v ≡ x) → P v → IfSome o P
@@ -41,6 +41,8 @@ module _ (words : List (List ℕ)) (bytes : List ℕ) where
   IsReply-request r requested WriteFault lines h = (r, requested, h)
   IsReply-request r requested NoMemory lines h = (r, requested, h)
   IsReply-request r requested (Unsupported index) lines h = (r, requested, h)
+  IsReply-request r requested (NotText at) lines h = (r, requested, h)
+  IsReply-request r requested (NotJimple at) lines h = (r, requested, h)
 
   -- and a reply to words that are one request is a reply to it
   pub request-IsReply : (r : Request) → IsRequest words r → ((other : Request) → IsRequest words other → r ≡ other)
@@ -54,6 +56,8 @@ module _ (words : List (List ℕ)) (bytes : List ℕ) where
   request-IsReply r requested only WriteFault lines h = absurd h.2.0
   request-IsReply r requested only NoMemory lines h = absurd h.2.0
   request-IsReply r requested only (Unsupported index) lines h = subst (λ (x : Request). IsReplyTo x bytes (Unsupported index) lines) (sym (only h.0 h.1)) h.2
+  request-IsReply r requested only (NotText at) lines h = subst (λ (x : Request). IsReplyTo x bytes (NotText at) lines) (sym (only h.0 h.1)) h.2
+  request-IsReply r requested only (NotJimple at) lines h = subst (λ (x : Request). IsReplyTo x bytes (NotJimple at) lines) (sym (only h.0 h.1)) h.2
 
   -- words that are no request have one status
   pub usage-only : NoRequest words → (s : Status) (lines : List (List ℕ)) → IsReply words bytes s lines → s ≡ Usage
@@ -66,6 +70,8 @@ module _ (words : List (List ℕ)) (bytes : List ℕ) where
   usage-only none WriteFault lines h = absurd (none h.0 h.1)
   usage-only none NoMemory lines h = absurd (none h.0 h.1)
   usage-only none (Unsupported index) lines h = absurd (none h.0 h.1)
+  usage-only none (NotText at) lines h = absurd (none h.0 h.1)
+  usage-only none (NotJimple at) lines h = absurd (none h.0 h.1)
 
   -- what a reply is
   abbrev pub Made : Reply → Type 0

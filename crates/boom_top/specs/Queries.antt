@@ -1,10 +1,10 @@
 -- What a request asks of a text: the program that it spells, and the place in it.
-use Rattle.std.specs.Prelude.{◌≡◌, ℕ, ◌<◌, ◌≤◌, List, [], ◌∷◌, ◌++◌, length, slice_get, Some, codes}
+use Rattle.std.specs.Prelude.{◌≡◌, ℕ, ◌<◌, ◌≤◌, List, ◌++◌, length, slice_get, Some, codes}
 use Rattle.jim_ast.specs.declared.names.NameId.{NameId}
 use Rattle.jim_ast.specs.declared.syntax.Program.{Program}
 use Rattle.form_one.specs.declared.code.Main.{Main}
 use Rattle.form_one.specs.Form.{IsText, IsFormOne}
-use Rattle.jim_parse.specs.Spells.{Spells}
+use Rattle.jim_parse.specs.Derives.{Spells}
 use Rattle.boom_top.specs.Requests.{Request}
 use Rattle.boom_top.specs.declared.status.Which.{Which}
 use Rattle.boom_top.specs.declared.status.Which.TheVariants.{Method, Index, Local}

@@ -1,5 +1,5 @@
 -- What a reading has room for.
-use Rattle.std.specs.Prelude.{ℕ, ◌^◌, ◌<◌, length}
+use Rattle.std.specs.Prelude.{◌^◌, ◌<◌, length}
 use Rattle.form_one.specs.declared.code.Main.{Main}
 
 -- there are fewer than 2^32 statements and locals

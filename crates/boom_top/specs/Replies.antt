@@ -1,5 +1,5 @@
 -- The status and the lines with which a command is answered.
-use Rattle.std.specs.Prelude.{◌≡◌, ℕ, ◌<◌, ◌≤◌, ◌⊎◌, List, [], ◌∷◌, ◌++◌, length, slice_get, Some, codes}
+use Rattle.std.specs.Prelude.{◌≡◌, ℕ, ◌<◌, ◌≤◌, List, [], ◌∷◌, ◌++◌, length, slice_get, Some, codes}
 use Rattle.std.specs.declared.option.Option.{Option}
 use Rattle.std.specs.Fmt.{decimal}
 use Rattle.std.specs.Io.KnownBytes.{Appends}
@@ -11,12 +11,15 @@ use Rattle.form_one.specs.declared.code.Main.{Main}
 use Rattle.form_one.specs.Answer.{local_at, IsAnswer, IsDemandSize}
 use Rattle.form_one.specs.Query.{IsOver}
 use Rattle.form_one.specs.Form.{IsText}
+use Rattle.jim_text.specs.declared.Token.{Token}
+use Rattle.jim_text.specs.Lexes.{Lexes, StopsAt}
+use Rattle.jim_parse.specs.Derives.{Spells, IsRefusedAt}
 use Rattle.boom_top.specs.Requests.{Request, IsRequest, NoRequest}
 use Rattle.boom_top.specs.Queries.{IsFirstForm, IsMissing, Query, limit}
 use Rattle.boom_top.specs.declared.status.Which.{Which}
 use Rattle.boom_top.specs.declared.status.Which.TheVariants.{Method, Index, Local}
 use Rattle.boom_top.specs.declared.status.Status.{Status}
-use Rattle.boom_top.specs.declared.status.Status.TheVariants.{Done, Usage, ReadFault, TooLong, NoSuchPlace, OverBudget, WriteFault, NoMemory, Unsupported}
+use Rattle.boom_top.specs.declared.status.Status.TheVariants.{Done, Usage, ReadFault, TooLong, NotText, NotJimple, NoSuchPlace, OverBudget, WriteFault, NoMemory, Unsupported}
 
 -- the number with which the program ends
 abbrev pub number_of : Status → ℕ
@@ -24,6 +27,8 @@ number_of Done = 0
 number_of Usage = 1
 number_of ReadFault = 2
 number_of TooLong = 3
+number_of (NotText at) = 4
+number_of (NotJimple at) = 5
 number_of (NoSuchPlace which) = 7
 number_of (OverBudget budget) = 11
 number_of WriteFault = 12
@@ -77,15 +82,27 @@ which_text Local = codes "local"
 abbrev pub refusal : Status → List ℕ
 refusal Usage = codes "refused Usage"
 refusal TooLong = codes "refused TooLong"
+refusal (NotText at) = codes "refused NotText " ++ decimal at
+refusal (NotJimple at) = codes "refused NotJimple " ++ decimal at
 refusal (NoSuchPlace which) = codes "refused NoSuchPlace " ++ which_text which
 refusal (OverBudget budget) = codes "refused OverBudget " ++ decimal budget
 refusal (Unsupported index) = codes "refused Unsupported " ++ decimal index
 refusal _ = []
 
--- Which status refuses a request over these bytes: the first check that fails, of length, form, place and budget.
+-- Why bytes are no program of the first form for the entry: no token begins at a byte, no program goes on with a token, or the program that they spell
+-- is of another form.
+abbrev pub IsUnread : List ℕ → List ℕ → Status → Type 0
+IsUnread bytes entry (NotText at) = StopsAt bytes at
+IsUnread bytes entry (NotJimple at) = (tokens : List Token) × Lexes bytes tokens × IsRefusedAt bytes tokens at
+IsUnread bytes entry (Unsupported index) = (program : Program) × Spells bytes program × ((main : Main) → ¬ IsFirstForm bytes entry program main) × (index ≡ 0)
+IsUnread bytes entry _ = ⊥
+
+-- Which status refuses a request over these bytes: the first check that fails, of length, tokens, grammar, form, place and budget.
 abbrev pub Refuses : Request → List ℕ → Status → Type 0
 Refuses r bytes TooLong = limit < length bytes
-Refuses r bytes (Unsupported index) = (length bytes ≤ limit) × ((program : Program) (main : Main) → ¬ IsFirstForm bytes r.entry program main) × (index ≡ 0)
+Refuses r bytes (NotText at) = (length bytes ≤ limit) × IsUnread bytes r.entry (NotText at)
+Refuses r bytes (NotJimple at) = (length bytes ≤ limit) × IsUnread bytes r.entry (NotJimple at)
+Refuses r bytes (Unsupported index) = (length bytes ≤ limit) × IsUnread bytes r.entry (Unsupported index)
 Refuses r bytes (NoSuchPlace which) = (program : Program) × (main : Main) × (length bytes ≤ limit) × IsFirstForm bytes r.entry program main
     × IsMissing r program main which
 Refuses r bytes (OverBudget budget) = (q : Query r bytes) × IsOver q.main.code (local_at r.index q.local) r.budget × (budget ≡ r.budget)

@@ -1,12 +1,14 @@
 //! From bytes to a program of the first form.
-ghost use Rattle.std.specs.Prelude.{◌≡◌, ◌≤◌, ◌↔◌, length, IfOk, IfSome, IsSomeAnd, IsTrue};
+ghost use Rattle.std.specs.Prelude.{◌≡◌, ◌≤◌, ◌↔◌, ℕ, List, length, IfOk, IfSome, Err, Some, IsTrue};
 ghost use Rattle.jim_ast.specs.declared.syntax.Program.{Program};
 ghost use Rattle.form_one.specs.declared.code.Main.{Main};
-ghost use Rattle.form_one.specs.Form.{IsFormOne};
+ghost use Rattle.form_one.specs.Form.{IsFormOne, IsText};
 ghost use Rattle.boom_top.specs.Reads.{AreFew};
-ghost use Rattle.jim_parse.specs.Spells.{Spells};
+ghost use Rattle.jim_parse.specs.Derives.{Spells};
 ghost use Rattle.boom_top.specs.Queries.{IsFirstForm, limit};
+ghost use Rattle.boom_top.specs.Replies.{IsUnread};
 
+use super::status::Status;
 use form_one::{Main, main_of};
 use jim_ast::{NoMemory, Program};
 use jim_parse::{ParseError, parse};
@@ -28,51 +30,66 @@ fn are_few(main: &Main) -> bool
         && main.locals.as_slice().len() <= u32::MAX as usize
 }
 
-// The program that bytes spell, where it is of the first form for some entry.
-fn read(alloc: Global, bytes: &[u8]) -> Result<Option<Reading>, NoMemory>
+// The program that bytes spell, or why they spell none.
+fn read(alloc: Global, bytes: &[u8]) -> Result<Result<Program, Status>, NoMemory>
     requires { length bytes.now ≤ limit }
-    ensures spelled { IfOk result (λ found. IfSome found (λ r. Spells bytes.now r.program)) }
-    ensures form { IfOk result (λ found. IfSome found (λ r. IsFormOne r.program r.main)) }
-    ensures few { IfOk result (λ found. IfSome found (λ r. AreFew r.main)) }
-    ensures only { IfOk result (λ found. (program : Program) (main : Main) → Spells bytes.now program → IsFormOne program main
-        → IsSomeAnd found (λ r. (r.program ≡ program) × (r.main ≡ main))) }
+    ensures spelled { IfOk result (λ read. IfOk read (Spells bytes.now)) }
+    ensures only { IfOk result (λ read. IfOk read (λ program. (other : Program) → Spells bytes.now other → other ≡ program)) }
+    ensures unread { IfOk result (λ read. (status : Status) → read ≡ Err status → (entry : List ℕ) → IsUnread bytes.now entry status) }
+    ensures none { IfOk result (λ read. (status : Status) → read ≡ Err status → (program : Program) → ¬ Spells bytes.now program) }
 {
     let tokens = match lex(alloc, bytes) {
         Ok(tokens) => tokens,
-        Err(LexError::BadText { .. }) => return Ok(None),
+        Err(LexError::BadText { at }) => return Ok(Err(Status::NotText { at })),
         Err(LexError::NoMemory) => return Err(AllocError),
     };
-    let program = match parse(alloc, bytes, &tokens) {
-        Ok(program) => program,
-        Err(ParseError::NotJimple { .. }) => return Ok(None),
-        Err(ParseError::NoMemory) => return Err(AllocError),
-    };
-    let Some(main) = main_of(alloc, &program)? else {
+    match parse(alloc, bytes, &tokens) {
+        Ok(program) => Ok(Ok(program)),
+        Err(ParseError::NotJimple { at }) => Ok(Err(Status::NotJimple { at })),
+        Err(ParseError::NoMemory) => Err(AllocError),
+    }
+}
+
+// The `main` of a program of the first form for an entry.
+fn entered(alloc: Global, program: &Program, entry: &str) -> Result<Option<Main>, NoMemory>
+    ensures form { IfOk result (λ found. IfSome found (λ main. IsFormOne program.now main × IsText program.now.names main.entry entry.now)) }
+    ensures few { IfOk result (λ found. IfSome found AreFew) }
+    ensures only { IfOk result (λ found. (main : Main) → IsFormOne program.now main → IsText program.now.names main.entry entry.now → found ≡ Some main) }
+{
+    let Some(main) = main_of(alloc, program)? else {
         return Ok(None);
     };
+    match program.names.find(entry) {
+        Some(name) if name == main.entry => {}
+        _ => return Ok(None),
+    }
     if !are_few(&main) {
         return Err(AllocError);
     }
-    Ok(Some(Reading { program, main }))
+    Ok(Some(main))
 }
 
-/// The program that bytes spell, where it is of the first form and its `main` stands in the class of this name.
+/// The program that bytes spell, where it is of the first form and its `main` stands in the class of this name, or why it isn't read.
 pub(crate) fn read_form(
     alloc: Global,
     bytes: &[u8],
     entry: &str,
-) -> Result<Option<Reading>, NoMemory>
+) -> Result<Result<Reading, Status>, NoMemory>
     requires { length bytes.now ≤ limit }
-    ensures form { IfOk result (λ found. IfSome found (λ r. IsFirstForm bytes.now entry.now r.program r.main)) }
-    ensures few { IfOk result (λ found. IfSome found (λ r. AreFew r.main)) }
-    ensures only { IfOk result (λ found. (program : Program) (main : Main) → IsFirstForm bytes.now entry.now program main
-        → IsSomeAnd found (λ r. (r.program ≡ program) × (r.main ≡ main))) }
+    ensures form { IfOk result (λ read. IfOk read (λ r. IsFirstForm bytes.now entry.now r.program r.main)) }
+    ensures few { IfOk result (λ read. IfOk read (λ r. AreFew r.main)) }
+    ensures only { IfOk result (λ read. IfOk read (λ r. (program : Program) (main : Main) → IsFirstForm bytes.now entry.now program main
+        → (r.program ≡ program) × (r.main ≡ main))) }
+    ensures spelled { IfOk result (λ read. IfOk read (λ r. (other : Program) → Spells bytes.now other → other ≡ r.program)) }
+    ensures unread { IfOk result (λ read. (status : Status) → read ≡ Err status → IsUnread bytes.now entry.now status) }
+    ensures none { IfOk result (λ read. (status : Status) → read ≡ Err status → (program : Program) (main : Main) → ¬ IsFirstForm bytes.now entry.now program main) }
 {
-    let Some(reading) = read(alloc, bytes)? else {
-        return Ok(None);
+    let program = match read(alloc, bytes)? {
+        Ok(program) => program,
+        Err(status) => return Ok(Err(status)),
     };
-    match reading.program.names.find(entry) {
-        Some(name) if name == reading.main.entry => Ok(Some(reading)),
-        _ => Ok(None),
-    }
+    let Some(main) = entered(alloc, &program, entry)? else {
+        return Ok(Err(Status::Unsupported { index: 0 }));
+    };
+    Ok(Ok(Reading { program, main }))
 }

@@ -33,6 +33,18 @@ fn unsupported(alloc: Global, index: u32) -> Result<String, NoMemory>
     format!(in alloc; "refused Unsupported {index}\n")
 }
 
+fn no_text(alloc: Global, at: u32) -> Result<String, NoMemory>
+    ensures { IfOk result (λ text. string_bytes text ≡ text_of (refusal (Status.NotText at) ∷ [])) }
+{
+    format!(in alloc; "refused NotText {at}\n")
+}
+
+fn no_program(alloc: Global, at: u32) -> Result<String, NoMemory>
+    ensures { IfOk result (λ text. string_bytes text ≡ text_of (refusal (Status.NotJimple at) ∷ [])) }
+{
+    format!(in alloc; "refused NotJimple {at}\n")
+}
+
 /// The text of a refusal. A status that is none has no line.
 pub(crate) fn refusal_text(alloc: Global, status: Status) -> Result<String, NoMemory>
     ensures { IfOk result (λ text. string_bytes text ≡ text_of (refusal status ∷ [])) }
@@ -40,6 +52,8 @@ pub(crate) fn refusal_text(alloc: Global, status: Status) -> Result<String, NoMe
     match status {
         Status::Usage => String::from_str(alloc, "refused Usage\n"),
         Status::TooLong => String::from_str(alloc, "refused TooLong\n"),
+        Status::NotText { at } => no_text(alloc, at),
+        Status::NotJimple { at } => no_program(alloc, at),
         Status::NoSuchPlace { which } => {
             let word = word_of(which);
             format!(in alloc; "refused NoSuchPlace {word}\n")

@@ -24,6 +24,11 @@ pub enum Status {
     ReadFault,
     /// There are more than 16,777,216 bytes.
     TooLong,
+    /// The bytes have no tokens: at this byte, from 0, no blank, comment or token begins, and before it all do.
+    NotText { at: u32 },
+    /// The tokens derive no program: this is the place, from 0, of the first token with which none goes on, or the number of tokens where the end comes
+    /// too early.
+    NotJimple { at: u32 },
     /// A part of the place that the command names isn't there: the first in the order of `Which`.
     NoSuchPlace { which: Which },
     /// More nodes than this budget are demanded.
@@ -32,7 +37,7 @@ pub enum Status {
     WriteFault,
     /// Memory that was asked for wasn't found.
     NoMemory,
-    /// The bytes spell no program of the first form for the entry. The index is 0.
+    /// The bytes spell a program that isn't of the first form for the entry. The index is 0.
     Unsupported { index: u32 },
 }
 
@@ -46,6 +51,8 @@ impl Status {
             Status::Usage => 1,
             Status::ReadFault => 2,
             Status::TooLong => 3,
+            Status::NotText { .. } => 4,
+            Status::NotJimple { .. } => 5,
             Status::NoSuchPlace { .. } => 7,
             Status::OverBudget { .. } => 11,
             Status::WriteFault => 12,

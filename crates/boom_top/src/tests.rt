@@ -38,20 +38,20 @@ fn words(
     Ok(words)
 }
 
-fn source(alloc: Global, text: &str, failing: Vec<u32>) -> Result<MemSource, Fail> {
-    let bytes = Vec::from_slice(alloc, text.as_bytes())?;
+fn source(alloc: Global, bytes: &[u8], failing: Vec<u32>) -> Result<MemSource, Fail> {
+    let bytes = Vec::from_slice(alloc, bytes)?;
     Ok(MemSource::new(bytes, failing, 64))
 }
 
-// The status of a command over a text, where the reply is the expected one.
+// The status of a command over bytes, where the reply is the expected one.
 fn replies(
     rt: &(impl Abort + AllocGlobal),
     words: &[String],
-    text: &str,
+    bytes: &[u8],
     reply: &str,
 ) -> Result<Status, Fail> {
     let alloc = rt.alloc();
-    let mut source = source(alloc, text, Vec::new(alloc))?;
+    let mut source = source(alloc, bytes, Vec::new(alloc))?;
     let mut sink = MemSink::new(alloc, 1000, Vec::new(alloc), 5)?;
     let status = boomer(alloc, words, &mut source, &mut sink);
     assert_eq!(rt; sink.bytes(), reply.as_bytes());
@@ -75,8 +75,35 @@ demanded 6
 sites 0
 demanded 1
 ";
-    let quoted = "/* the same */ class 'A' { } // in other words
-class Main { static void main(java.lang.String[]) { A x, y; x = new A; y = x; label1: if 0 == 1 goto label2; x = new A; goto label1; label2: return; } }";
+    let quoted = "// a line
+public class 'A' { }
+// a line
+public class Main {
+// a line
+public static void main(java.lang.String[]) {
+// a line
+'A' x, y;
+// a line
+x = new 'A';
+// a line
+y = x;
+// a line
+label1:
+// a line
+if 0 == 1 goto label2;
+// a line
+x = new 'A';
+// a line
+goto label1;
+// a line
+label2:
+// a line
+return;
+// a line
+}
+// a line
+}
+";
     let rows = [
         (PROGRAM, "5", "x", "100", first),
         (PROGRAM, "5", "x", "6", first),
@@ -86,7 +113,7 @@ class Main { static void main(java.lang.String[]) { A x, y; x = new A; y = x; la
     ];
     for (text, index, local, budget, reply) in rows {
         let words = words(rt.alloc(), METHOD, index, local, budget)?;
-        let status = replies(&rt, &words, text, reply)?;
+        let status = replies(&rt, &words, text.as_bytes(), reply)?;
         assert!(rt; status == Status::Done);
     }
     Ok(())
@@ -144,7 +171,7 @@ fn refuses(rt: HostRuntime) -> Result<(), Fail> {
             "refused Unsupported 0\n",
         ),
         (
-            "class A { int x }",
+            "class A { int x; }",
             METHOD,
             "5",
             "x",
@@ -182,11 +209,40 @@ fn refuses(rt: HostRuntime) -> Result<(), Fail> {
     ];
     for (text, method, index, local, budget, status, reply) in rows {
         let words = words(rt.alloc(), method, index, local, budget)?;
-        let answered = replies(&rt, &words, text, reply)?;
+        let answered = replies(&rt, &words, text.as_bytes(), reply)?;
         assert!(rt; answered == status);
     }
-    let answered = replies(&rt, &[], PROGRAM, "refused Usage\n")?;
+    let answered = replies(&rt, &[], PROGRAM.as_bytes(), "refused Usage\n")?;
     assert!(rt; answered == Status::Usage);
+    Ok(())
+}
+
+#[test]
+fn names_the_place(rt: HostRuntime) -> Result<(), Fail> {
+    let words = words(rt.alloc(), METHOD, "5", "x", "100")?;
+    let no_text = |at| Status::NotText { at };
+    let no_program = |at| Status::NotJimple { at };
+    let rows = [
+        (
+            b"class Main { static void main(java.lang.String[".as_slice(),
+            no_program(9),
+            "refused NotJimple 9\n",
+        ),
+        (b"class A { int x }", no_program(5), "refused NotJimple 5\n"),
+        (b"class A { # }", no_text(10), "refused NotText 10\n"),
+        (b"\xff", no_text(0), "refused NotText 0\n"),
+        (b"class \xff", no_text(6), "refused NotText 6\n"),
+        (b"interface", no_program(1), "refused NotJimple 1\n"),
+        (
+            b"class A { void m() { x } }",
+            no_program(9),
+            "refused NotJimple 9\n",
+        ),
+    ];
+    for (bytes, status, reply) in rows {
+        let answered = replies(&rt, &words, bytes, reply)?;
+        assert!(rt; answered == status);
+    }
     Ok(())
 }
 
@@ -194,15 +250,15 @@ fn refuses(rt: HostRuntime) -> Result<(), Fail> {
 fn tells_faults(rt: HostRuntime) -> Result<(), Fail> {
     let alloc = rt.alloc();
     let words = words(alloc, METHOD, "5", "x", "100")?;
-    let mut whole = source(alloc, PROGRAM, Vec::new(alloc))?;
+    let mut whole = source(alloc, PROGRAM.as_bytes(), Vec::new(alloc))?;
     let mut failing = MemSink::new(alloc, 1000, vec![in alloc; 1]?, 8)?;
     assert!(rt; boomer(alloc, &words, &mut whole, &mut failing) == Status::WriteFault);
     assert_eq!(rt; failing.bytes(), b"points-t".as_slice());
-    let mut whole = source(alloc, PROGRAM, Vec::new(alloc))?;
+    let mut whole = source(alloc, PROGRAM.as_bytes(), Vec::new(alloc))?;
     let mut closed = MemSink::new(alloc, 1000, vec![in alloc; 0]?, 8)?;
     assert!(rt; boomer(alloc, &words, &mut whole, &mut closed) == Status::WriteFault);
     assert!(rt; closed.bytes().is_empty());
-    let mut broken = source(alloc, PROGRAM, vec![in alloc; 0]?)?;
+    let mut broken = source(alloc, PROGRAM.as_bytes(), vec![in alloc; 0]?)?;
     let mut sink = MemSink::new(alloc, 1000, Vec::new(alloc), 8)?;
     assert!(rt; boomer(alloc, &words, &mut broken, &mut sink) == Status::ReadFault);
     assert!(rt; sink.bytes().is_empty());
@@ -221,6 +277,8 @@ fn numbers_statuses(rt: HostRuntime) -> Result<(), Fail> {
         (Status::Usage, 1),
         (Status::ReadFault, 2),
         (Status::TooLong, 3),
+        (Status::NotText { at: 9 }, 4),
+        (Status::NotJimple { at: 9 }, 5),
         (Status::NoSuchPlace { which }, 7),
         (Status::OverBudget { budget: 1 }, 11),
         (Status::WriteFault, 12),

@@ -35,8 +35,9 @@ fn reply_to(alloc: Global, command: &Command<'_>, bytes: &[u8]) -> Result<Reply,
     ensures sound { IfOk result (λ reply. reply.status ≡ Status.Done → (q : Query (request_of command.now) bytes.now)
         → PrintsRuns (request_of command.now) q.program q.main q.local (string_bytes reply.text)) }
 {
-    let Some(reading) = read_form(alloc, bytes, command.entry)? else {
-        return refused(alloc, Status::Unsupported { index: 0 });
+    let reading = match read_form(alloc, bytes, command.entry)? {
+        Ok(reading) => reading,
+        Err(status) => return refused(alloc, status),
     };
     match place_of(alloc, command, &reading.program, &reading.main)? {
         Ok(local) => answer(alloc, command, &reading, local),
@@ -63,7 +64,7 @@ fn send<K: Sink>(sink: &mut K, made: Result<Reply, NoMemory>) -> Status
 /// Answers a command over the program that the source has left, and writes the reply to the sink.
 ///
 /// `words` are the words of the command line behind the program's name: `points-to ENTRY METHOD INDEX LOCAL BUDGET` asks for the sites whose objects
-/// LOCAL may hold just before the statement INDEX, from 0, of METHOD. The checks come in this order: words, length, form, place, budget. The first that
+/// LOCAL may hold just before the statement INDEX, from 0, of METHOD. The checks come in this order: words, length, tokens, grammar, form, place, budget. The first that
 /// fails is the status, and its line is the reply; else the status is `Done`. The reply is made whole before it is written.
 ///
 /// The clauses on replies speak of a source that tells the bytes it has left.

@@ -1,5 +1,5 @@
 -- Which programs are of the first form, and what their `main` is.
-use Rattle.std.specs.Prelude.{◌≡◌, ◌≢◌, ℕ, ◌<◌, ◌⊎◌, List, [], ◌∷◌, length, map, slice_get, Some, None, IsFalse, true, false, codes, nat_eq}
+use Rattle.std.specs.Prelude.{◌≡◌, ◌≢◌, ℕ, ◌<◌, ◌⊎◌, List, [], ◌∷◌, length, map, slice_get, Some, None, IsFalse, true, codes, nat_eq}
 use Rattle.std.specs.List.{starts_with}
 use Rattle.jim_ast.specs.Lists.{Has, IsApart}
 use Rattle.jim_ast.specs.declared.names.NameId.{NameId}
@@ -70,7 +70,6 @@ pub record IsMainMethod (names : List (List ℕ)) (method : MethodDecl) (body : 
   pub result : method.result ≡ record { base = base.Void; dims = 0 }
   pub params : TakesStrings names method.params
   pub is_static : method.is_static ≡ true
-  pub not_native : method.is_native ≡ false
   pub has_body : method.body ≡ Some body
   pub no_traps : body.traps ≡ []
 

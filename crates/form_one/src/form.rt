@@ -119,7 +119,6 @@ fn main_body<'a>(names: &Names, method: &'a MethodDecl) -> Option<&'a Body>
 {
     let declared = is_text(names, method.name, "main")
         && method.is_static
-        && !method.is_native
         && is_void(method.result)
         && takes_strings(names, method.params.as_slice());
     let body = method.body.as_ref()?;

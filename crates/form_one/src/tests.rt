@@ -277,7 +277,6 @@ enum Change {
     TwoMethods,
     OtherMethod,
     NotStatic,
-    Native,
     Named,
     Result,
     NoParam,
@@ -311,7 +310,6 @@ fn change_class(alloc: Global, change: Change, class: &mut Class) -> Result<(), 
 fn change_method(alloc: Global, change: Change, method: &mut MethodDecl) -> Result<(), NoMemory> {
     match change {
         Change::NotStatic => method.is_static = false,
-        Change::Native => method.is_native = true,
         Change::Named => method.name = MAIN,
         Change::Result => method.result = STRINGS,
         Change::NoParam => method.params = List::from_vec(Vec::new(alloc)),
@@ -385,7 +383,6 @@ fn programs(rt: HostRuntime) -> Result<(), Fail> {
         Change::TwoMethods,
         Change::OtherMethod,
         Change::NotStatic,
-        Change::Native,
         Change::Named,
         Change::Result,
         Change::NoParam,

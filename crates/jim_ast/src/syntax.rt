@@ -40,6 +40,7 @@ pub struct MethodDecl {
     pub result: Ty,
     pub params: List<Ty>,
     pub is_static: bool,
+    /// Whether it has that modifier and no body.
     pub is_native: bool,
     /// A method without one is native where it has that modifier, and else abstract.
     pub body: Option<Body>,
@@ -162,8 +163,8 @@ pub enum Expr {
     New(NameId),
     /// An array, by the type of its elements.
     NewArray(Ty),
-    /// An array of arrays: the written type with a pair of brackets for each size that is left out behind the first, and how many sizes are
-    /// given.
+    /// An array of arrays: the written type with a pair of brackets more for each size that doesn't count, and how many count: those before the
+    /// first that is left out.
     NewMulti(Ty, u8),
     Cast(Ty, Imm),
     Length(Imm),
@@ -197,7 +198,7 @@ pub enum Stmt {
     /// A jump to a label where a condition holds.
     If(NameId),
     Goto(NameId),
-    /// A jump to one of these labels, in written order.
+    /// A jump to one of these labels: those of the cases in written order, and the default's last.
     Switch(List<NameId>),
     Return(Option<Imm>),
     Throw(Imm),

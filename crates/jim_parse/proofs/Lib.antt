@@ -1,3 +1,2 @@
-pub mod Lengths
-pub mod SoFar
-pub mod Spellings
+pub mod PlaceLemmas
+pub mod ProgramLemmas

@@ -1,3 +1,1 @@
-pub mod FirstForm
-pub mod Reading
-pub mod Spells
+pub mod Derives

@@ -1,10 +1,10 @@
-//! The reader of programs of the first form.
+//! From tokens to a program.
 #![tactic(auto)]
 
-mod first_form;
+mod laws;
 mod reader;
 
-pub use first_form::derives_one;
+pub use laws::{has_one_place, has_one_program};
 pub use reader::{ParseError, parse};
 
 #[cfg(test)]

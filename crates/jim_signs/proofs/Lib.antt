@@ -4,3 +4,4 @@ pub mod LeadLemmas
 pub mod NameLemmas
 pub mod TextLemmas
 pub mod SignLemmas
+pub mod PieceLemmas

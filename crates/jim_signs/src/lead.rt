@@ -2,7 +2,7 @@
 use jim_ast::Names;
 
 /// A class of tokens: a kind of tokens, or one word or mark. A token of a lexed text is never `Other`.
-#[derive(Clone, Copy, Debug, PartialEq, Eq)]
+#[derive(Clone, Copy, Debug, PartialEq, Eq, Hash)]
 pub enum Lead {
     Name,
     Number,

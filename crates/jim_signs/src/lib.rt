@@ -1,11 +1,13 @@
 //! Tokens as the grammar sees them: a class for each kind of token, word and mark, and a number for what a token names.
 #![tactic(auto)]
 
+mod law;
 mod lead;
 mod mark;
 mod sign;
 mod word;
 
+pub use law::has_tokens;
 pub use lead::{Lead, Sign, Signs};
 pub use sign::signs;
 

@@ -1,4 +1,4 @@
-use Rattle.std.proofs.Common.{◌≡◌, ℕ, Some, slice_get, sym, ap, ◌∙◌, ◌==◌, eq-eqb}
+use Rattle.std.proofs.Common.{◌≡◌, ℕ, Some, sym, ap, ◌∙◌, ◌==◌, eq-eqb}
 use Rattle.std.proofs.lemmas.Bool.Decides.{Decides-eqb}
 use Rattle.jim_ast.specs.declared.names.NameId.{NameId}
 use Rattle.boom_top.specs.Queries.{IsLocal}

@@ -1,4 +1,3 @@
-use Rattle.std.proofs.Common.{◌≡◌, sym, ap, ◌∙◌, Ok}
 use Rattle.boom_top.proofs.place.place_of.Goals as goal
 
 pub returns-in-Some-clause-only : goal.returns-in-Some-clause-only

@@ -1,6 +1,5 @@
 use Rattle.std.proofs.Common.{◌≡◌, [], ◌∷◌, string_bytes, ap, refl, Err}
 use Rattle.boom_top.specs.Commands.{request_of}
-use Rattle.boom_top.specs.Parts.{Answers}
 use Rattle.boom_top.specs.Replies.{refusal, text_of}
 use Rattle.boom_top.specs.declared.query.Reply.{Reply}
 use Rattle.boom_top.specs.declared.status.Status.TheVariants as status

@@ -1,19 +1,25 @@
-use Rattle.std.proofs.Common.{◌≡◌, sym, ◌∙◌, ap, true≢false, eq-eqb}
+use Rattle.std.proofs.Common.{◌≡◌, refl, sym, subst, Option, Some}
+use Rattle.jim_ast.specs.declared.syntax.Program.{Program}
+use Rattle.form_one.specs.declared.code.Main.{Main}
+use Rattle.form_one.specs.Form.{IsFormOne, IsText}
 use Rattle.boom_top.proofs.reading.read_form.Goals as goal
-use Rattle.boom_top.proofs.reading.read_form.Goals.{in_default-find-via-in-Some-find+else-eq, in_default-find-via-in_default-find}
 
-pub returns-in_default-clause-only : goal.returns-in_default-clause-only
-returns-in_default-clause-only c = λ program main first. rw c.in_default.is at (c.in_ok-reading.ensures.only program main first.spelled first.form)
+-- an option has one value
+same_main : (a b : Main) (o : Option Main) → o ≡ Some a → o ≡ Some b → a ≡ b
+same_main a b o p q = cc
 
-pub returns-in-Some-find-clause-only : goal.returns-in-Some-find-clause-only
-returns-in-Some-find-clause-only c = λ program main first. rw c.in-Some.is at (c.in_ok-reading.ensures.only program main first.spelled first.form)
+pub returns-in-Err-clause-none : goal.returns-in-Err-clause-none
+returns-in-Err-clause-none c = λ s is program main form. (rw c.in-Err.is at c.in_ok-program.ensures.none) c.in-Err.status refl program form.spelled
 
-pub returns-in_default-find-clause-only : goal.returns-in_default-find-clause-only
-returns-in_default-find-clause-only c = λ program main first.
-    let same = rw c.in-Some.is at (c.in_ok-reading.ensures.only program main first.spelled first.form) in
-    let entered = rw (← same.0, ← same.1) at first.entered in
-    elim c.in_default-find.branch [
-      | in_default-find-via-in-Some-find+else-eq w ↦
-          true≢false (sym (eq-eqb w.in-Some-find.name.0 c.in-Some.reading.main.entry.0 (w.in-Some-find.ensures.only c.in-Some.reading.main.entry.0 entered)) ∙ sym w.if-eq.ensures)
-      | in_default-find-via-in_default-find w ↦ w.in_default-find.ensures.none (c.in-Some.reading.main.entry.0, entered)
-    ]
+pub returns-in_default-clause-none : goal.returns-in_default-clause-none
+returns-in_default-clause-none c = λ s is program main form.
+    let same = (rw c.in-Ok.is at c.in_ok-program.ensures.only) program form.spelled in
+    c.in_default.not-Some main (c.in_ok-main.ensures.only main (subst (λ (p : Program). IsFormOne p main) same form.form)
+    (subst (λ (p : Program). IsText p.names main.entry c.args.entry.now) same form.entered))
+
+pub returns-clause-only : goal.returns-clause-only
+returns-clause-only c = λ program main form.
+    let same = (rw c.in-Ok.is at c.in_ok-program.ensures.only) program form.spelled in
+    let found = c.in_ok-main.ensures.only main (subst (λ (p : Program). IsFormOne p main) same form.form)
+    (subst (λ (p : Program). IsText p.names main.entry c.args.entry.now) same form.entered) in
+    (sym same, same_main _ _ _ c.in-Some.is found)

@@ -1,4 +1,4 @@
-use Rattle.std.proofs.Common.{◌≡◌, [], ◌∷◌, length, string_bytes, ap}
+use Rattle.std.proofs.Common.{[], ◌∷◌, length}
 use Rattle.boom_top.specs.Commands.{request_of}
 use Rattle.boom_top.specs.Replies.{count_lines, query_line}
 use Rattle.boom_top.proofs.Lines.{text_of-three}

@@ -1,4 +1,3 @@
-use Rattle.std.proofs.Common.{◌≡◌, string_bytes, get_or, arith}
 use Rattle.std.proofs.lemmas.Option.{slice_get-get_or}
 use Rattle.boom_top.proofs.Lines.{AddsSites-none, AddsSites-next}
 use Rattle.boom_top.proofs.reply.push_sites.Goals as goal

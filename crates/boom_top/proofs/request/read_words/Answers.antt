@@ -1,4 +1,4 @@
-use Rattle.std.proofs.Common.{◌≡◌, List, ℕ, [], ◌∷◌, map, string_bytes, sym, ap, ◌∙◌, arith, codes, rules, refl}
+use Rattle.std.proofs.Common.{◌≡◌, map, string_bytes, sym, ap, ◌∙◌, arith, codes, rules, refl}
 use Rattle.std.proofs.lemmas.Slice.Eq.{bytes_eq-Decides}
 use Rattle.boom_top.proofs.Words.{six}
 use Rattle.boom_top.proofs.request.read_words.Goals as goal

@@ -1,11 +1,9 @@
-use Rattle.std.proofs.Common.{◌≡◌, ◌<◌, ◌≤◌, ℕ, List, [], ◌∷◌, map, length, string_bytes, IfOk, refl, sym, ap, ◌∙◌, subst, inl, inr, Some, Err, arith}
-use Rattle.std.specs.Io.KnownBytes.{Appends}
-use Rattle.boom_io.specs.Causes.{Rose}
+use Rattle.std.proofs.Common.{◌≡◌, ◌<◌, ◌≤◌, ℕ, List, [], ◌∷◌, map, length, string_bytes, IfOk, refl, sym, ap, ◌∙◌, subst, Err}
 use Rattle.form_one.specs.Answer.{local_at, IsDemandSize}
 use Rattle.boom_top.specs.Commands.{request_of}
-use Rattle.boom_top.specs.Parts.{PrintsRuns, Sends}
+use Rattle.boom_top.specs.Parts.{PrintsRuns}
 use Rattle.boom_top.specs.Queries.{Query, limit}
-use Rattle.boom_top.specs.Replies.{IsReply, IsReplyTo, IsAnswerable, refusal, text_of}
+use Rattle.boom_top.specs.Replies.{IsReplyTo, refusal, text_of}
 use Rattle.boom_top.specs.Requests.{Request, IsRequest, NoRequest}
 use Rattle.boom_top.specs.declared.query.Reply.{Reply}
 use Rattle.boom_top.specs.declared.status.Status.{Status}

@@ -1,0 +1,5 @@
+pub mod Decls
+pub mod Bodies
+pub mod Members
+pub mod Classes
+pub mod Splits

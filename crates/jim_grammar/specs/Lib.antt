@@ -1,0 +1,10 @@
+pub mod Forms
+pub mod Sets
+pub mod Expressions
+pub mod Grammar
+pub mod Refusals
+pub mod Residuals
+pub mod Items
+pub mod Stacks
+pub mod Automata
+pub mod Laws

@@ -1,0 +1,15 @@
+use Rattle.std.proofs.Common.{sym, ◌∙◌, subst, rules, ◌≡◌, true}
+use denote.Enum.Bare.{same_true}
+use Rattle.jim_signs.specs.contracts.lead.Lead.{the_type}
+use Rattle.jim_signs.specs.contracts.lead.LeadPartialEq.TheImpl.{eq-value}
+use Rattle.jim_signs.specs.declared.lead.Lead.{Lead}
+use Rattle.jim_stmts.proofs.reader.Reader.is_at.Goals as goal
+
+same : (x : Lead) → (eq-value).it x x ≡ true
+same x = search rules
+
+pub returns : goal.returns
+returns c = (
+  (λ h. sym c.lead.ensures ∙ same_true the_type (search rules) _ _ (sym c.eq.ensures ∙ h)),
+  λ e. c.eq.ensures ∙ subst (λ z. (eq-value).it c.lead.result z ≡ true) (c.lead.ensures ∙ e) (same c.lead.result),
+)
