@@ -6,9 +6,9 @@ use Rattle.form_one.specs.Answer.{local_at, IsDemandSize}
 use Rattle.form_one.specs.Query.{IsOver}
 use Rattle.form_one.proofs.Sizes.{IsOver-size}
 use Rattle.jim_text.proofs.ReadLemmas.{read_same, stop_no_list}
-use Rattle.jim_parse.specs.Derives.{Spells, IsRefusedAt}
+use Rattle.jim_parse.specs.Derives.{IsRefusedAt}
 use Rattle.jim_parse.proofs.PlaceLemmas.{one_place}
-use Rattle.jim_parse.proofs.ProgramLemmas.{derives_any, same_tokens}
+use Rattle.jim_parse.proofs.ProgramLemmas.{derives_any, same_tokens, spells_one}
 use Rattle.boom_top.specs.Requests.{Request}
 use Rattle.boom_top.specs.Queries.{IsFirstForm, IsPlace, IsMissing, Query, limit}
 use Rattle.boom_top.specs.Replies.{IsAnswered, IsReplyTo, IsUnread, refusal}
@@ -92,13 +92,12 @@ module _ (r : Request) (bytes : List ℕ) where
 
   -- of a program that alone is spelled
   module _ (program : Program) (main : Main) (short : length bytes ≤ limit) (form : IsFirstForm bytes r.entry program main)
-      (only : (p : Program) (m : Main) → IsFirstForm bytes r.entry p m → (program ≡ p) × (main ≡ m))
-      (one_program : (other : Program) → Spells bytes other → other ≡ program) where
+      (only : (p : Program) (m : Main) → IsFirstForm bytes r.entry p m → (program ≡ p) × (main ≡ m)) where
     -- there is no reason why it isn't read
     read : (t : Status) → IsUnread bytes r.entry t → ⊥
     read (NotText at) unread = stop_no_list unread form.spelled.tokens form.spelled.lexed
     read (NotJimple at) unread = unread.2.none program (derives_any bytes unread.0 program unread.1 form.spelled)
-    read (Unsupported index) unread = unread.2 main (subst (λ (p : Program). IsFirstForm bytes r.entry p main) (sym (one_program unread.0 unread.1)) form)
+    read (Unsupported index) unread = unread.2 main (subst (λ (p : Program). IsFirstForm bytes r.entry p main) (spells_one bytes program unread.0 form.spelled unread.1) form)
     read _ unread = unread
 
     -- a query is one of this program

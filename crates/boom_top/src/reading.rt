@@ -34,7 +34,6 @@ fn are_few(main: &Main) -> bool
 fn read(alloc: Global, bytes: &[u8]) -> Result<Result<Program, Status>, NoMemory>
     requires { length bytes.now ≤ limit }
     ensures spelled { IfOk result (λ read. IfOk read (Spells bytes.now)) }
-    ensures only { IfOk result (λ read. IfOk read (λ program. (other : Program) → Spells bytes.now other → other ≡ program)) }
     ensures unread { IfOk result (λ read. (status : Status) → read ≡ Err status → (entry : List ℕ) → IsUnread bytes.now entry status) }
     ensures none { IfOk result (λ read. (status : Status) → read ≡ Err status → (program : Program) → ¬ Spells bytes.now program) }
 {
@@ -80,7 +79,6 @@ pub(crate) fn read_form(
     ensures few { IfOk result (λ read. IfOk read (λ r. AreFew r.main)) }
     ensures only { IfOk result (λ read. IfOk read (λ r. (program : Program) (main : Main) → IsFirstForm bytes.now entry.now program main
         → (r.program ≡ program) × (r.main ≡ main))) }
-    ensures spelled { IfOk result (λ read. IfOk read (λ r. (other : Program) → Spells bytes.now other → other ≡ r.program)) }
     ensures unread { IfOk result (λ read. (status : Status) → read ≡ Err status → IsUnread bytes.now entry.now status) }
     ensures none { IfOk result (λ read. (status : Status) → read ≡ Err status → (program : Program) (main : Main) → ¬ IsFirstForm bytes.now entry.now program main) }
 {

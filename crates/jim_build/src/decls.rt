@@ -11,6 +11,7 @@ ghost use Rattle.jim_build.specs.Decls.{locals_in, locals_of};
 ghost use Rattle.jim_build.specs.Splits.{declared, declared_by};
 
 use jim_ast::{List, NameId, NoMemory};
+use jim_grammar::LeadSet;
 use jim_signs::Lead;
 use jim_stmts::{Reader, names, ty};
 use std::alloc::Global;
@@ -18,25 +19,13 @@ use std::alloc::Global;
 fn is_odd_type(lead: Lead) -> bool
     ensures { result ≡ is_odd_type lead }
 {
-    matches!(lead, Lead::Unknown | Lead::NullType)
+    LeadSet::OddTypes.contains(lead)
 }
 
 fn is_type_word(word: Lead) -> bool
     ensures { word ≢ lead.Name → result ≡ is_base word || is_odd_type word }
 {
-    matches!(
-        word,
-        Lead::Boolean
-            | Lead::Byte
-            | Lead::Short
-            | Lead::Char
-            | Lead::Int
-            | Lead::Long
-            | Lead::Float
-            | Lead::Double
-            | Lead::Unknown
-            | Lead::NullType
-    )
+    LeadSet::Bases.contains(word) || LeadSet::OddTypes.contains(word)
 }
 
 // Whether a name with these two tokens behind it is a type.

@@ -8,6 +8,7 @@ ghost use Rattle.jim_stmts.specs.Leads.{lead_at};
 ghost use Rattle.jim_build.specs.Members as meaning;
 ghost use Rattle.jim_build.specs.Splits.{flags_of};
 
+use jim_grammar::LeadSet;
 use jim_signs::Lead;
 use jim_stmts::Reader;
 
@@ -22,22 +23,7 @@ pub(crate) struct Flags {
 fn is_modifier(lead: Lead) -> bool
     ensures { result ≡ is_modifier lead }
 {
-    matches!(
-        lead,
-        Lead::Abstract
-            | Lead::Final
-            | Lead::Native
-            | Lead::Public
-            | Lead::Protected
-            | Lead::Private
-            | Lead::Static
-            | Lead::Synchronized
-            | Lead::Transient
-            | Lead::Volatile
-            | Lead::Strictfp
-            | Lead::Enum
-            | Lead::Annotation
-    )
+    LeadSet::Modifiers.contains(lead)
 }
 
 // The flags with those of one more modifier.

@@ -13,6 +13,7 @@ use super::operands::args;
 use super::reader::Reader;
 use super::signatures::method_sig;
 use jim_ast::{Invoke, Mode, NoMemory};
+use jim_grammar::LeadSet;
 use jim_signs::Lead;
 use std::alloc::Global;
 
@@ -75,10 +76,7 @@ fn on_class(alloc: Global, reader: &mut Reader) -> Result<Invoke, NoMemory>
 fn goes_on(reader: &Reader) -> bool
     ensures { IsTrue result ↔ GoesOn reader.now }
 {
-    !matches!(
-        reader.lead(),
-        Lead::Semicolon | Lead::OpenBrace | Lead::CloseBrace | Lead::Other
-    )
+    LeadSet::NotEnds.contains(reader.lead())
 }
 
 // A call that is linked when it runs, up to the `;`.

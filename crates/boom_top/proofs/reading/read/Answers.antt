@@ -6,10 +6,6 @@ use Rattle.boom_top.specs.declared.status.Status.TheVariants as status
 use Rattle.jim_parse.proofs.ProgramLemmas.{derives_any}
 use Rattle.boom_top.proofs.reading.read.Goals as goal
 
-pub returns-in-Ok-parse-clause-only : goal.returns-in-Ok-parse-clause-only
-returns-in-Ok-parse-clause-only c = λ other spells.
-    c.in-Ok-parse.ensures.only other (derives_any c.args.bytes.now c.deref.result.now other (rw c.deref.ensures.value c.in-Ok.ensures.tokens) spells)
-
 pub returns-in-Err-NotJimple-clause-unread : goal.returns-in-Err-NotJimple-clause-unread
 returns-in-Err-NotJimple-clause-unread c = λ s is entry.
     let same : status.NotJimple c.in-Err-NotJimple.at ≡ s = cc in

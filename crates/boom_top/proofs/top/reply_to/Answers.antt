@@ -5,7 +5,6 @@ use Rattle.boom_top.specs.Commands.{request_of}
 use Rattle.boom_top.specs.Queries.{IsFirstForm, IsMissing, IsPlace}
 use Rattle.boom_top.specs.Parts.{Answers, PrintsRuns}
 use Rattle.boom_top.specs.Replies.{IsUnread, refusal, text_of}
-use Rattle.jim_parse.specs.Derives.{Spells}
 use Rattle.boom_top.specs.declared.query.Reply.{Reply}
 use Rattle.boom_top.specs.declared.status.Which.{Which}
 use Rattle.boom_top.specs.declared.status.Status.{Status}
@@ -24,9 +23,6 @@ unread c = (rw c.in-Err.is at c.in_ok-reading.ensures.unread) c.in-Err.status re
 only : (c : In-Ok) (program : Program) (main : Main) → IsFirstForm c.args.bytes.now c.args.command.now.entry.now program main
     → (c.in-Ok.reading.program ≡ program) × (c.in-Ok.reading.main ≡ main)
 only c program main form = (rw c.in-Ok.is at c.in_ok-reading.ensures.only) program main form
-
-one_program : (c : In-Ok) (other : Program) → Spells c.args.bytes.now other → other ≡ c.in-Ok.reading.program
-one_program c = rw c.in-Ok.is at c.in_ok-reading.ensures.spelled
 
 form_of : (c : In-Ok) → IsFirstForm c.args.bytes.now c.args.command.now.entry.now c.in-Ok.reading.program c.in-Ok.reading.main
 form_of c = rw c.in-Ok.is at c.in_ok-reading.ensures.form
@@ -74,14 +70,14 @@ returns-in-Ok-2-clause-reply c' =
     let c = (goal.at.returns-in-Ok-2-clause-reply c').In-Ok-2 in
     let some = (goal.at.returns-in-Ok-2-clause-reply c').In-Ok in
     IfOk-one c'.answer.result (Replies c) _ c'.answer.ensures.reply
-    (λ reply h. (h.0, answers-reply _ _ _ _ c'.requires (form_of some) (only some) (one_program some) c.in-Ok-2.local (place c) (one c) reply.status h.0 h.1, h.2))
+    (λ reply h. (h.0, answers-reply _ _ _ _ c'.requires (form_of some) (only some) c.in-Ok-2.local (place c) (one c) reply.status h.0 h.1, h.2))
 
 pub returns-in-Ok-2-clause-only : goal.returns-in-Ok-2-clause-only
 returns-in-Ok-2-clause-only c' =
     let c = (goal.at.returns-in-Ok-2-clause-only c').In-Ok-2 in
     let some = (goal.at.returns-in-Ok-2-clause-only c').In-Ok in
     IfOk-one c'.answer.result (Replies c) _ c'.answer.ensures.reply
-    (λ reply h. answers-only _ _ _ _ c'.requires (form_of some) (only some) (one_program some) c.in-Ok-2.local (place c) (one c) reply.status h.0 h.1)
+    (λ reply h. answers-only _ _ _ _ c'.requires (form_of some) (only some) c.in-Ok-2.local (place c) (one c) reply.status h.0 h.1)
 
 pub returns-in-Ok-2-clause-sound : goal.returns-in-Ok-2-clause-sound
 returns-in-Ok-2-clause-sound c' =
@@ -89,7 +85,7 @@ returns-in-Ok-2-clause-sound c' =
     let some = (goal.at.returns-in-Ok-2-clause-sound c').In-Ok in
     IfOk-one c'.answer.result (λ (reply : Reply). reply.status ≡ status.Done
     → PrintsRuns (request_of c.args.command.now) c.in-Ok.reading.program c.in-Ok.reading.main c.in-Ok-2.local (string_bytes reply.text)) _ c'.answer.ensures.sound
-    (λ reply h done. printed _ _ _ _ c'.requires (form_of some) (only some) (one_program some) c.in-Ok-2.local (place c) (one c) (string_bytes reply.text) (h done))
+    (λ reply h done. printed _ _ _ _ c'.requires (form_of some) (only some) c.in-Ok-2.local (place c) (one c) (string_bytes reply.text) (h done))
 
 -- the part that is missing
 missing : (c : In-Err-2) → IsMissing (request_of c.args.command.now) c.in-Ok.reading.program c.in-Ok.reading.main c.in-Err-2.which
@@ -112,7 +108,7 @@ returns-clause-only c' =
     let c = (goal.at.returns-clause-only c').In-Err-2 in
     let some = (goal.at.returns-clause-only c').In-Ok in
     IfOk-one c'.refused-in-Err-2.result (λ (reply : Reply). reply.status ≡ status.NoSuchPlace c.in-Err-2.which) _ c'.refused-in-Err-2.ensures.status
-    (λ reply is s lines h. missing-only _ _ _ _ c'.requires (form_of some) (only some) (one_program some) c.in-Err-2.which (missing c) s lines h ∙ sym is)
+    (λ reply is s lines h. missing-only _ _ _ _ c'.requires (form_of some) (only some) c.in-Err-2.which (missing c) s lines h ∙ sym is)
 
 pub returns-in-Err-clause-enough : goal.returns-in-Err-clause-enough
 returns-in-Err-clause-enough c = λ q size demand le. absurd (none (goal.at.returns-in-Err-clause-enough c).In-Err q.program q.main q.form)
@@ -122,10 +118,10 @@ returns-in-Ok-2-clause-enough c' = λ q size demand le.
     let c = (goal.at.returns-in-Ok-2-clause-enough c').In-Ok-2 in
     let some = (goal.at.returns-in-Ok-2-clause-enough c').In-Ok in
     IfOk-one c'.answer.result (Replies c) _ c'.answer.ensures.reply
-    (λ reply h. answers-enough _ _ _ _ c'.requires (form_of some) (only some) (one_program some) c.in-Ok-2.local (place c) (one c) reply.status h.0 h.1 q size demand le)
+    (λ reply h. answers-enough _ _ _ _ c'.requires (form_of some) (only some) c.in-Ok-2.local (place c) (one c) reply.status h.0 h.1 q size demand le)
 
 pub returns-clause-enough : goal.returns-clause-enough
 returns-clause-enough c' = λ q size demand le.
     let c = (goal.at.returns-clause-enough c').In-Err-2 in
     let some = (goal.at.returns-clause-enough c').In-Ok in
-    absurd (missing-query _ _ _ _ c'.requires (form_of some) (only some) (one_program some) c.in-Err-2.which (missing c) q)
+    absurd (missing-query _ _ _ _ c'.requires (form_of some) (only some) c.in-Err-2.which (missing c) q)
