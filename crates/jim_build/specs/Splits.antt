@@ -1,4 +1,5 @@
--- How the builder tells what is next, and where it splits declarations and members.
+-- How the builder tells what is next, and where it splits declarations and members. No clause of a public function speaks of these, and no meaning stands on
+-- them.
 use Rattle.std.specs.Prelude.{Bool, true, false, ◌||◌, ◌&&◌, List, [], ◌∷◌, is_none}
 use Rattle.jim_ast.specs.declared.syntax.FieldDecl.{FieldDecl}
 use Rattle.jim_ast.specs.declared.syntax.MethodDecl.{MethodDecl}
