@@ -24,10 +24,14 @@ fn has_only<W: Weight>(table: &Table<W>, weight: W) -> bool {
         && table.entries().len() == 2
 }
 
+fn holds_in<W: Weight>(table: &mut Table<W>, weight: W) -> Result<bool, AllocError> {
+    let raised = raise_twice(table, weight)?;
+    Ok(raised && has_only(table, weight))
+}
+
 fn holds<W: Weight>(alloc: Global, weight: W) -> Result<bool, AllocError> {
     let mut table = Table::new(alloc);
-    let raised = raise_twice(&mut table, weight)?;
-    Ok(raised && has_only(&table, weight))
+    holds_in(&mut table, weight)
 }
 
 #[test]
@@ -41,14 +45,14 @@ fn each_domain(rt: HostRuntime) -> Result<(), Fail> {
     Ok(())
 }
 
-fn fill(table: &mut Table<Least>) -> Result<(), AllocError> {
+fn filled(table: &mut Table<Least>) -> Result<bool, AllocError> {
     table.raise(BASE, 2, Least(u32::MAX))?;
     for (node, cost) in [(3, 9), (5, 2), (3, 4), (3, 6)] {
         table.raise(BASE, node, Least(cost))?;
     }
     table.raise_link(PUSHED, BASE, Least(8))?;
     table.raise_link(PUSHED, PUSHED, Least(3))?;
-    Ok(())
+    Ok(has_rows(table))
 }
 
 fn has_rows(table: &Table<Least>) -> bool {
@@ -79,10 +83,34 @@ fn has_rows(table: &Table<Least>) -> bool {
         && table.entries() == [BASE, PUSHED].as_slice()
 }
 
+fn fills(alloc: Global) -> Result<bool, AllocError> {
+    let mut table = Table::new(alloc);
+    filled(&mut table)
+}
+
 #[test]
 fn rows(rt: HostRuntime) -> Result<(), Fail> {
-    let mut table = Table::new(rt.alloc());
-    fill(&mut table)?;
-    assert!(rt; has_rows(&table));
+    assert!(rt; fills(rt.alloc())?);
+    Ok(())
+}
+
+/// What `raise` answers to 5, 5, 6 and 4 at one place, and then to 4 at another.
+fn answers(table: &mut Table<Least>) -> Result<[bool; 5], AllocError> {
+    let first = table.raise(BASE, 1, Least(5))?;
+    let same = table.raise(BASE, 1, Least(5))?;
+    let worse = table.raise(BASE, 1, Least(6))?;
+    let better = table.raise(BASE, 1, Least(4))?;
+    let elsewhere = table.raise(PUSHED, 1, Least(4))?;
+    Ok([first, same, worse, better, elsewhere])
+}
+
+fn answers_of_new(alloc: Global) -> Result<[bool; 5], AllocError> {
+    let mut table = Table::new(alloc);
+    answers(&mut table)
+}
+
+#[test]
+fn raise_says_whether_it_rose(rt: HostRuntime) -> Result<(), Fail> {
+    assert!(rt; answers_of_new(rt.alloc())? == [true, false, false, true, true]);
     Ok(())
 }

@@ -1,0 +1,20 @@
+use Rattle.std.proofs.Common.{ap, sym, subst, ◌∙◌, Some}
+use Rattle.auto_table.specs.declared.entry.Entry.TheVariants.{Pushed}
+use Rattle.auto_table.specs.Cells.{AreParents}
+use Rattle.std.proofs.lemmas.Option.{slice_get-get_or}
+use Rattle.post_star.proofs.Applies.{pushed_begins, pushed_goes, pushed_applied, decide_by}
+use Rattle.post_star.proofs.apply.pop_at_pushed.Goals as goal
+
+pub loop-linked-init : goal.loop-linked-init
+loop-linked-init g c = pushed_begins g.met.W.Weight.laws _ c.requires.told c.requires.sound c.args.node c.args.from c.args.mark c.args.to c.args.weight c.requires.listed c.deref-linked-items.result.now (subst (λ xs. AreParents g.W.Weight.domain c.args.table.now (Pushed c.args.node c.args.mark) xs) (sym (c.deref-linked-items.ensures.value ∙ c.in_ok-parents.ensures)) c.parents.ensures.each) c.args.items.now.items
+
+pub loop-linked-preserved : goal.loop-linked-preserved
+loop-linked-preserved g c = pushed_goes g.met.W.Weight.laws _ c.requires.told c.requires.sound c.args.node c.args.from c.args.mark c.args.to c.args.weight c.requires.listed c.deref-linked-items.result.now (subst (λ xs. AreParents g.W.Weight.domain c.args.table.now (Pushed c.args.node c.args.mark) xs) (sym (c.deref-linked-items.ensures.value ∙ c.in_ok-parents.ensures)) c.parents.ensures.each) c.loop-linked.linked-index c.linked-item.result c.at-first.result _
+    (slice_get-get_or c.deref-linked-items.result.now c.loop-linked.linked-index c.linked-item.result c.loop-linked-test.true ∙ ap Some (sym c.linked-item.is)) c.at-first.ensures
+    (c.extend-reached.ensures ∙ ap (λ x. g.W.Weight.domain.extend x c.args.weight) c.extend.ensures) c.loop-linked.invariant c.in_ok-rise.ensures
+
+pub returns-clause-progress : goal.returns-clause-progress
+returns-clause-progress g c = c.loop-linked.invariant.progress
+
+pub returns-clause-applied : goal.returns-clause-applied
+returns-clause-applied g c = pushed_applied g.met.W.Weight.laws _ c.requires.told c.requires.sound c.args.node c.args.from c.args.mark c.args.to c.args.weight c.requires.listed c.deref-linked-items.result.now (subst (λ xs. AreParents g.W.Weight.domain c.args.table.now (Pushed c.args.node c.args.mark) xs) (sym (c.deref-linked-items.ensures.value ∙ c.in_ok-parents.ensures)) c.parents.ensures.each) c.loop-linked.linked-index c.loop-linked-test.false (decide_by g.W.Weight.domain g.W.PartialEq.eq g.met.W.Weight.same g.met.W.Eq.laws.refl) c.loop-linked.invariant

@@ -1,0 +1,11 @@
+use Rattle.post_star.specs.Index.{Stays, Pops, PopsMark, StepsFrom}
+use Rattle.post_star.proofs.Found.{under_none}
+use Rattle.post_star.proofs.index.Index.new.Goals as goal
+
+pub returns : goal.returns
+returns g c = record {
+  stays = under_none Stays _ c.new.ensures;
+  pops = under_none Pops _ c.new-2.ensures;
+  marked = under_none PopsMark _ c.new-3.ensures;
+  below = under_none StepsFrom _ c.new-4.ensures;
+}

@@ -1,0 +1,17 @@
+use Rattle.post_star.specs.declared.key.Key.TheVariants.{Node}
+use Rattle.post_star.proofs.Applies.{progress_more}
+use Rattle.post_star.proofs.Loops.{listed_in, pops_listed, both_applied}
+use Rattle.post_star.proofs.turn.work_at.Goals as goal
+
+pub work_group-requires-clause-listed : goal.work_group-requires-clause-listed
+work_group-requires-clause-listed g c = listed_in c.args.system.now.index.now.stays (Node c.args.node) c.requires.index.stays c.at-stays.ensures
+
+pub work_group-requires-2-clause-listed : goal.work_group-requires-2-clause-listed
+work_group-requires-2-clause-listed g c = pops_listed g.met.W.Weight.laws _ c.requires.told c.args.system.now.index.now c.requires.index c.args.node c.args.entry c.pops_at-pops.result.now c.pops_at-pops.ensures.base c.pops_at-pops.ensures.pushed
+
+pub returns-clause-progress : goal.returns-clause-progress
+returns-clause-progress g c = progress_more g.met.W.Weight.laws _ c.requires.told c.requires.sound c.in_ok-work_group.ensures.progress c.in_ok-work_group-2.ensures.progress
+
+pub returns-clause-applied : goal.returns-clause-applied
+returns-clause-applied g c = both_applied g.met.W.Weight.laws _ c.requires.told c.args.system.now.index.now c.requires.index c.args.node c.args.entry c.at-stays.result.now c.pops_at-pops.result.now c.at-stays.ensures c.pops_at-pops.ensures.base c.pops_at-pops.ensures.pushed
+    c.in_ok-work_group-2.ensures.progress.kept c.in_ok-work_group.ensures.applied c.in_ok-work_group-2.ensures.applied

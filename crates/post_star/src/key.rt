@@ -1,0 +1,6 @@
+/// What rules and base steps are looked for by: a node, or a node or a base with a mark.
+#[derive(Clone, Copy, Debug, PartialEq, Eq, Hash)]
+pub enum Key {
+    Node(u32),
+    Marked { node: u32, mark: u32 },
+}

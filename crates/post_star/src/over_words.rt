@@ -1,0 +1,139 @@
+ghost use Rattle.std.specs.Prelude.{◌≡◌, ℕ, ◌≤◌, ◌++◌, ◌∷◌, [], OnOk, IfOk};
+ghost use Rattle.auto_table.specs.declared.entry.Entry.TheVariants.{Base, Pushed};
+ghost use Rattle.auto_table.specs.Cells.{weight_at, AreMeant, IsBlank};
+ghost use Rattle.post_star.specs.declared.rise.Item.TheVariants.{At};
+ghost use Rattle.post_star.specs.Measures.{work_left};
+ghost use Rattle.post_star.specs.Readings.{IsTableAny};
+ghost use Rattle.post_star.specs.Sweeps.{IsSweeping, AreBegun, IsSumAtBases, used_scope};
+
+use super::rise::{Item, rise};
+use auto_table::{Entry, NoMemory, Table};
+use std::alloc::Global;
+use std::collections::VecDeque;
+use weight_laws::Weight;
+
+/// The weights with which the entries have the node: each begins a reading of it.
+fn begin<W: Weight>(
+    table: &Table<W>,
+    sums: &mut Table<W>,
+    items: &mut VecDeque<Item>,
+    node: u32,
+) -> Result<(), NoMemory>
+    requires blank { IsBlank W.domain sums.old }
+    requires empty { items.old.items ≡ [] }
+    ensures meant { OnOk result (AreMeant W.domain table.now) }
+    ensures sweeping { OnOk result (IsSweeping W.domain table.now node sums.new items.new.items) }
+    ensures begun { OnOk result (AreBegun W.domain table.now node sums.new) }
+{
+    let entries = table.entries();
+    for entry in entries {
+        rise(sums, items, *entry, node, table.at(*entry, node))?;
+    }
+    Ok(())
+}
+
+/// Takes the sum of a pushed entry on to its parents.
+fn climb<W: Weight>(
+    table: &Table<W>,
+    sums: &mut Table<W>,
+    items: &mut VecDeque<Item>,
+    node: u32,
+    pushed: u32,
+    mark: u32,
+) -> Result<(), NoMemory>
+    requires sweeping { IsSweeping W.domain table.now node sums.old (items.old.items ++ At (Pushed pushed mark) node ∷ []) }
+    requires begun { AreBegun W.domain table.now node sums.old }
+    ensures sweeping { OnOk result (IsSweeping W.domain table.now node sums.new items.new.items) }
+    ensures begun { OnOk result (AreBegun W.domain table.now node sums.new) }
+    ensures spent { OnOk result (work_left W.domain (used_scope table.now node) sums.new items.new.items ≤ work_left W.domain (used_scope table.now node) sums.old items.old.items) }
+{
+    let entry = Entry::Pushed { node: pushed, mark };
+    let so_far = sums.at(entry, node);
+    let parents = table.parents(entry);
+    for linked in parents {
+        rise(
+            sums,
+            items,
+            linked.parent,
+            node,
+            linked.weight.extend(so_far),
+        )?;
+    }
+    Ok(())
+}
+
+/// Works on one item, which has left the list before. A base ends its readings: no link of it is followed.
+fn go_on<W: Weight>(
+    table: &Table<W>,
+    sums: &mut Table<W>,
+    items: &mut VecDeque<Item>,
+    node: u32,
+    item: Item,
+) -> Result<(), NoMemory>
+    requires sweeping { IsSweeping W.domain table.now node sums.old (items.old.items ++ item ∷ []) }
+    requires begun { AreBegun W.domain table.now node sums.old }
+    ensures sweeping { OnOk result (IsSweeping W.domain table.now node sums.new items.new.items) }
+    ensures begun { OnOk result (AreBegun W.domain table.now node sums.new) }
+    ensures spent { OnOk result (work_left W.domain (used_scope table.now node) sums.new items.new.items ≤ work_left W.domain (used_scope table.now node) sums.old items.old.items) }
+{
+    match item {
+        Item::At { entry, node: _ } => match entry {
+            Entry::Base(_) => Ok(()),
+            Entry::Pushed { node: pushed, mark } => climb(table, sums, items, node, pushed, mark),
+        },
+        Item::Between { .. } => Ok(()),
+    }
+}
+
+/// The sum of a base; that of another entry is none.
+fn sum_of_base<W: Weight>(sums: &Table<W>, node: u32, entry: Entry) -> W
+    ensures base { (b : ℕ) → entry ≡ Base b → result ≡ weight_at W.domain sums.now (Base b) node }
+    ensures other { (pushed mark : ℕ) → entry ≡ Pushed pushed mark → result ≡ W.domain.zero }
+{
+    match entry {
+        Entry::Base(_) => sums.at(entry, node),
+        Entry::Pushed { .. } => W::zero(),
+    }
+}
+
+/// The combination of the sums of all bases.
+fn sum_at_bases<W: Weight>(sums: &Table<W>, node: u32) -> W
+    ensures { IsSumAtBases W.domain sums.now node result }
+{
+    let entries = sums.entries();
+    let mut sum = W::zero();
+    for entry in entries {
+        sum = sum.combine(sum_of_base(sums, node, *entry));
+    }
+    sum
+}
+
+/// Takes the weights of the node up to the bases: the sums of all entries, in a table that was blank.
+fn sum_up<W: Weight>(
+    alloc: Global,
+    table: &Table<W>,
+    sums: &mut Table<W>,
+    node: u32,
+) -> Result<(), NoMemory>
+    requires { IsBlank W.domain sums.old }
+    ensures meant { OnOk result (AreMeant W.domain table.now) }
+    ensures sweeping { OnOk result (IsSweeping W.domain table.now node sums.new []) }
+    ensures begun { OnOk result (AreBegun W.domain table.now node sums.new) }
+{
+    let mut items = VecDeque::new(alloc);
+    begin(table, sums, &mut items, node)?;
+    while let Some(item) = items.pop_front() {
+        go_on(table, sums, &mut items, node, item)?;
+    }
+    Ok(())
+}
+
+/// The combination of the weights of all readings of the node with any word, of any table. Links may form circles: a
+/// list of what still goes on ends by the heights.
+pub fn any_value<W: Weight>(alloc: Global, table: &Table<W>, node: u32) -> Result<W, NoMemory>
+    ensures { IfOk result (λ v. IsTableAny W.domain table.now node v) }
+{
+    let mut sums = Table::new(alloc);
+    sum_up(alloc, table, &mut sums, node)?;
+    Ok(sum_at_bases(&sums, node))
+}

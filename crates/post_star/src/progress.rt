@@ -1,0 +1,59 @@
+ghost use Rattle.std.specs.Prelude.{◌≡◌, []};
+ghost use Rattle.auto_table.specs.Cells.{IsBlank};
+ghost use Rattle.post_star.specs.Index.{IsIndex};
+
+use super::index::Index;
+use auto_table::Table;
+use std::alloc::Global;
+use weight_laws::Weight;
+
+/// How far a saturation has come.
+#[derive(Drop)]
+pub struct Progress<W: Weight> {
+    /// Where the rules that are done, and the steps, are looked for.
+    pub index: Index<W>,
+    pub table: Table<W>,
+    /// How many base steps the index has.
+    pub filed: usize,
+    /// How many rules the index has. They are done in the table.
+    pub taken: usize,
+    /// How many starts are in the table.
+    pub begun: usize,
+}
+
+impl<W: Weight> Progress<W> {
+    /// Nothing is done. It takes no memory.
+    pub fn new(alloc: Global) -> Self
+        ensures index { IsIndex {W = W} [] [] result.index }
+        ensures table { IsBlank W.domain result.table }
+        ensures filed { result.filed ≡ 0 }
+        ensures taken { result.taken ≡ 0 }
+        ensures begun { result.begun ≡ 0 }
+    {
+        Progress {
+            index: Index::new(alloc),
+            table: Table::new(alloc),
+            filed: 0,
+            taken: 0,
+            begun: 0,
+        }
+    }
+
+    /// Gives up all that was done, with its memory.
+    pub fn give_up(&mut self, alloc: Global)
+        ensures index { IsIndex {W = W} [] [] self.new.index }
+        ensures table { IsBlank W.domain self.new.table }
+        ensures filed { self.new.filed ≡ 0 }
+        ensures taken { self.new.taken ≡ 0 }
+        ensures begun { self.new.begun ≡ 0 }
+    {
+        *self = Progress::new(alloc);
+    }
+
+    /// The table, taken out.
+    pub fn into_table(self) -> Table<W>
+        ensures { result ≡ self.table }
+    {
+        self.table
+    }
+}

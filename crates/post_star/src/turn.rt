@@ -1,0 +1,170 @@
+ghost use Rattle.std.specs.Prelude.{◌≡◌, ◌≤◌, ◌++◌, ◌∷◌, [], OnOk};
+ghost use Rattle.auto_table.specs.declared.rule.Rule.{Rule as ARule};
+ghost use Rattle.auto_table.specs.declared.entry.Entry.TheVariants.{Pushed};
+ghost use Rattle.auto_table.specs.Lists.{Has};
+ghost use Rattle.post_star.specs.Index.{from_of, IsIndex};
+ghost use Rattle.post_star.specs.Measures.{Scope, IsScope, IsWithin, work_left};
+ghost use Rattle.post_star.specs.Works.{IsTold, IsSound, IsProgress, IsApplied, IsAppliedBetween, IsSettling, IsClosed};
+
+use super::apply::{apply_at, apply_between};
+use super::copies::copied;
+use super::key::Key;
+use super::rise::Item;
+use super::system::System;
+use auto_table::{Entry, NoMemory, Rule, Table};
+use std::alloc::Global;
+use std::collections::VecDeque;
+use weight_laws::Weight;
+
+/// What is told of each item that is worked on.
+pub trait Watch {
+    fn takes(&mut self, item: Item);
+}
+
+/// Takes no notice.
+#[derive(Clone, Copy, Debug)]
+pub struct Unwatched;
+
+impl Watch for Unwatched {
+    fn takes(&mut self, _item: Item) {}
+}
+
+/// Does all rules of the group at the entry.
+fn work_group<W: Weight>(
+    alloc: Global,
+    system: &System<'_, W>,
+    table: &mut Table<W>,
+    items: &mut VecDeque<Item>,
+    group: &[Rule<W>],
+    entry: Entry,
+) -> Result<(), NoMemory>
+    requires told { IsTold W.domain system.now.rules.now system.now.starts.now }
+    requires index { IsIndex system.now.rules.now system.now.steps.now system.now.index.now }
+    requires sound { IsSound W.domain system.now.rules.now system.now.starts.now system.now.steps.now table.old }
+    requires listed { (rule : ARule W) → Has group.now rule → Has system.now.rules.now rule }
+    ensures progress { OnOk result (IsProgress W.domain system.now.rules.now system.now.starts.now system.now.steps.now table.old table.new items.old.items items.new.items entry) }
+    ensures applied { OnOk result ((rule : ARule W) → Has group.now rule → IsApplied W.domain system.now.steps.now table.new items.new.items rule entry) }
+{
+    for rule in group {
+        apply_at(alloc, system, table, items, rule, entry)?;
+    }
+    Ok(())
+}
+
+/// Does all rules that lead from the node at the entry. Of the pops a pushed entry needs those of its mark alone.
+fn work_at<W: Weight>(
+    alloc: Global,
+    system: &System<'_, W>,
+    table: &mut Table<W>,
+    items: &mut VecDeque<Item>,
+    entry: Entry,
+    node: u32,
+) -> Result<(), NoMemory>
+    requires told { IsTold W.domain system.now.rules.now system.now.starts.now }
+    requires index { IsIndex system.now.rules.now system.now.steps.now system.now.index.now }
+    requires sound { IsSound W.domain system.now.rules.now system.now.starts.now system.now.steps.now table.old }
+    ensures progress { OnOk result (IsProgress W.domain system.now.rules.now system.now.starts.now system.now.steps.now table.old table.new items.old.items items.new.items entry) }
+    ensures applied { OnOk result ((rule : ARule W) → Has system.now.rules.now rule → from_of rule ≡ node → IsApplied W.domain system.now.steps.now table.new items.new.items rule entry) }
+{
+    let stays = system.index.stays.at(Key::Node(node));
+    work_group(alloc, system, table, items, stays, entry)?;
+    let pops = system.index.pops_at(entry, node);
+    work_group(alloc, system, table, items, pops, entry)?;
+    Ok(())
+}
+
+/// Does the pops from the node at the link of a pushed entry.
+fn work_between_at<W: Weight>(
+    system: &System<'_, W>,
+    table: &mut Table<W>,
+    items: &mut VecDeque<Item>,
+    pushed: u32,
+    mark: u32,
+    parent: Entry,
+    node: u32,
+) -> Result<(), NoMemory>
+    requires told { IsTold W.domain system.now.rules.now system.now.starts.now }
+    requires index { IsIndex system.now.rules.now system.now.steps.now system.now.index.now }
+    requires sound { IsSound W.domain system.now.rules.now system.now.starts.now system.now.steps.now table.old }
+    ensures progress { OnOk result (IsProgress W.domain system.now.rules.now system.now.starts.now system.now.steps.now table.old table.new items.old.items items.new.items parent) }
+    ensures applied { OnOk result ((rule : ARule W) → Has system.now.rules.now rule → from_of rule ≡ node → IsAppliedBetween W.domain system.now.steps.now table.new items.new.items rule (Pushed pushed mark) parent) }
+{
+    let child = Entry::Pushed { node: pushed, mark };
+    let group = system.index.marked.at(Key::Marked { node, mark });
+    for rule in group {
+        apply_between(system, table, items, rule, child, parent)?;
+    }
+    Ok(())
+}
+
+/// Does the pops at the link of a pushed entry, over the nodes of the entry.
+fn work_between<W: Weight>(
+    alloc: Global,
+    system: &System<'_, W>,
+    table: &mut Table<W>,
+    items: &mut VecDeque<Item>,
+    pushed: u32,
+    mark: u32,
+    parent: Entry,
+) -> Result<(), NoMemory>
+    requires told { IsTold W.domain system.now.rules.now system.now.starts.now }
+    requires index { IsIndex system.now.rules.now system.now.steps.now system.now.index.now }
+    requires sound { IsSound W.domain system.now.rules.now system.now.starts.now system.now.steps.now table.old }
+    ensures progress { OnOk result (IsProgress W.domain system.now.rules.now system.now.starts.now system.now.steps.now table.old table.new items.old.items items.new.items parent) }
+    ensures applied { OnOk result ((rule : ARule W) → Has system.now.rules.now rule → IsAppliedBetween W.domain system.now.steps.now table.new items.new.items rule (Pushed pushed mark) parent) }
+{
+    // A node that the child reaches later waits as an item of its own.
+    let row = copied(alloc, table.row(Entry::Pushed { node: pushed, mark }))?;
+    for reached in &row {
+        work_between_at(system, table, items, pushed, mark, parent, reached.node)?;
+    }
+    Ok(())
+}
+
+/// Works on one item, which has left the list before.
+fn turn<W: Weight>(
+    alloc: Global,
+    system: &System<'_, W>,
+    table: &mut Table<W>,
+    items: &mut VecDeque<Item>,
+    item: Item,
+) -> Result<(), NoMemory>
+    requires told { IsTold W.domain system.now.rules.now system.now.starts.now }
+    requires index { IsIndex system.now.rules.now system.now.steps.now system.now.index.now }
+    requires settling { IsSettling W.domain system.now.rules.now system.now.starts.now system.now.steps.now table.old (items.old.items ++ item ∷ []) }
+    ensures settling { OnOk result (IsSettling W.domain system.now.rules.now system.now.starts.now system.now.steps.now table.new items.new.items) }
+    ensures spent { OnOk result ((u : Scope) → IsScope system.now.rules.now system.now.steps.now u → IsWithin W.domain u table.old (items.old.items ++ item ∷ []) → IsWithin W.domain u table.new items.new.items × (work_left W.domain u table.new items.new.items ≤ work_left W.domain u table.old items.old.items)) }
+{
+    match item {
+        Item::At { entry, node } => work_at(alloc, system, table, items, entry, node)?,
+        Item::Between { child, parent } => match child {
+            // Nothing is popped over a link of a base.
+            Entry::Base(_) => {}
+            Entry::Pushed { node, mark } => {
+                work_between(alloc, system, table, items, node, mark, parent)?
+            }
+        },
+    }
+    Ok(())
+}
+
+/// Works on all that waits. It ends, since each turn takes an item, and each item comes with a rise of a weight.
+pub fn run<W: Weight, V: Watch>(
+    alloc: Global,
+    system: &System<'_, W>,
+    table: &mut Table<W>,
+    items: &mut VecDeque<Item>,
+    watch: &mut V,
+) -> Result<(), NoMemory>
+    requires told { IsTold W.domain system.now.rules.now system.now.starts.now }
+    requires index { IsIndex system.now.rules.now system.now.steps.now system.now.index.now }
+    requires settling { IsSettling W.domain system.now.rules.now system.now.starts.now system.now.steps.now table.old items.old.items }
+    ensures sound { OnOk result (IsSound W.domain system.now.rules.now system.now.starts.now system.now.steps.now table.new) }
+    ensures closed { OnOk result (IsClosed W.domain system.now.rules.now system.now.starts.now system.now.steps.now table.new) }
+{
+    while let Some(item) = items.pop_front() {
+        watch.takes(item);
+        turn(alloc, system, table, items, item)?;
+    }
+    Ok(())
+}
