@@ -1,5 +1,5 @@
 -- What the look-ups of a tree rest on.
-use Rattle.std.proofs.Common.{◌≡◌, ℕ, suc, ◌<◌, ◌≤◌, ◌⊎◌, ◌↔◌, Bool, Option, Some, None, IsTrue, List, [], ◌∷◌, ◌++◌, length, get_or, slice_get, take, drop, refl, sym, ap, subst, ◌∙◌, inl, inr, arith}
+use Rattle.std.proofs.Common.{◌≡◌, ℕ, suc, ◌<◌, ◌≤◌, ◌⊎◌, ◌↔◌, Bool, Option, Some, None, IsTrue, IfSome, List, [], ◌∷◌, ◌++◌, length, get_or, slice_get, take, drop, refl, sym, ap, subst, ◌∙◌, inl, inr, arith}
 use Rattle.std.specs.List.{Contains, All}
 use Rattle.std.specs.Option.{option_or}
 use Rattle.std.proofs.lemmas.List.{take-append-drop}
@@ -37,6 +37,11 @@ below_or a b = grind arith
 -- a class one step above is one
 pub step-above : (rows : Rows) → IsHierarchy rows → (a b : ℕ) → Step rows.classes rows.implements a b → b < length rows.classes
 step-above rows s a b st = elim (below_or b (length rows.classes)) [ inl h ↦ h | inr h ↦ absurd (s.known a (b, st, h)) ]
+
+-- the parent of a class is one
+pub known_parent : (rows shown : Rows) (a : ℕ) (d : ClassRow) → IsHierarchy rows → shown ≡ rows → a < length rows.classes → d ≡ get_or shown.classes a d → (r : Option ℕ) → d.parent ≡ r → IfSome r (λ b. b < length rows.classes)
+known_parent rows shown a d s e h is (Some p) names = step-above rows s a p (inl (row_parent rows shown a p d e h is names))
+known_parent rows shown a d s e h is None names = cc
 
 -- ---- what the spans tell
 

@@ -34,6 +34,9 @@ fn parents_alone(rt: HostRuntime) -> Result<(), Fail> {
     assert!(rt; tree.sub(2, 0));
     assert!(rt; !tree.sub(0, 2));
     assert!(rt; tree.sub(1, 1));
+    assert_eq!(rt; tree.parent(2), Some(1));
+    assert_eq!(rt; tree.parent(0), None);
+    assert!(rt; tree.interfaces(2).is_empty());
     Ok(())
 }
 
@@ -131,6 +134,8 @@ fn methods(rt: HostRuntime) -> Result<(), Fail> {
     assert_eq!(rt; tree.resolve(4, 8), None);
     assert_eq!(rt; tree.resolve(4, 9), Some(5));
     assert_eq!(rt; tree.resolve(4, 6), None);
+    assert_eq!(rt; tree.own_body(3, 7), Some(1));
+    assert_eq!(rt; tree.own_body(4, 7), None);
     assert!(rt; tree.declared(4, 8));
     assert!(rt; tree.declared(4, 6));
     assert!(rt; !tree.declared(3, 8));

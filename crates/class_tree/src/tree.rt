@@ -1,9 +1,9 @@
-ghost use Rattle.std.specs.Prelude.{◌≡◌, ℕ, ◌^◌, ◌<◌, ◌↔◌, length, All, IsTrue, IfOk, IfNone, IfSome, Err};
+ghost use Rattle.std.specs.Prelude.{◌≡◌, ℕ, ◌^◌, ◌<◌, ◌↔◌, length, All, IsTrue, IfOk, IfNone, IfSome, Some, Err};
 ghost use Rattle.class_tree.specs.Indexed.{HasFieldNear, IsFirstNear};
 ghost use Rattle.class_tree.specs.Paths.{IsLeast};
-ghost use Rattle.class_tree.specs.Rows.{rows_of, NameClasses, NamesUnknown, IsOwnAncestor, Step, Sub};
+ghost use Rattle.class_tree.specs.Rows.{rows_of, NameClasses, NamesUnknown, IsOwnAncestor, Step, Sub, HasParent, interfaces_of};
 ghost use Rattle.class_tree.specs.Tables.{IsFinishing, Under};
-ghost use Rattle.class_tree.specs.Lookups.{Resolve, Declared, FieldHere, FieldOf};
+ghost use Rattle.class_tree.specs.Lookups.{own_body, Resolve, Declared, FieldHere, FieldOf};
 
 use super::cycles::least_cyclic;
 use super::finish::{finish_order, tops_first};
@@ -20,8 +20,8 @@ use std::alloc::{AllocError, Global};
 use std::marker::Model;
 
 /// The hierarchy of the classes of some rows. Contracts see it as these rows. Its look-ups take no
-/// memory. `sub` and `declared` take a search in a short sorted list, `resolve` and `field` a hashed
-/// look-up for each parent on the way.
+/// memory. `sub` and `declared` take a search in a short sorted list, `own_body` a hashed look-up,
+/// `resolve` and `field` one for each parent on the way.
 #[derive(Drop)]
 pub struct Tree {
     rows: KeptRows,
@@ -153,6 +153,31 @@ impl Tree {
                 None => return None,
             }
         }
+    }
+
+    /// The row of the first method of the class itself with this key and a body.
+    pub fn own_body(&self, class: u32, key: u32) -> Option<u32>
+        ensures { result ≡ own_body self.now.methods class key }
+    {
+        self.members.bodies.get(class, key)
+    }
+
+    /// The parent of the class.
+    pub fn parent(&self, class: u32) -> Option<u32>
+        requires { class < length self.now.classes }
+        ensures parent { (b : ℕ) → (result ≡ Some b) ↔ HasParent self.now.classes class b }
+        ensures known { IfSome result (λ b. b < length self.now.classes) }
+    {
+        self.rows.classes[class as usize].parent
+    }
+
+    /// The interfaces that the class names, in order.
+    pub fn interfaces(&self, class: u32) -> &[u32]
+        requires { class < length self.now.classes }
+        ensures interfaces { result.now ≡ interfaces_of self.now.implements class }
+        ensures known { All (λ b. b < length self.now.classes) result.now }
+    {
+        self.interfaces.get(class as usize)
     }
 
     /// Whether the class or one that is reached from it has a method with this key.

@@ -35,7 +35,7 @@ completed_one (is_left_out old rest) p = on p old (λ two q. completed_one rest 
     on (is_left_out {all} also further) old ih = ih all further
 
 -- the first number with a fact, or the end, is one
-first_or_one : (end : ℕ) (P : ℕ → Type 0) (a b : ℕ) → IsFirstOr end P a → IsFirstOr end P b → a ≡ b
+pub first_or_one : (end : ℕ) (P : ℕ → Type 0) (a b : ℕ) → IsFirstOr end P a → IsFirstOr end P b → a ≡ b
 first_or_one end P a b p q = elim p [
   | inl least ↦ elim q [
     | inl other ↦ elim (cases_order a b) [

@@ -33,7 +33,7 @@ module _ (R : ℕ → ℕ → Type 0) where
   none_again y ys a irreflexive ordered same h = irreflexive (subst (R y) same (first_before y ys a ordered h))
 
   -- lists of the same elements that an asymmetric relation orders are one
-  ordered_one : (xs ys : List ℕ) → ((a b : ℕ) → Has xs a → Has xs b → R a b → R b a → ⊥) → ((a : ℕ) → Has xs a → Has ys a) → ((a : ℕ) → Has ys a → Has xs a)
+  pub ordered_one : (xs ys : List ℕ) → ((a b : ℕ) → Has xs a → Has xs b → R a b → R b a → ⊥) → ((a : ℕ) → Has xs a → Has ys a) → ((a : ℕ) → Has ys a → Has xs a)
       → AllPairs R xs → AllPairs R ys → xs ≡ ys
   ordered_one [] [] asymmetric to from p q = refl
   ordered_one [] (y ∷ ys) asymmetric to from p q = let h = from y (0, refl) in cc (h.1)

@@ -1,0 +1,68 @@
+//! The first place of each name of a list.
+ghost use Rattle.std.specs.Prelude.{◌≡◌, ◌∷◌, ◌++◌, [], List, IfOk, OnOk, length, map};
+ghost use Rattle.jim_ast.specs.declared.names.NameId.{NameId as ANameId};
+ghost use Rattle.link_bodies.specs.Places.{KnowsPlaces, label_names, place_at};
+
+use indexmap::IndexMap;
+use jim_ast::{Label, NameId, NoMemory};
+use std::alloc::{AllocError, Global};
+
+/// For each name of a list the first place at which it stands, from 0.
+#[derive(Drop)]
+pub(crate) struct FirstPlaces {
+    places: IndexMap<NameId, u32>,
+}
+
+impl FirstPlaces {
+    // No name yet. Takes no memory.
+    fn new(alloc: Global) -> Self
+        ensures { KnowsPlaces [] result }
+    {
+        FirstPlaces {
+            places: IndexMap::new(alloc),
+        }
+    }
+
+    /// The first place of a name.
+    pub(crate) fn find(&self, name: NameId) -> Option<u32>
+        ensures { result ≡ place_at self.now name }
+    {
+        self.places.get(&name).copied()
+    }
+
+    // Puts a name at the place behind all names so far. There is room for 4,294,967,295.
+    fn add(&mut self, name: NameId, place: usize) -> Result<(), NoMemory>
+        ensures { OnOk result ((names : List ANameId) → KnowsPlaces names self.old → place ≡ length names → KnowsPlaces (names ++ name ∷ []) self.new) }
+    {
+        if self.find(name).is_some() {
+            return Ok(());
+        }
+        let Ok(number) = u32::try_from(place) else {
+            return Err(AllocError);
+        };
+        self.places.insert(name, number)?;
+        Ok(())
+    }
+
+    /// The places of locals.
+    pub(crate) fn of_locals(alloc: Global, locals: &[NameId]) -> Result<Self, NoMemory>
+        ensures { IfOk result (KnowsPlaces locals.now) }
+    {
+        let mut places = FirstPlaces::new(alloc);
+        for (place, name) in locals.iter().enumerate() {
+            places.add(*name, place)?;
+        }
+        Ok(places)
+    }
+
+    /// The places of labels.
+    pub(crate) fn of_labels(alloc: Global, labels: &[Label]) -> Result<Self, NoMemory>
+        ensures { IfOk result (KnowsPlaces (label_names labels.now)) }
+    {
+        let mut places = FirstPlaces::new(alloc);
+        for (place, label) in labels.iter().enumerate() {
+            places.add(label.name, place)?;
+        }
+        Ok(places)
+    }
+}

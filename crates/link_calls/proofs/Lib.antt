@@ -1,0 +1,4 @@
+pub mod Found
+pub mod Keys
+pub mod Pairs
+pub mod Selecting

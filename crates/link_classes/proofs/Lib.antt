@@ -1,0 +1,14 @@
+pub mod EarlierNames
+pub mod FirstMembers
+pub mod FirstRefusals
+pub mod Growing
+pub mod KeyTests
+pub mod Known
+pub mod Naming
+pub mod NumberedMembers
+pub mod Numbering
+pub mod Parts
+pub mod Within
+pub mod DeclaredBodies
+pub mod HeldFacts
+pub mod RootNames

@@ -1,0 +1,13 @@
+use Rattle.std.proofs.Common.{◌++◌, ap, sym, ◌∙◌}
+use Rattle.link_rules.specs.Classes.{methods_in}
+use Rattle.link_classes.specs.Seen.{seen_class}
+use Rattle.link_classes.proofs.Growing.{members_more}
+use Rattle.link_classes.proofs.members.methods_in_order.Goals as goal
+
+pub loop-number-preserved : goal.loop-number-preserved
+loop-number-preserved c = record {
+  so_far = c.in_ok-push_methods.ensures.pushed ∙ ap (λ xs. xs ++ methods_in c.loop-number.number (seen_class c.index-classes-number.result)) c.loop-number.invariant.so_far
+      ∙ sym (members_more (λ k. methods_in k.0 k.1) c.as_slice-classes.result.now c.loop-number.number c.index-classes-number.result c.loop-number-test.true c.index-classes-number.is);
+  few = c.in_ok-push_methods.ensures.few;
+  known = c.in_ok-push_methods.ensures.known;
+}

@@ -1,0 +1,9 @@
+use Rattle.std.proofs.Common.{take}
+use Rattle.link_classes.specs.Numbered.{AreNumbers, Keeps}
+use Rattle.link_classes.proofs.names.add_names.Given as goal
+
+abbrev pub invariant-loop-at : goal.invariant-loop-at
+invariant-loop-at l = record {
+  numbers : AreNumbers l.texts (take l.at l.names) l.ids.items;
+  kept : Keeps l.fn.texts l.texts;
+}

@@ -1,0 +1,9 @@
+pub mod Classes
+pub mod Keyed
+pub mod Numbered
+pub mod Seen
+pub mod Tables
+pub mod MemberTables
+pub mod RowTables
+pub mod RootParts
+pub mod Held

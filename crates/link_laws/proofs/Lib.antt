@@ -1,0 +1,15 @@
+pub mod Lists
+pub mod Resolves
+pub mod Read
+pub mod Stands
+pub mod Members
+pub mod Calls
+pub mod Targets
+pub mod Parts
+pub mod Fitting
+pub mod Elements
+pub mod Methods
+pub mod Form
+pub mod CallCode
+pub mod Reaches
+pub mod Whole
