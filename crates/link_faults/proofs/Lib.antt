@@ -1,0 +1,12 @@
+pub mod BodyFaults
+pub mod FirstFaults
+pub mod FirstLabels
+pub mod Growing
+pub mod Lifting
+pub mod Named
+pub mod Placed
+pub mod RuleLists
+pub mod Scans
+pub mod Steps
+pub mod StmtParts
+pub mod Within

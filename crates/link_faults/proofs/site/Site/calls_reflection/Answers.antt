@@ -1,0 +1,5 @@
+use Rattle.link_faults.proofs.Placed.{call_class}
+use Rattle.link_faults.proofs.site.Site.calls_reflection.Goals as goal
+
+pub is_reflective-requires-clause-within : goal.is_reflective-requires-clause-within
+is_reflective-requires-clause-within c = call_class c.args.self.now c.requires c.in-Some.call c.in-Some.is

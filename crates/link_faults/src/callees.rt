@@ -1,0 +1,92 @@
+//! What a call names and may run, and the rules on it.
+ghost use Rattle.std.specs.Prelude.{◌≡◌, ◌<◌, ◌↔◌, ℕ, None, All, IfOk, IsTrue, length};
+ghost use Rattle.class_tree.specs.Lookups.{Resolve};
+ghost use Rattle.jim_ast.specs.Lists.{Has};
+ghost use Rattle.link_rules.specs.Classes.{methods_of};
+ghost use Rattle.link_rules.specs.Conditions.{AreWithin, method_sig_names};
+ghost use Rattle.link_rules.specs.Faults.{FindsNone};
+ghost use Rattle.link_classes.specs.Classes.{IsKnown};
+ghost use Rattle.link_classes.specs.Seen.{seen_method};
+ghost use Rattle.link_faults.specs.Callees.{IsCalleeOf};
+ghost use Rattle.link_faults.specs.Parts.{seen_call};
+ghost use Rattle.link_faults.specs.Sites.{IsNativeRow};
+
+use super::mentioned::class_number;
+use super::parts::Called;
+use jim_ast::{Mode, NoMemory};
+use link_calls::Targets;
+use link_classes::{Classes, MethodIn};
+use std::alloc::Global;
+
+/// The class and the key that a call names, and the methods that it may run.
+#[derive(Drop)]
+pub(crate) struct Callee {
+    pub(crate) class: u32,
+    pub(crate) key: u32,
+    pub(crate) rows: Vec<u32>,
+}
+
+// What a call names and may run, where its class is declared.
+pub(crate) fn callee_of(
+    alloc: Global,
+    targets: &mut Targets,
+    method: &MethodIn,
+    call: &Called,
+) -> Result<Option<Callee>, NoMemory>
+    requires known { IsKnown targets.old.texts method.now }
+    requires within { AreWithin (seen_method method.now).names (method_sig_names (seen_call call.now).sig) }
+    ensures same { targets.new ≡ targets.old }
+    ensures callee { IfOk result (IsCalleeOf targets.old.world (seen_method method.now).names (seen_call call.now)) }
+{
+    let classes = targets.classes();
+    let Some(class) = class_number(classes, method, call.sig.class) else {
+        return Ok(None);
+    };
+    let key = classes.called(alloc, method.ids, call.mode, call.sig)?;
+    let rows = targets.rows(call.mode, class, key)?;
+    Ok(Some(Callee { class, key, rows }))
+}
+
+// Whether look-up along the parents finds no method with a body.
+fn resolves_none(classes: &Classes, class: u32, key: u32) -> bool
+    requires { class < length classes.now.world.classes }
+    ensures { IsTrue result ↔ Resolve classes.now.world.rows class key None }
+{
+    classes.tree().resolve(class, key).is_none()
+}
+
+// Whether a call of this mode finds no method.
+pub(crate) fn finds_none(classes: &Classes, mode: Mode, class: u32, key: u32) -> bool
+    requires { class < length classes.now.world.classes }
+    ensures { IsTrue result ↔ FindsNone classes.now.world mode class key }
+{
+    match mode {
+        Mode::Special => resolves_none(classes, class, key),
+        Mode::Static => resolves_none(classes, class, key),
+        Mode::Virtual => !classes.tree().declared(class, key),
+        Mode::Interface => !classes.tree().declared(class, key),
+    }
+}
+
+// Whether there is a method with this number and it is native.
+fn is_native(classes: &Classes, row: u32) -> bool
+    ensures { IsTrue result ↔ IsNativeRow classes.now.world row }
+{
+    if row >= classes.method_count() {
+        return false;
+    }
+    let method = classes.method(row);
+    method.decl.body.is_none() && method.decl.is_native
+}
+
+// Whether one of the methods is native.
+pub(crate) fn has_native(classes: &Classes, rows: &[u32]) -> bool
+    ensures { IsTrue result ↔ ((row : ℕ) × Has rows.now row × IsNativeRow classes.now.world row) }
+{
+    for row in rows {
+        if is_native(classes, *row) {
+            return true;
+        }
+    }
+    false
+}

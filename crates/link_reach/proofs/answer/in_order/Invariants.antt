@@ -1,0 +1,6 @@
+use Rattle.jim_ast.specs.Lists.{Has}
+use Rattle.link_reach.specs.Reaches.{AreThose}
+use Rattle.link_reach.proofs.answer.in_order.Given as goal
+
+abbrev pub invariant-loop-number : goal.invariant-loop-number
+invariant-loop-number l = AreThose (Has l.found.keys) l.number-counter l.rows.items

@@ -1,0 +1,4 @@
+pub mod Firsts
+pub mod Graph
+pub mod Reaches
+pub mod Search
