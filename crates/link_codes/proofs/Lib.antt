@@ -1,0 +1,12 @@
+pub mod Accepted
+pub mod Arrays
+pub mod Called
+pub mod Contained
+pub mod Decided
+pub mod Increasing
+pub mod Numbered
+pub mod Present
+pub mod SideBySide
+pub mod Texts
+pub mod Used
+pub mod Whole

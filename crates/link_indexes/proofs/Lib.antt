@@ -1,0 +1,5 @@
+pub mod Filed
+pub mod Grown
+pub mod Laid
+pub mod Listed
+pub mod Tallied

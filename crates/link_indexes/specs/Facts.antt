@@ -1,0 +1,61 @@
+-- What an index lists a statement for.
+use Rattle.std.specs.Prelude.{◌≡◌, ℕ}
+use Rattle.jim_ast.specs.Lists.{Has}
+use Rattle.link_rules.specs.declared.code.Code.{Code}
+use Rattle.link_rules.specs.declared.code.Code.TheVariants.{Load, Store, LoadCell, StoreCell, LoadStatic, StoreStatic, Call, Return, Throw}
+use Rattle.link_rules.specs.Flow.{MayRaise}
+use Rattle.link_indexes.specs.declared.facts.Key.{Key}
+use Rattle.link_indexes.specs.declared.facts.Key.TheVariants as key
+use Rattle.link_indexes.specs.declared.facts.Kind.{Kind}
+use Rattle.link_indexes.specs.declared.facts.Kind.TheVariants as kind
+
+-- a call that may run the method
+abbrev pub Calls : ℕ → Code → Type 0
+Calls target (Call to mode class key receiver args targets) = Has targets target
+Calls target _ = ⊥
+
+-- a store into the instance field. The number 0 stands for the elements of arrays
+abbrev pub Stores : ℕ → Code → Type 0
+Stores field (Store base number arg) = field ≡ number
+Stores field (StoreCell base arg) = field ≡ 0
+Stores field _ = ⊥
+
+-- a load from the instance field, likewise
+abbrev pub Loads : ℕ → Code → Type 0
+Loads field (Load to base number) = field ≡ number
+Loads field (LoadCell to base) = field ≡ 0
+Loads field _ = ⊥
+
+-- a store into the static field
+abbrev pub StoresStatic : ℕ → Code → Type 0
+StoresStatic field (StoreStatic number arg) = field ≡ number
+StoresStatic field _ = ⊥
+
+-- a load from the static field
+abbrev pub LoadsStatic : ℕ → Code → Type 0
+LoadsStatic field (LoadStatic to number) = field ≡ number
+LoadsStatic field _ = ⊥
+
+-- a return from the method
+abbrev pub IsReturn : Code → Type 0
+IsReturn (Return arg) = Unit {0}
+IsReturn _ = ⊥
+
+-- a statement that an exception may come out of: a throw, a call, or one that may raise an implicit exception
+abbrev pub IsRaised : Code → Type 0
+IsRaised (Throw arg) = Unit {0}
+IsRaised (Call to mode class key receiver args targets) = Unit {0}
+IsRaised c = (k : ℕ) × MayRaise c k
+
+-- the statement has the number, as a key of this sort
+abbrev pub HasKey : Key → ℕ → Code → Type 0
+HasKey key.Target number c = Calls number c
+HasKey key.Stored number c = Stores number c
+HasKey key.Loaded number c = Loads number c
+HasKey key.StaticStored number c = StoresStatic number c
+HasKey key.StaticLoaded number c = LoadsStatic number c
+
+-- the statement is of this kind
+abbrev pub IsOfKind : Kind → Code → Type 0
+IsOfKind kind.Returns c = IsReturn c
+IsOfKind kind.Raised c = IsRaised c

@@ -1,0 +1,4 @@
+pub mod Facts
+pub mod Filings
+pub mod Rows
+pub mod Tables
