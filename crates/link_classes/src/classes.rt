@@ -3,7 +3,7 @@ ghost use Rattle.std.specs.Prelude.{◌≡◌, ◌≤◌, ◌<◌, ◌↔◌, �
 ghost use Rattle.jim_ast.specs.declared.names.NameId.{NameId as ANameId};
 ghost use Rattle.link_rules.specs.declared.refusal.LinkKind.{LinkKind as AKind};
 ghost use Rattle.class_tree.specs.Rows.{Step};
-ghost use Rattle.link_rules.specs.Classes.{IsNamed, fields_of, methods_of};
+ghost use Rattle.link_rules.specs.Classes.{DeclaredClass, IsNamed, class_name, fields_of, methods_of};
 ghost use Rattle.link_rules.specs.Conditions.{IsRead, field_sig_names, method_sig_names, AreWithin};
 ghost use Rattle.link_rules.specs.Keys.{IsFieldKeyNumber, IsMethodKeyNumber, accessed_key, called_key, is_static_mode};
 ghost use Rattle.link_rules.specs.Names.{text_of};
@@ -203,6 +203,15 @@ impl<'a> Classes<'a> {
         ensures { slice_get self.now.world.classes number ≡ Some (seen_class result) }
     {
         self.order.classes[number as usize]
+    }
+
+    /// The name of the class with this number.
+    pub fn class_name(&self, number: u32) -> &'a str
+        requires { number < length self.now.world.classes }
+        ensures { (c : DeclaredClass) → slice_get self.now.world.classes number ≡ Some c → result.now ≡ class_name c }
+    {
+        let class = self.order.classes[number as usize];
+        class.names.text(class.class.name)
     }
 
     /// The number of the class whose name has this number among all names.

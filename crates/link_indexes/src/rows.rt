@@ -1,5 +1,5 @@
 //! Lists by number, laid out in one.
-ghost use Rattle.std.specs.Prelude.{◌≡◌, ◌++◌, ◌∷◌, ◌≤◌, length, slice_index_or};
+ghost use Rattle.std.specs.Prelude.{◌≡◌};
 ghost use Rattle.link_indexes.specs.Filings.{part, parts};
 ghost use Rattle.link_indexes.specs.Rows.{row};
 

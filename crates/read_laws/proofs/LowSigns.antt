@@ -9,7 +9,7 @@ use Rattle.jim_text.specs.declared.Token.{Token}
 use Rattle.jim_text.specs.Contents as name
 use Rattle.jim_signs.specs.declared.lead.Lead.TheVariants as lead
 use Rattle.jim_signs.specs.Leads.{lead_of, at_lead}
-use Rattle.jim_signs.specs.Names.{text_of, contents, between_quotes, with_text, with_contents, names_of, place_of}
+use Rattle.jim_signs.specs.Names.{text_of, contents, between_quotes, with_contents, names_of, place_of}
 use Rattle.jim_signs.specs.Signs.{IsBelow, number_of, sign_of, signs_of}
 use Rattle.jim_signs.proofs.LeadLemmas.{IsNaming, word_names_none, mark_names_none}
 use Rattle.jim_signs.proofs.NameLemmas.{list_any-more, list_any-with_text, slice_get-place_of}
@@ -78,6 +78,7 @@ sign_low bytes names token known = by token.kind (text_of bytes token) known
     by kind.Number text h (inl e) = cc
     by kind.Number text h (inr e) = cc
 
+-- and so has each of the signs of such tokens
 each_low : (bytes : List ℕ) (names : List (List ℕ)) (tokens : List Token) → AllByRecursion (IsKnownToken bytes names) tokens
     → AllByRecursion (IsBelow (length names)) (map (sign_of bytes names) tokens)
 each_low bytes names [] h = tt

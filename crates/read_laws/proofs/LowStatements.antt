@@ -1,16 +1,15 @@
 -- The names of calls, expressions and statements are low where their trees are.
-use Rattle.std.proofs.Common.{ℕ, List, [], ◌∷◌, ◌++◌, flat_map, map, Some, None, refl, inl}
-use Rattle.std.specs.List.{AllByRecursion}
-use Rattle.jim_ast.specs.declared.names.NameId.{NameId}
+use Rattle.std.proofs.Common.{ℕ, List, [], ◌∷◌, flat_map, map, Some, None, refl, inl}
 use Rattle.jim_grammar.specs.Forms.{UseExpr, NewExpr, ArrayExpr, MultiExpr, CastExpr, InstanceExpr, LengthExpr, NegExpr, BinaryExpr, FieldExpr, StaticExpr, CellExpr, InvokeExpr, OnReceiver, OnClass, Dynamic, ThisStmt, ParamStmt, CaughtStmt, AssignStmt, PutFieldStmt, PutStaticStmt, PutCellStmt, CallStmt, IfStmt, GotoStmt, SwitchStmt, ReturnStmt, RetStmt, ThrowStmt, MonitorStmt, SkipStmt}
 use Rattle.jim_grammar.specs.Expressions.{Star, Tree}
 use Rattle.jim_grammar.specs.Grammar.{invoke, expr, case_line, stmt}
-use Rattle.jim_stmts.specs.Meanings.{id, ty_of, imm_of, args_of, fsig_of, msig_of, invoke_of, expr_of, case_of, switch_of, stmt_of}
+use Rattle.jim_stmts.specs.Meanings.{id, ty_of, imm_of, args_of, fsig_of, msig_of, invoke_of, expr_of, case_of, stmt_of}
 use Rattle.link_rules.specs.Conditions.{type_names, field_sig_names, method_sig_names, operand_names, call_names, expr_names, stmt_names}
 use Rattle.read_laws.proofs.LowTrees.{IsLow}
 use Rattle.read_laws.proofs.LowOperands.{Low, low_append, base_low, type_low, imm_low, args_low, fsig_low, msig_low}
 
 module _ (n : ℕ) where
+  -- a call
   pub call_low : (t : Tree invoke) → IsLow n invoke t → Low n (call_names (invoke_of t))
   call_low (OnReceiver, (_, (_, (_, (m, (_, (is, _))))))) (_, (x, (_, (p, (_, (ps, _)))))) =
       (x (inl refl), low_append n (method_sig_names (msig_of m)) (flat_map operand_names (args_of is)) (msig_low n m p) (args_low n is ps))
@@ -18,6 +17,7 @@ module _ (n : ℕ) where
       low_append n (method_sig_names (msig_of m)) (flat_map operand_names (args_of is)) (msig_low n m p) (args_low n is ps)
   call_low (Dynamic, _) h = tt
 
+  -- an expression
   pub expr_low : (t : Tree expr) → IsLow n expr t → Low n (expr_names (expr_of t))
   expr_low (UseExpr, (i, _)) (p, _) = imm_low n i p
   expr_low (NewExpr, _) (_, (x, _)) = (x (inl refl), tt)
@@ -33,11 +33,12 @@ module _ (n : ℕ) where
   expr_low (CellExpr, _) (x, _) = (x (inl refl), tt)
   expr_low (InvokeExpr, (v, _)) (p, _) = call_low v p
 
-  -- the labels of a switch
+  -- the labels of the cases of a switch
   cases_low : (xs : List (Tree case_line)) → IsLow n (Star case_line) xs → Low n (map case_of xs)
   cases_low [] h = tt
   cases_low (_ ∷ xs) ((_, (_, (_, (_, (_, (l, _)))))), h) = (l (inl refl), cases_low xs h)
 
+  -- a statement
   pub stmt_low : (t : Tree stmt) → IsLow n stmt t → Low n (stmt_names (stmt_of t))
   stmt_low (ThisStmt, _) (x, _) = (x (inl refl), tt)
   stmt_low (ParamStmt, _) (x, _) = (x (inl refl), tt)

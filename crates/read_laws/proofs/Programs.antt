@@ -1,5 +1,5 @@
 -- A program that tokens derive is as linking asks.
-use Rattle.std.proofs.Common.{◌≡◌, ℕ, ◌<◌, List, [], length, flat_map, refl, sym, ap, ◌∙◌, subst}
+use Rattle.std.proofs.Common.{ℕ, ◌<◌, List, [], length, flat_map, sym, subst}
 use Rattle.std.proofs.lemmas.List.Elements.{All-from_recursion}
 use Rattle.jim_ast.specs.Lists.{Has}
 use Rattle.jim_ast.specs.declared.names.NameId.{NameId}
@@ -7,7 +7,6 @@ use Rattle.jim_ast.specs.declared.syntax.Class.{Class}
 use Rattle.jim_ast.specs.declared.syntax.Program.{Program}
 use Rattle.jim_text.specs.declared.Token.{Token}
 use Rattle.jim_signs.specs.Names.{names_of}
-use Rattle.jim_signs.specs.Signs.{signs_of}
 use Rattle.jim_grammar.specs.Grammar as grammar
 use Rattle.jim_build.specs.Classes.{classes_of}
 use Rattle.jim_parse.specs.Derives.{Derives}
@@ -17,6 +16,7 @@ use Rattle.read_laws.proofs.LowTrees.{AreLow, low_spell}
 use Rattle.read_laws.proofs.LowClasses.{classes_low}
 use Rattle.read_laws.proofs.ReadBodies.{bodies_read}
 
+-- by any tree that spells the tokens and means the classes
 pub derived_read : (bytes : List ℕ) (tokens : List Token) (program : Program) → Derives bytes tokens program → IsRead program
 derived_read bytes tokens program derived =
     let tree = derived.tree in

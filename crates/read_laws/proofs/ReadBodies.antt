@@ -1,24 +1,22 @@
 -- Bodies as they are read.
-use Rattle.std.proofs.Common.{◌≡◌, ◌≢◌, ℕ, zero, suc, ◌+◌, ◌≤◌, Bool, true, false, List, [], ◌∷◌, ◌++◌, length, map, slice_get, Option, Some, None, refl, sym, ap, ◌∙◌, subst, arith}
+use Rattle.std.proofs.Common.{◌≡◌, ◌≢◌, ℕ, zero, suc, ◌+◌, ◌≤◌, false, List, [], ◌∷◌, length, Some, refl, ◌∙◌, subst, arith}
 use Rattle.std.specs.List.{AllByRecursion}
 use Rattle.std.proofs.lemmas.Bool.{true≢false, false≢true}
 use Rattle.std.proofs.lemmas.List.Elements.{All-from_recursion}
 use Rattle.jim_ast.specs.Lists.{Has}
-use Rattle.jim_ast.specs.declared.names.NameId.{NameId}
 use Rattle.jim_ast.specs.declared.syntax.Body.{Body}
 use Rattle.jim_ast.specs.declared.syntax.Class.{Class}
 use Rattle.jim_ast.specs.declared.syntax.Label.{Label}
 use Rattle.jim_ast.specs.declared.syntax.MethodDecl.{MethodDecl}
-use Rattle.jim_ast.specs.declared.syntax.Mode.TheVariants as mode
 use Rattle.jim_signs.specs.declared.lead.Lead.{Lead}
 use Rattle.jim_signs.specs.declared.lead.Lead.TheVariants as lead
 use Rattle.jim_grammar.specs.Forms.{LabelLine, StmtLine, FieldMember, MethodMember, NoBody, WithBody, InvokeExpr, OnReceiver, OnClass, Dynamic, AssignStmt, CallStmt, SwitchStmt}
 use Rattle.jim_grammar.specs.Expressions.{Tree}
 use Rattle.jim_grammar.specs.Grammar.{invoke, expr, case_line, stmt, line, body, ending, member, class, program}
-use Rattle.jim_stmts.specs.Meanings.{id, mode_by, invoke_of, expr_of, case_of, switch_of, stmt_of}
+use Rattle.jim_stmts.specs.Meanings.{mode_by, invoke_of, expr_of, switch_of, stmt_of}
 use Rattle.jim_build.specs.Bodies.{stmts_of, labels_from, body_of}
 use Rattle.jim_build.specs.Members.{ending_of, methods_of}
-use Rattle.jim_build.specs.Classes.{class_of, classes_of}
+use Rattle.jim_build.specs.Classes.{classes_of}
 use Rattle.link_rules.specs.Keys.{is_static_mode}
 use Rattle.link_rules.specs.Conditions.{IsReadCall, IsReadExpr, IsReadStmt, IsReadBody}
 
@@ -28,11 +26,13 @@ receiver_mode lead.SpecialInvoke = refl
 receiver_mode lead.VirtualInvoke = refl
 receiver_mode l = refl
 
+-- a call has a receiver exactly where its mode isn't static
 call_read : (t : Tree invoke) → IsReadCall (invoke_of t)
 call_read (OnReceiver, (w, _)) = λ e. true≢false (e ∙ receiver_mode w.lead)
 call_read (OnClass, _) = false≢true
 call_read (Dynamic, _) = tt
 
+-- and so does one in an expression
 expr_read : (t : Tree expr) → IsReadExpr (expr_of t)
 expr_read (InvokeExpr, (v, _)) = call_read v
 expr_read (_, _) = tt
@@ -42,12 +42,14 @@ labels_some : (xs : List (Tree case_line)) (l : ℕ) → switch_of xs l ≢ []
 labels_some [] l e = cc
 labels_some (x ∷ xs) l e = cc
 
+-- each statement is as it is read
 stmt_read : (t : Tree stmt) → IsReadStmt (stmt_of t)
 stmt_read (AssignStmt, (_, (_, (e, _)))) = expr_read e
 stmt_read (CallStmt, (v, _)) = call_read v
 stmt_read (SwitchStmt, (_, (_, (_, (_, (_, (xs, (_, (_, (_, (l, _))))))))))) = labels_some xs l
 stmt_read (_, _) = tt
 
+-- and so are those among lines
 stmts_read : (xs : List (Tree line)) → AllByRecursion IsReadStmt (stmts_of xs)
 stmts_read [] = tt
 stmts_read ((LabelLine, _) ∷ xs) = stmts_read xs
@@ -63,6 +65,7 @@ labels_read from end [] h = tt
 labels_read from end ((LabelLine, _) ∷ xs) h = (omega (arith, h), labels_read from end xs h)
 labels_read from end ((StmtLine, _) ∷ xs) h = labels_read (from + 1) end xs (omega (arith, h))
 
+-- each body is as it is read
 body_read : (t : Tree body) → IsReadBody (body_of t)
 body_read (_, (_, (lines, _))) = record {
   stmts = All-from_recursion IsReadStmt (stmts_of lines) (stmts_read lines);
@@ -77,15 +80,18 @@ IsReadMethod m = (body : Body) → m.body ≡ Some body → IsReadBody body
 abbrev IsReadClass : Class → Type 0
 IsReadClass c = AllByRecursion IsReadMethod c.methods
 
+-- what a method's tree ends in gives such a body, or none
 ending_read : (t : Tree ending) (body : Body) → ending_of t ≡ Some body → IsReadBody body
 ending_read (NoBody, _) body e = absurd (cc e)
 ending_read (WithBody, (b, _)) body e = let same : body_of b ≡ body = cc in subst IsReadBody same (body_read b)
 
+-- the methods among members
 methods_read : (xs : List (Tree member)) → AllByRecursion IsReadMethod (methods_of xs)
 methods_read [] = tt
 methods_read ((FieldMember, _) ∷ xs) = methods_read xs
 methods_read ((MethodMember, (_, (_, (_, (_, (_, (_, (_, (end, _))))))))) ∷ xs) = (ending_read end, methods_read xs)
 
+-- the classes of a program
 classes_read : (t : Tree program) → AllByRecursion IsReadClass (classes_of t)
 classes_read [] = tt
 classes_read ((_, (_, (_, (_, (_, (_, (members, _))))))) ∷ xs) = (methods_read members, classes_read xs)

@@ -4,3 +4,6 @@
 mod laws;
 
 pub use laws::{derived_programs_are_read, spelled_programs_are_read};
+
+#[cfg(test)]
+mod tests;

@@ -1,0 +1,40 @@
+-- What is read of a linked program.
+use Rattle.std.specs.Prelude.{◌≡◌, ℕ, zero, suc, ◌+◌, ◌<◌, List, Option, Some, None, length, map, slice_get}
+use Rattle.jim_ast.specs.Lists.{Has}
+use Rattle.link_rules.specs.declared.code.Code.{Code}
+use Rattle.link_rules.specs.declared.code.Code.TheVariants.{NewArray}
+use Rattle.link_rules.specs.Linked.{Element, LinkedMethod, LinkedProgram}
+
+-- the fact holds of what stands there
+abbrev pub At : {X : Type 0} → List X → ℕ → (X → Type 0) → Type 0
+At {X} xs number P = (x : X) → slice_get xs number ≡ Some x → P x
+
+-- the code of each method
+abbrev pub codes_in : LinkedProgram → List (List Code)
+codes_in p = map (λ m. m.code) p.methods
+
+-- the class of an instance field; 0, which stands for the elements of arrays, has none
+abbrev pub field_class : LinkedProgram → ℕ → Option ℕ
+field_class p zero = None
+field_class p (suc field) = slice_get p.field_classes field
+
+-- the statement of the method makes an array
+pub record MakesArray (p : LinkedProgram) (number index : ℕ) : Type 0 where
+  pub method : LinkedMethod
+  pub there : slice_get p.methods number ≡ Some method
+  pub to : ℕ
+  pub makes : slice_get method.code index ≡ Some (NewArray to)
+
+-- one of the elements is of this index, and has this text
+pub record HasElementText (elements : List Element) (index : ℕ) (text : List ℕ) : Type 0 where
+  pub element : Element
+  pub has : Has elements element
+  pub at : element.index ≡ index
+  pub is_text : element.text ≡ text
+
+-- the method isn't the root, and has this text
+pub record HasText (p : LinkedProgram) (text : List ℕ) (number : ℕ) : Type 0 where
+  pub method : LinkedMethod
+  pub there : slice_get p.methods number ≡ Some method
+  pub not_root : number + 1 < length p.methods
+  pub is_text : method.text ≡ text

@@ -1,0 +1,5 @@
+pub mod Accessed
+pub mod Classes
+pub mod Methods
+pub mod Parts
+pub mod Places

@@ -1,0 +1,56 @@
+-- The methods of a linked program as they are kept.
+use Rattle.std.specs.Prelude.{◌≡◌, ℕ, ◌<◌, ◌^◌, List, [], ◌∷◌, All, length, map}
+use Rattle.link_rules.specs.Linked.{LinkedMethod}
+use Rattle.link_codes.specs.Elements.{elements_in}
+use Rattle.link_indexes.specs.declared.method.MethodCode.{MethodCode}
+use Rattle.link_program.specs.declared.method.MethodHead.{MethodHead}
+use Rattle.link_program.specs.declared.methods.Methods.{Methods}
+use Rattle.link_program.specs.Places.{ArePlaces}
+
+-- a method, with its code
+abbrev pub linked_method : MethodHead → MethodCode → LinkedMethod
+linked_method h b = record {
+  text = h.text;
+  has_this = h.has_this;
+  params = h.params;
+  locals = h.locals.names;
+  code = b.code;
+  catches = b.catches;
+  elements = elements_in h.elements;
+}
+
+-- the methods, by what they are and by their code
+abbrev pub joined : List MethodHead → List MethodCode → List LinkedMethod
+joined (h ∷ hs) (b ∷ bs) = linked_method h b ∷ joined hs bs
+joined _ _ = []
+
+abbrev pub texts_of : List LinkedMethod → List (List ℕ)
+texts_of methods = map (λ m. m.text) methods
+
+-- the locals are found by their names
+abbrev pub IsHead : MethodHead → Type 0
+IsHead h = ArePlaces h.locals.names h.locals.places
+
+abbrev pub methods_in : Methods → List LinkedMethod
+methods_in m = joined m.heads.items m.bodies.items
+
+-- what is kept of methods
+pub record AreMethods (m : Methods) : Type 0 where
+  pub as_many : length m.heads.items ≡ length m.bodies.items
+  pub few : length m.heads.items < 2 ^ 32
+  pub places : ArePlaces (texts_of (methods_in m)) m.places
+  pub found : All IsHead m.heads.items
+
+-- the method has this besides its code, and its locals are found by their names
+pub record IsHeadOf (m : LinkedMethod) (h : MethodHead) : Type 0 where
+  pub text : m.text ≡ h.text
+  pub has_this : m.has_this ≡ h.has_this
+  pub params : m.params ≡ h.params
+  pub locals : m.locals ≡ h.locals.names
+  pub elements : m.elements ≡ elements_in h.elements
+  pub found : IsHead h
+
+-- the method has this code
+pub record IsBodyOf (m : LinkedMethod) (b : MethodCode) : Type 0 where
+  pub code : m.code ≡ b.code
+  pub catches : m.catches ≡ b.catches

@@ -1,0 +1,308 @@
+//! The linked program, and what is read of it.
+ghost use Rattle.std.specs.Prelude.{◌≡◌, ◌+◌, ◌<◌, ◌↔◌, ℕ, Some, IfNone, IfOk, IfSome, length, map, slice_get};
+ghost use Rattle.class_tree.specs.Paths.{IsLeast};
+ghost use Rattle.jim_ast.specs.Lists.{Has};
+ghost use Rattle.link_rules.specs.WellLinked.{IsInForm};
+ghost use Rattle.link_indexes.specs.Facts.{Calls, IsRaised, IsReturn, Loads, LoadsStatic, Stores, StoresStatic};
+ghost use Rattle.link_indexes.specs.Rows.{AreTheIndexes, AreThePlaces};
+ghost use Rattle.link_indexes.specs.Tables.{GoesOnIn, IsAt, IsInMethod};
+ghost use Rattle.link_program.specs.Accessed.{At, HasElementText, HasText, MakesArray, codes_in, field_class};
+ghost use Rattle.link_program.specs.Classes.{names_of};
+ghost use Rattle.link_program.specs.Parts.{AreParts, program_of};
+ghost use Rattle.link_program.specs.Places.{IsFirstPlace};
+
+use super::elements::element_text;
+use super::parts::{CodePart, MemberPart};
+use class_tree::Tree;
+use jim_ast::{Name, NoMemory};
+use link_indexes::{Indexes, Place};
+use link_rules::{Catch, Code};
+use std::alloc::Global;
+use std::marker::Model;
+
+/// A linked program: names are numbers. Its methods are numbered from 0 in class order and then in written order, the root being the last;
+/// classes in class order; instance fields from 1 and static fields from 0 in class order; texts and class constants in the order of first use.
+/// Contracts see all of it but its indexes. What is read of it takes no memory.
+#[derive(Drop)]
+pub struct Linked {
+    code: CodePart,
+    members: MemberPart,
+    tree: Tree,
+    indexes: Indexes,
+}
+
+impl Model for Linked {
+    ghost use Rattle.link_rules.specs.Linked.{LinkedProgram};
+
+    ghost Value = { LinkedProgram };
+
+    ghost use Rattle.link_program.specs.Parts.{IsKept, program_of};
+
+    ghost view = { λ l. program_of l.code l.members l.tree };
+
+    ghost invariant = { λ l. IsKept l.code l.members l.tree l.indexes };
+}
+
+impl Linked {
+    /// The linked program with these parts and this hierarchy. Its indexes take memory.
+    pub fn of_parts(
+        alloc: Global,
+        code: CodePart,
+        members: MemberPart,
+        tree: Tree,
+    ) -> Result<Self, NoMemory>
+        requires parts { AreParts code members }
+        requires form { IsInForm (program_of code members tree) }
+        ensures { IfOk result (λ p. p ≡ program_of code members tree) }
+    {
+        let indexes = Indexes::new(alloc, code.methods.bodies())?;
+        Ok(Linked {
+            code,
+            members,
+            tree,
+            indexes,
+        })
+    }
+
+    /// How many methods there are, the root included.
+    pub fn methods(&self) -> u32
+        ensures count { result ≡ length self.now.methods }
+        ensures form { IsInForm self.now }
+    {
+        self.code.methods.len()
+    }
+
+    /// The number of the root, which is the last.
+    pub fn root(&self) -> u32
+        ensures { result + 1 ≡ length self.now.methods }
+    {
+        self.code.methods.len() - 1
+    }
+
+    /// The statements of a method.
+    pub fn code(&self, method: u32) -> &[Code]
+        requires { method < length self.now.methods }
+        ensures { At self.now.methods method (λ m. result.now ≡ m.code) }
+    {
+        self.code.methods.body(method).code.as_slice()
+    }
+
+    /// The handlers of a method.
+    pub fn catches(&self, method: u32) -> &[Catch]
+        requires { method < length self.now.methods }
+        ensures { At self.now.methods method (λ m. result.now ≡ m.catches) }
+    {
+        self.code.methods.body(method).catches.as_slice()
+    }
+
+    /// The names of the locals of a method, in declared order.
+    pub fn locals(&self, method: u32) -> &[Name]
+        requires { method < length self.now.methods }
+        ensures { At self.now.methods method (λ m. result.now ≡ m.locals) }
+    {
+        self.code.methods.head(method).locals.names.as_slice()
+    }
+
+    /// How many parameters a method has.
+    pub fn params(&self, method: u32) -> u32
+        requires { method < length self.now.methods }
+        ensures { At self.now.methods method (λ m. result ≡ m.params) }
+    {
+        self.code.methods.head(method).params
+    }
+
+    /// Whether a method has a receiver.
+    pub fn has_this(&self, method: u32) -> bool
+        requires { method < length self.now.methods }
+        ensures { At self.now.methods method (λ m. result ≡ m.has_this) }
+    {
+        self.code.methods.head(method).has_this
+    }
+
+    /// The text of a method, `<C: R m(P1,P2)>`; that of the root is `root`.
+    pub fn method_text(&self, method: u32) -> &str
+        requires { method < length self.now.methods }
+        ensures { At self.now.methods method (λ m. result.now ≡ m.text) }
+    {
+        self.code.methods.head(method).text.as_str()
+    }
+
+    /// The text of the type of the elements of the array that the statement at an index of a method makes.
+    pub fn element_text(&self, method: u32, index: u32) -> &str
+        requires { MakesArray self.now method index }
+        ensures { At self.now.methods method (λ m. HasElementText m.elements index result.now) }
+    {
+        element_text(self.code.methods.head(method).elements.as_slice(), index)
+    }
+
+    /// The least number of a method with this text. The root is never found.
+    pub fn find_method(&self, text: &str) -> Option<u32>
+        ensures some { IfSome result (IsLeast (HasText self.now text.now)) }
+        ensures none { IfNone result ((number : ℕ) → HasText self.now text.now number → ⊥) }
+    {
+        let number = self.code.methods.find(text)?;
+        if number < self.root() {
+            return Some(number);
+        }
+        None
+    }
+
+    /// The first local of a method with this name.
+    pub fn find_local(&self, method: u32, name: &str) -> Option<u32>
+        requires { method < length self.now.methods }
+        ensures some { At self.now.methods method (λ m. IfSome result (IsFirstPlace m.locals name.now)) }
+        ensures none { At self.now.methods method (λ m. IfNone result (Has m.locals name.now → ⊥)) }
+    {
+        self.code.methods.head(method).locals.places.find(name)
+    }
+
+    /// The number of the method of a row of the hierarchy, where a run may reach it.
+    pub fn method_of_row(&self, row: u32) -> Option<u32>
+        ensures { (number : ℕ) → (result ≡ Some number) ↔ (slice_get self.now.method_rows number ≡ Some row) }
+    {
+        self.code.rows.number(row)
+    }
+
+    /// How many classes there are.
+    pub fn classes(&self) -> u32
+        ensures { result ≡ length self.now.classes }
+    {
+        self.members.classes.len()
+    }
+
+    /// The name of a class.
+    pub fn class_name(&self, class: u32) -> &str
+        requires { class < length self.now.classes }
+        ensures { At self.now.classes class (λ c. result.now ≡ c.name) }
+    {
+        self.members.classes.entry(class).name.as_str()
+    }
+
+    /// Whether a class may have objects.
+    pub fn instantiable(&self, class: u32) -> bool
+        requires { class < length self.now.classes }
+        ensures { At self.now.classes class (λ c. result ≡ c.instantiable) }
+    {
+        self.members.classes.entry(class).instantiable
+    }
+
+    /// The number of the class with this name.
+    pub fn class_number(&self, name: &str) -> Option<u32>
+        ensures some { IfSome result (IsFirstPlace (names_of self.now.classes) name.now) }
+        ensures none { IfNone result (Has (names_of self.now.classes) name.now → ⊥) }
+    {
+        self.members.classes.find(name)
+    }
+
+    /// The class of an instance field. The number 0, which stands for the elements of arrays, has none, nor has one past the last field.
+    pub fn field_class(&self, field: u32) -> Option<u32>
+        ensures { result ≡ field_class self.now field }
+    {
+        let at = field.checked_sub(1)?;
+        self.members
+            .field_classes
+            .as_slice()
+            .get(at as usize)
+            .copied()
+    }
+
+    /// How many static fields there are.
+    pub fn static_count(&self) -> u32
+        ensures { result ≡ self.now.static_count }
+    {
+        self.members.static_count
+    }
+
+    /// The name of a key of methods.
+    pub fn key_name(&self, key: u32) -> &str
+        requires { key < length self.now.keys }
+        ensures { At self.now.keys key (λ k. result.now ≡ k.name) }
+    {
+        self.members.keys.as_slice()[key as usize].name.as_str()
+    }
+
+    /// Whether a key is one of static methods.
+    pub fn key_is_static(&self, key: u32) -> bool
+        requires { key < length self.now.keys }
+        ensures { At self.now.keys key (λ k. result ≡ k.is_static) }
+    {
+        self.members.keys.as_slice()[key as usize].is_static
+    }
+
+    /// The texts that the methods use.
+    pub fn texts(&self) -> &[Name]
+        ensures { result.now ≡ self.now.texts }
+    {
+        self.code.constants.texts.as_slice()
+    }
+
+    /// The class constants that the methods use.
+    pub fn class_texts(&self) -> &[Name]
+        ensures { result.now ≡ self.now.class_texts }
+    {
+        self.code.constants.class_texts.as_slice()
+    }
+
+    /// The hierarchy of the classes, with all methods and fields.
+    pub fn tree(&self) -> &Tree
+        ensures { result.now ≡ self.now.rows }
+    {
+        &self.tree
+    }
+
+    /// The places of the calls that have the method among their targets, in order.
+    pub fn callers(&self, target: u32) -> &[Place]
+        ensures { AreThePlaces (IsAt (Calls target) (codes_in self.now)) result.now }
+    {
+        self.indexes.callers(target)
+    }
+
+    /// The places of the stores into an instance field, or for 0 into elements of arrays.
+    pub fn stores(&self, field: u32) -> &[Place]
+        ensures { AreThePlaces (IsAt (Stores field) (codes_in self.now)) result.now }
+    {
+        self.indexes.stores(field)
+    }
+
+    /// The places of the loads from an instance field, or for 0 from elements of arrays.
+    pub fn loads(&self, field: u32) -> &[Place]
+        ensures { AreThePlaces (IsAt (Loads field) (codes_in self.now)) result.now }
+    {
+        self.indexes.loads(field)
+    }
+
+    /// The places of the stores into a static field.
+    pub fn static_stores(&self, field: u32) -> &[Place]
+        ensures { AreThePlaces (IsAt (StoresStatic field) (codes_in self.now)) result.now }
+    {
+        self.indexes.static_stores(field)
+    }
+
+    /// The places of the loads from a static field.
+    pub fn static_loads(&self, field: u32) -> &[Place]
+        ensures { AreThePlaces (IsAt (LoadsStatic field) (codes_in self.now)) result.now }
+    {
+        self.indexes.static_loads(field)
+    }
+
+    /// The indexes of a method's returns.
+    pub fn returns(&self, method: u32) -> &[u32]
+        ensures { AreTheIndexes (IsInMethod IsReturn (codes_in self.now) method) result.now }
+    {
+        self.indexes.returns(method)
+    }
+
+    /// The indexes of a method's statements that an exception may come out of.
+    pub fn raised(&self, method: u32) -> &[u32]
+        ensures { AreTheIndexes (IsInMethod IsRaised (codes_in self.now) method) result.now }
+    {
+        self.indexes.raised(method)
+    }
+
+    /// The indexes of the statements of a method from which a run may go on to the one at `index`, other than by an exception.
+    pub fn before(&self, method: u32, index: u32) -> &[u32]
+        ensures { AreTheIndexes (GoesOnIn (codes_in self.now) method index) result.now }
+    {
+        self.indexes.before(method, index)
+    }
+}

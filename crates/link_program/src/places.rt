@@ -1,0 +1,70 @@
+//! The first place of each text of a list.
+ghost use Rattle.std.specs.Prelude.{◌≡◌, ◌++◌, [], ◌∷◌, ℕ, List, IfNone, IfOk, IfSome, OnOk, length};
+ghost use Rattle.jim_ast.specs.Lists.{Has};
+ghost use Rattle.link_program.specs.Places.{ArePlaces, IsFirstPlace};
+
+use jim_ast::{Name, Names, NoMemory};
+use std::alloc::{AllocError, Global};
+
+/// For each text of a list its first place there, by one hashed look-up.
+#[derive(Drop)]
+pub struct FirstPlaces {
+    texts: Names,
+    places: Vec<u32>,
+}
+
+// The number of what stands at a place. There is room for 4,294,967,296 of them.
+fn number_of(at: usize) -> Result<u32, NoMemory>
+    ensures { IfOk result (λ number. number ≡ at) }
+{
+    match u32::try_from(at) {
+        Ok(number) => Ok(number),
+        Err(_) => Err(AllocError),
+    }
+}
+
+impl FirstPlaces {
+    /// Of no text. Takes no memory.
+    pub fn new(alloc: Global) -> Self
+        ensures { ArePlaces [] result }
+    {
+        FirstPlaces {
+            texts: Names::new(alloc),
+            places: Vec::new(alloc),
+        }
+    }
+
+    /// A text comes behind the `at` texts of the list.
+    pub fn push(&mut self, text: &str, at: usize) -> Result<(), NoMemory>
+        ensures { OnOk result ((texts : List (List ℕ)) → at ≡ length texts → ArePlaces texts self.old → ArePlaces (texts ++ text.now ∷ []) self.new) }
+    {
+        if self.texts.find(text).is_some() {
+            return Ok(());
+        }
+        let number = number_of(at)?;
+        self.texts.add(text)?;
+        self.places.push(number)?;
+        Ok(())
+    }
+
+    /// Of these texts.
+    pub fn of(alloc: Global, texts: &[Name]) -> Result<Self, NoMemory>
+        ensures { IfOk result (ArePlaces texts.now) }
+    {
+        let mut places = FirstPlaces::new(alloc);
+        for (at, text) in texts.iter().enumerate() {
+            places.push(text.as_str(), at)?;
+        }
+        Ok(places)
+    }
+
+    /// The first place of the text. Takes no memory.
+    pub fn find(&self, text: &str) -> Option<u32>
+        requires { (texts : List (List ℕ)) × ArePlaces texts self.now }
+        ensures some { (texts : List (List ℕ)) → ArePlaces texts self.now → IfSome result (IsFirstPlace texts text.now) }
+        ensures none { (texts : List (List ℕ)) → ArePlaces texts self.now → IfNone result (Has texts text.now → ⊥) }
+    {
+        let id = self.texts.find(text)?;
+        Some(self.places[id.0 as usize])
+    }
+}
