@@ -79,9 +79,11 @@ module _ (labels : List Label) (at : ℕ) (label : Label) (there : slice_get lab
             (h.repeats.earlier_place, omega (arith, last, h.repeats.before), named labels h.repeats.earlier_place h.repeats.earlier h.repeats.earlier_there ∙ ap Some names),
           )
 
+  -- what repeats a name before the place repeats it before the next
   pub repeats_kept : (index : ℕ) → RepeatsBefore labels at index → RepeatsBefore labels (at + 1) index
   repeats_kept index h = record { repeats = h.repeats; before_end = omega (arith, h.before_end) }
 
+  -- the label at the place repeats a name
   pub repeats_here : ((i : ℕ) × (i < at) × (slice_get (label_names labels) i ≡ Some label.name)) → RepeatsBefore labels (at + 1) label.index
   repeats_here again =
       let earlier = label_there labels again.0 label.name again.2 in
@@ -120,16 +122,19 @@ all_repeats labels end least enough h =
     least_same (RepeatsBefore labels end) (RepeatsName labels) least (λ index p. p.repeats)
     (λ index p. record { repeats = p; before_end = omega (arith, enough, slice_get-below labels p.place p.label p.there) }) h
 
+-- the least number, where there is one
 pub some_least : (P : ℕ → Type 0) (o : Option ℕ) → IsLeastOrNone P o → IfSome o (IsLeast P)
 some_least P (Some n) h = h
 some_least P None h = tt
 
+-- no number, where there is none
 pub none_least : (P : ℕ → Type 0) (o : Option ℕ) → IsLeastOrNone P o → IfNone o ((n : ℕ) → P n → ⊥)
 none_least P (Some n) h = tt
 none_least P None h = h
 
 -- what repeats a name in the method's body
 module _ (m : DeclaredMethod) (body : Body) (is : HasBody m body) where
+  -- what repeats a name among the labels repeats it in the method
   to_label : (index : ℕ) → RepeatsName body.labels index → RepeatsLabel m index
   to_label index h = record {
     body = body;
@@ -145,6 +150,7 @@ module _ (m : DeclaredMethod) (body : Body) (is : HasBody m body) where
     at_label = h.at_label;
   }
 
+  -- and back
   from_label : (index : ℕ) → RepeatsLabel m index → RepeatsName body.labels index
   from_label index h =
       let one : h.body ≡ body = cc (h.in_body, is) in
@@ -160,19 +166,23 @@ module _ (m : DeclaredMethod) (body : Body) (is : HasBody m body) where
         at_label = h.at_label;
       }
 
+  -- so the least indexes are the same
   least_label : (i : ℕ) → IsLeast (RepeatsName body.labels) i → IsLeast (RepeatsLabel m) i
   least_label i least = record { holds = to_label i least.holds; first = λ n below h. least.first n below (from_label n h) }
 
+-- the same of the answer, where there is one
 pub some_label : (body : Body) (o : Option ℕ) → IfSome o (IsLeast (RepeatsName body.labels)) → IfSome o (λ i. (m : DeclaredMethod) → HasBody m body → IsLeast (RepeatsLabel m) i)
 some_label body (Some i) least = λ m is. least_label m body is i least
 some_label body None least = tt
 
+-- and where there is none
 pub none_label : (body : Body) (o : Option ℕ) → IfNone o ((i : ℕ) → RepeatsName body.labels i → ⊥) → IfNone o ((m : DeclaredMethod) (i : ℕ) → HasBody m body → RepeatsLabel m i → ⊥)
 none_label body (Some i) none = tt
 none_label body None none = λ m i is h. none i (from_label m body is i h)
 
 -- the first label of a name
 module _ (labels : List Label) (name : NameId) where
+  -- its first place is that of its label
   pub is_label : (place : ℕ) (l : Label) → IsLeast (λ i. slice_get (label_names labels) i ≡ Some name) place → slice_get labels place ≡ Some l → (n : ℕ)
       → (◌≡◌ {A = Option ℕ} (Some l.index) (Some n)) ↔ IsLabel labels name n
   is_label place l least there n = (to, from)
@@ -202,5 +212,6 @@ module _ (labels : List Label) (name : NameId) where
   pub label_below : (place : ℕ) → IsLeast (λ i. slice_get (label_names labels) i ≡ Some name) place → place < length labels
   label_below place least = let there = label_there labels place name least.holds in slice_get-below labels place there.0 there.1
 
+  -- without a place there is no label
   pub no_label : ((i : ℕ) × (slice_get (label_names labels) i ≡ Some name) → ⊥) → (n : ℕ) → (◌≡◌ {A = Option ℕ} None (Some n)) ↔ IsLabel labels name n
   no_label none n = ((λ e. cc), λ h. absurd (none (h.place, named labels h.place _ h.there)))

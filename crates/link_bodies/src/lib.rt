@@ -6,3 +6,6 @@ mod places;
 mod repeats;
 
 pub use index::BodyIndex;
+
+#[cfg(test)]
+mod tests;

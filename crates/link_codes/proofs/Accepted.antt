@@ -37,6 +37,7 @@ module _ (w : World) (method_rows : List ℕ) (m : DeclaredMethod) (body : Body)
   abbrev context : Context
   context = context_in w method_rows m body
 
+  -- the statement where it stands
   abbrev at : (i : ℕ) (s : Stmt) → slice_get body.stmts i ≡ Some s → StmtAt m i s
   at i s there = record { body = body; in_body = is; there = there }
 
@@ -65,6 +66,7 @@ module _ (w : World) (method_rows : List ℕ) (m : DeclaredMethod) (body : Body)
       ];
     }
 
+    -- the class that it makes an object of is declared
     pub new_there : (class : NameId) → HasText context class → new_of s ≡ Some class → HasClass context class
     new_there class text makes = class_there class text (inl (record { stmt = s; here = at i s there; class = class; makes = makes; named = refl }))
 

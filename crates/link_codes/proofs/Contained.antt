@@ -10,22 +10,27 @@ use Rattle.link_rules.specs.Conditions.{AreWithin}
 use Rattle.link_rules.specs.Statements.{operand_local}
 
 module _ {X : Type 0} where
+  -- what one of two lists has, both together have
   pub Has-left : (xs ys : List X) (x : X) → Has xs x → Has (xs ++ ys) x
   Has-left xs ys x h = (h.0, slice_get-append_left xs ys h.0 x h.1)
 
+  -- the same of the other
   pub Has-right : (xs ys : List X) (x : X) → Has ys x → Has (xs ++ ys) x
   Has-right [] ys x h = h
   Has-right (y ∷ xs) ys x h = let r = Has-right xs ys x h in (suc r.0, r.1)
 
+-- what is made of an element is among all that is made
 pub Has-flat_map : {X Y : Type 0} (f : X → List Y) (xs : List X) (i : ℕ) (x : X) (y : Y) → slice_get xs i ≡ Some x → Has (f x) y → Has (flat_map f xs) y
 Has-flat_map f [] i x y there h = cc
 Has-flat_map f (z ∷ xs) zero x y there h = let same : x ≡ z = cc in Has-left (f z) (flat_map f xs) y (subst (λ x. Has (f x) y) same h)
 Has-flat_map f (z ∷ xs) (suc i) x y there h = Has-right (f z) (flat_map f xs) y (Has-flat_map f xs i x y there h)
 
+-- behind what an option gives
 behind_option : {Y : Type 0} (o : Option Y) (ys : List Y) (y : Y) → Has ys y → Has (cons_option o ys) y
 behind_option None ys y h = h
 behind_option (Some z) ys y h = (suc h.0, h.1)
 
+-- what an element gives is among all that is given
 pub Has-filter_map : {X Y : Type 0} (f : X → Option Y) (xs : List X) (i : ℕ) (x : X) (y : Y) → slice_get xs i ≡ Some x → f x ≡ Some y → Has (filter_map f xs) y
 Has-filter_map f [] i x y there is = cc
 Has-filter_map f (z ∷ xs) zero x y there is =

@@ -35,11 +35,13 @@ one_place rows i j row increasing at_i at_j = elim (cases_order i j) [
 pub record HasPlaces (rows : List ℕ) (end : ℕ) (numbers : List (Option ℕ)) : Type 0 where
   pub each : (row n : ℕ) → (slice_get numbers row ≡ Some (Some n)) ↔ ((n < end) × (slice_get rows n ≡ Some row))
 
+-- an empty table has no number
 no_number : (empty : Option ℕ) (count row n : ℕ) → empty ≡ None → slice_get (replicate count empty) row ≡ Some (Some n) → ⊥
 no_number empty zero row n is e = cc
 no_number empty (suc count) zero n is e = cc
 no_number empty (suc count) (suc row) n is e = no_number empty count row n is e
 
+-- an empty table has the places before the first
 pub no_places : (rows : List ℕ) (count : ℕ) → HasPlaces rows 0 (replicate count None)
 no_places rows count = record { each = λ row n. ((λ e. absurd (no_number None count row n refl e)), λ h. absurd (omega (arith, h.0))) }
 

@@ -4,6 +4,7 @@ pub mod Called
 pub mod Contained
 pub mod Decided
 pub mod Increasing
+pub mod Linking
 pub mod Numbered
 pub mod Present
 pub mod SideBySide

@@ -35,12 +35,15 @@ numbers_more fields numbers now row instances statics so_far pushed is_instances
 
 -- how many come before the next row
 module _ (fields : List DeclaredField) (row : ℕ) (f : DeclaredField) (there : slice_get fields row ≡ Some f) where
+  -- the field is one of them
   below : row < length fields
   below = slice_get-below fields row f there
 
+  -- the field is read there
   at : get_or fields row f ≡ f
   at = get_or_from_slice_get fields row f f there
 
+  -- behind a static field
   pub after_static : f.decl.is_static ≡ true
       → (count_by (λ g. not g.decl.is_static) (take (row + 1) fields) ≡ count_by (λ g. not g.decl.is_static) (take row fields))
       × (count_by (λ g. g.decl.is_static) (take (row + 1) fields) ≡ count_by (λ g. g.decl.is_static) (take row fields) + 1)
@@ -49,6 +52,7 @@ module _ (fields : List DeclaredField) (row : ℕ) (f : DeclaredField) (there : 
     count_by_more_yes (λ g. g.decl.is_static) fields row f below (ap (λ (g : DeclaredField). g.decl.is_static) at ∙ is),
   )
 
+  -- behind an instance field
   pub after_instance : f.decl.is_static ≡ false
       → (count_by (λ g. not g.decl.is_static) (take (row + 1) fields) ≡ count_by (λ g. not g.decl.is_static) (take row fields) + 1)
       × (count_by (λ g. g.decl.is_static) (take (row + 1) fields) ≡ count_by (λ g. g.decl.is_static) (take row fields))

@@ -1,11 +1,8 @@
 -- Lists side by side that grow at the end.
-use Rattle.std.proofs.Common.{◌≡◌, ℕ, ◌+◌, ◌<◌, ◌≤◌, ◌++◌, List, [], ◌∷◌, length, take, get_or, length-append, refl, sym, subst, inl, inr, arith}
+use Rattle.std.proofs.Common.{◌≡◌, ℕ, ◌+◌, ◌<◌, ◌≤◌, ◌++◌, List, [], ◌∷◌, length, take, get_or, length-append, sym, subst, inl, inr, arith}
 use Rattle.std.proofs.lemmas.List.{take_all, take_more}
 use Rattle.jim_ast.proofs.Places.{slice_get-below, slice_get-pushed}
 use Rattle.link_rules.specs.Lists.{Each}
-
-pub Each-nil : {X Y : Type 0} (R : X → Y → Type 0) → Each R [] []
-Each-nil R = record { as_many = refl; each = λ i x y p q. cc }
 
 -- one element more at the end of each
 pub Each-push : {X Y : Type 0} (R : X → Y → Type 0) (xs : List X) (ys : List Y) (x : X) (y : Y) → Each R xs ys → R x y → Each R (xs ++ x ∷ []) (ys ++ y ∷ [])

@@ -14,20 +14,16 @@ use Rattle.link_rules.specs.Names.{text_of}
 use Rattle.link_codes.specs.declared.constants.Constants.{Constants}
 use Rattle.link_codes.specs.Constants.{Extends, Uses}
 
+-- constants keep their numbers as they are
 pub extends_itself : (k : Constants) → Extends k k
 extends_itself k = record { texts = λ i x h. h; class_texts = λ i x h. h }
 
+-- and from step to step
 pub extends_then : (a b c : Constants) → Extends a b → Extends b c → Extends a c
 extends_then a b c p q = record { texts = λ i x h. q.texts i x (p.texts i x h); class_texts = λ i x h. q.class_texts i x (p.class_texts i x h) }
 
 module _ (names : List (List ℕ)) where
-  pub uses_none : (k : Constants) → Uses names [] k k
-  uses_none k = record {
-    kept = extends_itself k;
-    texts = λ uses h. subst (λ us. FirstSeen us k.texts) (sym (append-nil uses)) h;
-    class_texts = λ uses h. subst (λ us. FirstSeen us k.class_texts) (sym (append-nil uses)) h;
-  }
-
+  -- what is used by some operands, and then by others
   joined : (kind : Imm → Option (List ℕ)) (uses : List (List ℕ)) (xs ys : List Imm) → (uses ++ filter_map kind xs) ++ filter_map kind ys ≡ uses ++ filter_map kind (xs ++ ys)
   joined kind uses xs ys = append_assoc uses (filter_map kind xs) (filter_map kind ys) ∙ ap (λ l. uses ++ l) (sym (filter_map-append kind xs ys))
 

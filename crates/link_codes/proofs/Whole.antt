@@ -34,22 +34,26 @@ use Rattle.link_codes.proofs.Contained.{Has-flat_map, Has-left, Has-right, withi
 
 -- the names of a body are among those of its method
 module _ (names : List (List ℕ)) (decl : MethodDecl) (body : Body) (is : decl.body ≡ Some body) (within : AreWithin names (method_names decl)) where
+  -- all of them
   body_within : AreWithin names (body_names body)
   body_within = within_part names (method_names decl) (body_names body) within (λ x h.
       Has-right (decl.name ∷ type_names decl.result ++ flat_map type_names decl.params) (flat_map body_names (option_to_list decl.body)) x
       (subst (λ b. Has (flat_map body_names (option_to_list b)) x) (sym is) (Has-left (body_names body) [] x h)))
 
+  -- those of a statement
   pub stmt_within : (i : ℕ) (s : Stmt) → slice_get body.stmts i ≡ Some s → AreWithin names (stmt_names s)
   stmt_within i s there = within_part names (body_names body) (stmt_names s) body_within (λ x h.
       Has-left (body.locals ++ flat_map stmt_names body.stmts ++ flat_map label_names body.labels) (flat_map trap_names body.traps) x
       (Has-left (body.locals ++ flat_map stmt_names body.stmts) (flat_map label_names body.labels) x
       (Has-right body.locals (flat_map stmt_names body.stmts) x (Has-flat_map stmt_names body.stmts i s x there h))))
 
+  -- those of a trap
   pub trap_within : (k : ℕ) (trap : Trap) → slice_get body.traps k ≡ Some trap → AreWithin names (trap_names trap)
   trap_within k trap there = within_part names (body_names body) (trap_names trap) body_within (λ x h.
       Has-right (body.locals ++ flat_map stmt_names body.stmts ++ flat_map label_names body.labels) (flat_map trap_names body.traps) x
       (Has-flat_map trap_names body.traps k trap x there h))
 
+-- what is given of all that is made
 filter_map-flat_map : {X Y Z : Type 0} (f : Y → Option Z) (g : X → List Y) (xs : List X) → filter_map f (flat_map g xs) ≡ flat_map (λ x. filter_map f (g x)) xs
 filter_map-flat_map f g [] = refl
 filter_map-flat_map f g (x ∷ xs) = filter_map-append f (g x) (flat_map g xs) ∙ ap (λ l. filter_map f (g x) ++ l) (filter_map-flat_map f g xs)
@@ -60,6 +64,7 @@ used_same kind m body is =
     filter_map-flat_map (kind m.names) operands body.stmts ∙ sym (append-nil (flat_map (λ s. filter_map (kind m.names) (operands s)) body.stmts))
     ∙ ap (λ b. flat_map (λ (b : Body). flat_map (λ s. filter_map (kind m.names) (operands s)) b.stmts) (option_to_list b)) (sym is)
 
+-- so the method uses them
 uses_method : (m : DeclaredMethod) (body : Body) (old new : Constants) → HasBody m body → Uses m.names (flat_map operands body.stmts) old new → UsesMethod m old new
 uses_method m body old new is uses = record {
   kept = uses.kept;
@@ -72,9 +77,11 @@ module _ (t : ClassTable) (method_rows : List ℕ) (method : MethodIn) (body : B
   abbrev kept_context : ClassTable → Body → Context
   kept_context u kept = record { world = u.world; method_rows = method_rows; names = texts_at u.texts method.ids.now; body = kept }
 
+  -- what the code of the method is made over
   abbrev context : Context
   context = context_in t.world method_rows (seen_method method) body
 
+  -- both are one
   pub context_same : (u : ClassTable) (kept : Body) → u ≡ t → kept ≡ body → kept_context u kept ≡ context
   context_same u kept same_table same_body =
       ap (λ v. kept_context v kept) same_table ∙ ap (kept_context t) same_body
@@ -82,24 +89,29 @@ module _ (t : ClassTable) (method_rows : List ℕ) (method : MethodIn) (body : B
 
   -- what is made over what is kept is made over the method
   module _ (u : ClassTable) (kept : Body) (same_table : u ≡ t) (same_body : kept ≡ body) where
+    -- the code of its statements
     pub codes_same : (stmts : List Stmt) (now : Constants) (codes : List Code) → stmts ≡ body.stmts → MakesCodes (kept_context u kept) now stmts codes → MakesCodes context now body.stmts codes
     codes_same stmts now codes same_stmts made =
         subst (λ ss. MakesCodes context now ss codes) same_stmts (subst (λ b. MakesCodes b now stmts codes) (context_same u kept same_table same_body) made)
 
+    -- its handlers
     pub catches_same : (traps : List Trap) (catches : List Catch) → traps ≡ body.traps → MakesCatches (kept_context u kept) traps catches → MakesCatches context body.traps catches
     catches_same traps catches same_traps made =
         subst (λ ts. MakesCatches context ts catches) same_traps (subst (λ b. MakesCatches b traps catches) (context_same u kept same_table same_body) made)
 
+    -- the arrays that it makes
     pub elements_same : (stmts : List Stmt) → stmts ≡ body.stmts → elements_of (kept_context u kept).names stmts ≡ elements_of (seen_method method).names body.stmts
     elements_same stmts same_stmts =
         ap (elements_of (kept_context u kept).names) same_stmts ∙ ap (λ (b : Context). elements_of b.names body.stmts) (context_same u kept same_table same_body)
 
+    -- the constants that it uses
     pub uses_same : (stmts : List Stmt) (old new : Constants) → stmts ≡ body.stmts → Uses (kept_context u kept).names (flat_map operands stmts) old new → UsesMethod (seen_method method) old new
     uses_same stmts old new same_stmts uses =
         uses_method (seen_method method) body old new is
         (subst (λ ss. Uses (seen_method method).names (flat_map operands ss) old new) same_stmts
         (subst (λ (b : Context). Uses b.names (flat_map operands stmts) old new) (context_same u kept same_table same_body) uses))
 
+  -- the method's names are among those that are kept for it
   names_within : AreWithin (seen_method method).names (method_names method.decl.now)
   names_within = subst (λ ts. AreWithin (texts_at ts method.ids.now) (method_names method.decl.now)) (sym known.all) known.within
 

@@ -1,7 +1,7 @@
 -- What a call names and may run.
-use Rattle.std.specs.Prelude.{◌≡◌, ℕ, ◌↔◌, List, Option, Some, None}
+use Rattle.std.specs.Prelude.{◌≡◌, ℕ, ◌<◌, ◌↔◌, List, Option, Some, None, All, length}
 use Rattle.jim_ast.specs.Lists.{Has}
-use Rattle.link_rules.specs.Classes.{IsDeclared, IsNamed}
+use Rattle.link_rules.specs.Classes.{IsDeclared, IsNamed, methods_of}
 use Rattle.link_rules.specs.Conditions.{AreWithin, method_sig_names}
 use Rattle.link_rules.specs.Names.{text_of}
 use Rattle.link_rules.specs.Statements.{PlainCall}
@@ -15,6 +15,7 @@ use Rattle.link_faults.specs.Parts.{AreNamed, seen_call}
 pub record IsCallee (w : World) (names : List (List ℕ)) (c : PlainCall) (k : Callee) : Type 0 where
   pub named : AreNamed w names c k.class k.key
   pub only_class : (n : ℕ) → IsNamed w.classes (text_of names c.sig.class) n → k.class ≡ n
+  pub within : All (λ row. row < length (methods_of w.classes)) k.rows.items
   pub rows : (row : ℕ) → Has k.rows.items row ↔ MayRun w c.mode k.class k.key row
 
 -- the call's class isn't declared, or the callee is the call's

@@ -67,6 +67,7 @@ fn trap_is_undeclared(classes: &Classes, method: &MethodIn, traps: &[Trap]) -> b
     false
 }
 
+// Whether a trap of the body names a label that isn't there.
 fn traps_nowhere(body: &BodyIndex) -> bool
     ensures { IsTrue result ↔ TrapNamesNoLabel body.now }
 {
@@ -81,6 +82,7 @@ pub(crate) fn end_of(body: &BodyIndex) -> u32
     body.body().stmts.as_slice().len() as u32
 }
 
+// Whether the handler of a trap of the body is its end.
 fn handles_at_end(body: &BodyIndex) -> bool
     requires { length body.now.stmts < 2 ^ 32 }
     ensures { IsTrue result ↔ TrapHandlesAtEnd body.now }
@@ -88,6 +90,7 @@ fn handles_at_end(body: &BodyIndex) -> bool
     handles_at(body, body.body().traps.as_slice(), end_of(body))
 }
 
+// Whether a trap of the body names a class that isn't declared.
 fn traps_undeclared(classes: &Classes, method: &MethodIn, body: &BodyIndex) -> bool
     requires known { IsKnown classes.now.texts method.now }
     requires in_body { HasBody (seen_method method.now) body.now }

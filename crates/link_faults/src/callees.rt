@@ -68,19 +68,18 @@ pub(crate) fn finds_none(classes: &Classes, mode: Mode, class: u32, key: u32) ->
     }
 }
 
-// Whether there is a method with this number and it is native.
+// Whether the method with this number is native.
 fn is_native(classes: &Classes, row: u32) -> bool
+    requires { row < length (methods_of classes.now.world.classes) }
     ensures { IsTrue result ↔ IsNativeRow classes.now.world row }
 {
-    if row >= classes.method_count() {
-        return false;
-    }
     let method = classes.method(row);
     method.decl.body.is_none() && method.decl.is_native
 }
 
 // Whether one of the methods is native.
 pub(crate) fn has_native(classes: &Classes, rows: &[u32]) -> bool
+    requires { All (λ row. row < length (methods_of classes.now.world.classes)) rows.now }
     ensures { IsTrue result ↔ ((row : ℕ) × Has rows.now row × IsNativeRow classes.now.world row) }
 {
     for row in rows {

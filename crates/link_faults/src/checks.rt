@@ -56,6 +56,7 @@ pub(crate) fn has_wrong_count(call: &Called) -> bool
     call.args.len() != call.sig.params.as_slice().len()
 }
 
+// Whether the method that is called has no result.
 fn is_void_call(call: &Invoke) -> bool
     ensures { IsTrue result ↔ IsVoidCall call.now }
 {

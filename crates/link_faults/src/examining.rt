@@ -198,6 +198,7 @@ fn examine_stmts(
     Ok(examined)
 }
 
+// What is known before the first statement.
 fn nothing(alloc: Global) -> Examined
     ensures { IsNothing result }
 {
@@ -208,6 +209,7 @@ fn nothing(alloc: Global) -> Examined
     }
 }
 
+// Examines a method with this body.
 fn examine_body(
     alloc: Global,
     targets: &mut Targets,

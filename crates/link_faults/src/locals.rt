@@ -21,6 +21,7 @@ fn assigned(stmt: &Stmt) -> Option<NameId>
     }
 }
 
+// The local that a call is made on.
 fn call_base(call: &Invoke) -> Option<NameId>
     ensures { result ≡ call_base_of call.now }
 {
@@ -30,6 +31,7 @@ fn call_base(call: &Invoke) -> Option<NameId>
     }
 }
 
+// The local with the object or the array that an expression reads.
 fn expr_base(expr: &Expr) -> Option<NameId>
     ensures { result ≡ expr_base_of expr.now }
 {
@@ -54,6 +56,7 @@ fn base(stmt: &Stmt) -> Option<NameId>
     }
 }
 
+// The arguments of a call.
 fn args(call: &Invoke) -> &[Imm]
     ensures { result.now ≡ call_args call.now }
 {
@@ -63,6 +66,7 @@ fn args(call: &Invoke) -> &[Imm]
     }
 }
 
+// The operands of an expression that are kept.
 fn expr_operands(expr: &Expr) -> &[Imm]
     ensures { result.now ≡ expr_operands expr.now }
 {
@@ -75,6 +79,7 @@ fn expr_operands(expr: &Expr) -> &[Imm]
     }
 }
 
+// The operand of a `return`.
 fn returned(operand: &Option<Imm>) -> &[Imm]
     ensures { result.now ≡ option_to_list operand.now }
 {
@@ -101,12 +106,14 @@ fn operands(stmt: &Stmt) -> &[Imm]
     }
 }
 
+// Whether the local isn't declared.
 fn is_missing(body: &BodyIndex, local: NameId) -> bool
     ensures { IsTrue result ↔ IsMissing body.now.locals local }
 {
     body.local(local).is_none()
 }
 
+// Whether the operand is a local that isn't declared.
 fn is_missing_operand(body: &BodyIndex, operand: Imm) -> bool
     ensures { IsTrue result ↔ HasMissingOperand body.now.locals operand }
 {
@@ -116,6 +123,7 @@ fn is_missing_operand(body: &BodyIndex, operand: Imm) -> bool
     }
 }
 
+// Whether there is a local and it isn't declared.
 fn some_is_missing(body: &BodyIndex, local: Option<NameId>) -> bool
     ensures { IsTrue result ↔ IsSomeAnd local (IsMissing body.now.locals) }
 {
@@ -125,6 +133,7 @@ fn some_is_missing(body: &BodyIndex, local: Option<NameId>) -> bool
     }
 }
 
+// Whether one of the operands is a local that isn't declared.
 fn has_missing_operand(body: &BodyIndex, operands: &[Imm]) -> bool
     ensures { IsTrue result ↔ HasMissingIn body.now.locals operands.now }
 {

@@ -42,12 +42,14 @@ fn text<'a>(classes: &Classes, method: &MethodIn<'a>, name: NameId) -> &'a str
     method.all.text(method.ids[name.0 as usize])
 }
 
+// Whether the name begins so.
 fn begins_with(name: &str, start: &str) -> bool
     ensures { result ≡ starts_with nat_eq name.now start.now }
 {
     name.starts_with(start)
 }
 
+// Whether the name is that of a class of reflection.
 fn is_reflective_name(name: &str) -> bool
     ensures { IsTrue result ↔ IsReflective name.now }
 {

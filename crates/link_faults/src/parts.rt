@@ -31,6 +31,7 @@ pub(crate) fn new_of(stmt: &Stmt) -> Option<NameId>
     }
 }
 
+// The field that an expression reads.
 fn expr_access(expr: &Expr) -> Option<Accessed>
     ensures { option_map seen_access result ≡ expr_access expr.now }
 {
@@ -76,6 +77,7 @@ pub(crate) fn call_of(stmt: &Stmt) -> Option<&Invoke>
     }
 }
 
+// A call in its parts, if it isn't a `dynamicinvoke`.
 fn plain_of(call: &Invoke) -> Option<Called<'_>>
     ensures { option_map seen_call result ≡ plain_of call.now }
 {

@@ -70,6 +70,7 @@ fn rules_of_targets() -> [LinkKind; 8]
 }
 
 impl<'a, 'c> Site<'a, 'c> {
+    // Whether a method of a class of reflection is called.
     fn calls_reflection(&self) -> bool
         requires { IsSite self.now }
         ensures { IsTrue result ↔ Refuses self.now rule.Reflection }
@@ -80,6 +81,7 @@ impl<'a, 'c> Site<'a, 'c> {
         }
     }
 
+    // Whether an object of a class of threads is made.
     fn makes_thread(&self) -> bool
         requires { IsSite self.now }
         ensures { IsTrue result ↔ MakesThread self.now }
@@ -90,6 +92,7 @@ impl<'a, 'c> Site<'a, 'c> {
         }
     }
 
+    // Whether a method of a class of threads is called.
     fn calls_thread(&self) -> bool
         requires { IsSite self.now }
         ensures { IsTrue result ↔ CallsThread self.now }
@@ -100,6 +103,7 @@ impl<'a, 'c> Site<'a, 'c> {
         }
     }
 
+    // Whether an object of a class that isn't declared is made.
     fn makes_undeclared(&self) -> bool
         requires { IsSite self.now }
         ensures { IsTrue result ↔ MakesUndeclared self.now }
@@ -110,6 +114,7 @@ impl<'a, 'c> Site<'a, 'c> {
         }
     }
 
+    // Whether a method of a class that isn't declared is called.
     fn calls_undeclared(&self) -> bool
         requires { IsSite self.now }
         ensures { IsTrue result ↔ CallsUndeclared self.now }
@@ -120,6 +125,7 @@ impl<'a, 'c> Site<'a, 'c> {
         }
     }
 
+    // Whether a field of a class that isn't declared is accessed.
     fn accesses_undeclared(&self) -> bool
         requires { IsSite self.now }
         ensures { IsTrue result ↔ AccessesUndeclared self.now }
@@ -130,6 +136,7 @@ impl<'a, 'c> Site<'a, 'c> {
         }
     }
 
+    // Whether a field is accessed that isn't found.
     fn accesses_no_field(&self) -> bool
         requires { IsSite self.now }
         ensures { IsTrue result ↔ Refuses self.now rule.UnknownField }
@@ -140,6 +147,7 @@ impl<'a, 'c> Site<'a, 'c> {
         }
     }
 
+    // Whether an object of an interface or of an abstract class is made.
     fn makes_abstract(&self) -> bool
         requires { IsSite self.now }
         ensures { IsTrue result ↔ Refuses self.now rule.AbstractNew }
@@ -150,6 +158,7 @@ impl<'a, 'c> Site<'a, 'c> {
         }
     }
 
+    // Whether the method that is called isn't declared.
     fn finds_no_callee(&self) -> bool
         requires { IsSite self.now }
         ensures { IsTrue result ↔ Refuses self.now rule.UndeclaredCallee }
@@ -162,6 +171,7 @@ impl<'a, 'c> Site<'a, 'c> {
         }
     }
 
+    // Whether a call has more or fewer arguments than parameters.
     fn has_bad_arguments(&self) -> bool
         requires { IsSite self.now }
         ensures { IsTrue result ↔ HasBadCount self.now }
@@ -172,6 +182,7 @@ impl<'a, 'c> Site<'a, 'c> {
         }
     }
 
+    // Whether the call may run a native method.
     fn runs_native(&self) -> bool
         requires { IsSite self.now }
         ensures { IsTrue result ↔ Refuses self.now rule.NativeCallee }

@@ -31,5 +31,6 @@ returns-clause-callee c =
     record {
       named = record { is_class = named classes name c.in-Some.class says; is_key = is_key };
       only_class = only_named classes name c.in-Some.class says;
+      within = c.in_ok-rows.ensures.within;
       rows = c.in_ok-rows.ensures.rows.each;
     }
