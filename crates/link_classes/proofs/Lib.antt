@@ -12,3 +12,4 @@ pub mod Within
 pub mod DeclaredBodies
 pub mod HeldFacts
 pub mod RootNames
+pub mod Small

@@ -1,0 +1,10 @@
+pub mod Beside
+pub mod Bodied
+pub mod Declaring
+pub mod Making
+pub mod MemberFacts
+pub mod MethodFacts
+pub mod Moved
+pub mod OfRows
+pub mod TextFacts
+pub mod Whole

@@ -1,0 +1,68 @@
+//! What is told of a refusal.
+ghost use Rattle.std.specs.Prelude.{◌≡◌, ◌≤◌, ℕ, List as Items, IfOk, Ok, length};
+ghost use Rattle.link_rules.specs.declared.refusal.LinkKind.{LinkKind as AKind};
+ghost use Rattle.link_rules.specs.Refusals.{IsFirst, IsPlaceOf, IsTextOf, RefusesWhole, number_of, whole, within};
+ghost use Rattle.link_rules.specs.Classes.{methods_of};
+ghost use Rattle.jim_link.specs.Told.{TellsFirst};
+
+use super::texts::{method_text, owned};
+use jim_ast::{Name, NoMemory};
+use link_classes::{Classes, Refused};
+use link_rules::{LinkError, LinkKind};
+use std::alloc::Global;
+
+// The text of a method by its number, the root's being the one behind all others.
+fn text_of_number(alloc: Global, classes: &Classes, number: u32) -> Result<Name, NoMemory>
+    requires { number ≤ length (methods_of classes.now.world.classes) }
+    ensures { IfOk result (IsTextOf classes.now.world number) }
+{
+    if number < classes.method_count() {
+        return method_text(alloc, &classes.method(number));
+    }
+    owned(alloc, "root")
+}
+
+// What is told of a place, where there was memory for it.
+fn refused(kind: LinkKind, place: Result<Name, NoMemory>, index: u32) -> LinkError
+    ensures { (told : AKind) (text : Items ℕ) (at : ℕ) → result ≡ LinkError.Refused told text at → (told ≡ kind) × (place ≡ Ok text) × (at ≡ index) }
+{
+    match place {
+        Ok(place) => LinkError::Refused { kind, place, index },
+        Err(_) => LinkError::NoMemory,
+    }
+}
+
+// The place of a refusal by one of the last two rules of the program.
+fn whole_place(alloc: Global, classes: &Classes, refused: Refused) -> Result<Name, NoMemory>
+    requires passed { (kind : AKind) (number : ℕ) → number_of kind ≤ 3 → RefusesWhole classes.now.world kind number → ⊥ }
+    requires refuses { RefusesWhole classes.now.world refused.kind refused.number }
+    ensures { IfOk result (IsPlaceOf classes.now.world refused.kind refused.number) }
+{
+    match refused.kind {
+        LinkKind::DefaultMethod => text_of_number(alloc, classes, refused.number),
+        _ => owned(alloc, ""),
+    }
+}
+
+/// What is told of a refusal by one of the last two rules of the program, the first three having passed.
+pub fn whole_error(alloc: Global, classes: &Classes, by: Refused) -> LinkError
+    requires passed { (kind : AKind) (number : ℕ) → number_of kind ≤ 3 → RefusesWhole classes.now.world kind number → ⊥ }
+    requires first { IsFirst classes.now.world (whole by.kind by.number) }
+    ensures { TellsFirst classes.now.world result }
+{
+    refused(by.kind, whole_place(alloc, classes, by), 0)
+}
+
+/// What is told of a refusal in a method.
+pub fn within_error(
+    alloc: Global,
+    classes: &Classes,
+    number: u32,
+    index: u32,
+    kind: LinkKind,
+) -> LinkError
+    requires { IsFirst classes.now.world (within number index kind) }
+    ensures { TellsFirst classes.now.world result }
+{
+    refused(kind, text_of_number(alloc, classes, number), index)
+}
