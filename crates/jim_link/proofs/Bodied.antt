@@ -19,6 +19,7 @@ use Rattle.link_rules.specs.declared.refusal.LinkKind.TheVariants as rule
 abbrev RunsBody : World → ℕ → Type 0
 RunsBody w row = (m : MethodRow) × (slice_get w.rows.methods row ≡ Some m) × (has_body m.body ≡ true)
 
+-- so has what each mode runs
 runs_body : (w : World) (mode : Mode) (class key row : ℕ) → MayRun w mode class key row → RunsBody w row
 runs_body w Static class key row r = let m = path_finds w.rows class key row r in (m.method, m.there, m.bodied)
 runs_body w Special class key row r = let m = path_finds w.rows class key row r in (m.method, m.there, m.bodied)

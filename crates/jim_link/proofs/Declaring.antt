@@ -16,9 +16,11 @@ pub all_cons : {X : Type 0} (P : X → Type 0) (x : X) (xs : List X) → P x →
 all_cons P x xs first rest zero d below = first
 all_cons P x xs first rest (suc k) d below = rest k d (omega arith)
 
+-- the first has the fact
 pub all_head : {X : Type 0} (P : X → Type 0) (x : X) (xs : List X) → All P (x ∷ xs) → P x
 all_head P x xs all = all 0 x (omega arith)
 
+-- so have the others
 pub all_tail : {X : Type 0} (P : X → Type 0) (x : X) (xs : List X) → All P (x ∷ xs) → All P xs
 all_tail P x xs all k d below = all (suc k) d (omega arith)
 
@@ -30,6 +32,7 @@ none_all P = (λ t k d below. absurd (omega arith), λ all. refl)
 pub class_at : (classes seen : List Class) (i : ℕ) (c : Class) → seen ≡ classes → i < length seen → c ≡ get_or seen i c → slice_get classes i ≡ Some c
 class_at classes seen i c same below read = subst (λ (cs : List Class). slice_get cs i ≡ Some c) same (slice_get-get_or seen i c below ∙ ap Some (sym read))
 
+-- its name is one of the program's
 pub name_within : (program : Program) (i : ℕ) (c : Class) → AreWithin program.names (flat_map class_names program.classes) → slice_get program.classes i ≡ Some c
     → c.name.0 < length program.names
 name_within program i c within there = part_within class_names program.names program.classes i c within there 0 c.name (omega arith)

@@ -1,9 +1,11 @@
 -- The methods of the linked program, one after another.
-use Rattle.std.proofs.Common.{◌≡◌, ℕ, ◌++◌, Option, None, List, [], ◌∷◌, map, refl, sym, ap, subst, ◌∙◌, append_assoc}
+use Rattle.std.proofs.Common.{◌≡◌, ℕ, ◌++◌, Option, None, List, [], ◌∷◌, map, refl, sym, ap, subst, ◌∙◌}
 use Rattle.std.specs.Prelude.{codes, flat_map}
 use Rattle.std.specs.List.{filter_map}
 use Rattle.std.specs.Result.{OnOk}
 use Rattle.std.proofs.Common.{Result, Ok, Err}
+use Rattle.std.proofs.lemmas.List.{append-nil}
+use Rattle.std.proofs.lemmas.List.Concat.{flat_map-append}
 use Rattle.std.proofs.lemmas.Option.{same_Some}
 use Rattle.jim_ast.specs.declared.syntax.Body.{Body}
 use Rattle.jim_ast.specs.declared.syntax.Imm.{Imm}
@@ -48,17 +50,13 @@ kept_row w rows old new row l more is = record {
   };
 }
 
+-- so do the methods of several rows
 kept_rows : (w : World) (rows done : List ℕ) (old new : Constants) (ls : List LinkedMethod) → Extends old new → Each (IsMadeRow w rows old) done ls → Each (IsMadeRow w rows new) done ls
 kept_rows w rows done old new ls more is = record { as_many = is.as_many; each = λ i row l p q. kept_row w rows old new row l more (is.each i row l p q) }
 
 -- one list more at the end
 flat_map-push : {X Y : Type 0} (f : X → List Y) (xs : List X) (x : X) → flat_map f (xs ++ x ∷ []) ≡ flat_map f xs ++ f x
-flat_map-push f [] x = append_nil (f x)
-  where
-    append_nil : {Y : Type 0} (ys : List Y) → ys ++ [] ≡ ys
-    append_nil [] = refl
-    append_nil (y ∷ ys) = ap (λ zs. y ∷ zs) (append_nil ys)
-flat_map-push f (y ∷ xs) x = ap (λ zs. f y ++ zs) (flat_map-push f xs x) ∙ sym (append_assoc (f y) (flat_map f xs) (f x))
+flat_map-push f xs x = flat_map-append f xs (x ∷ []) ∙ ap (λ zs. flat_map f xs ++ zs) (append-nil (f x))
 
 -- the constants that one method more uses
 used_more : (w : World) (done : List ℕ) (row : ℕ) (m : DeclaredMethod) (old new : Constants) → IsMethodOf w row m
@@ -85,28 +83,34 @@ made_more w rows done row m old new is adds made = record {
 
 -- the root uses no constant
 module _ (kind : Imm → Option (List ℕ)) (no_local : (name : _) → kind (imm.Local name) ≡ None) where
+  -- what a statement uses
   abbrev uses_of : Stmt → List (List ℕ)
   uses_of s = filter_map kind (operands s)
 
+  -- a local is no constant
   local_unused : (name : _) → filter_map kind (imm.Local name ∷ []) ≡ []
   local_unused name = rw (no_local name) refl
 
+  -- initializers' calls and the last two statements use none
   calls_unused : (initialized : List ℕ) → flat_map uses_of (map initializer_call initialized ++ main_call ∷ stmt.Return None ∷ []) ≡ []
   calls_unused [] = rw (local_unused _) refl
   calls_unused (c ∷ cs) = calls_unused cs
 
+  -- nor do the statements as a whole
   stmts_unused : (initialized : List ℕ) → flat_map uses_of (root_stmts initialized) ≡ []
   stmts_unused initialized = rw (local_unused _) (calls_unused initialized)
 
+-- so the root uses no text
 root_texts : (w : World) (initialized : List ℕ) → used_by text_in (root_of w initialized) ≡ []
 root_texts w initialized = rw (stmts_unused (text_in (root_of w initialized).names) (λ name. refl) initialized) refl
 
+-- and no class constant
 root_class_texts : (w : World) (initialized : List ℕ) → used_by class_text_in (root_of w initialized) ≡ []
 root_class_texts w initialized = rw (stmts_unused (class_text_in (root_of w initialized).names) (λ name. refl) initialized) refl
 
+-- a list with none behind it
 append_none : {X : Type 0} (xs ys : List X) → ys ≡ [] → xs ++ ys ≡ xs
-append_none [] ys e = e
-append_none (x ∷ xs) ys e = ap (λ zs. x ∷ zs) (append_none xs ys e)
+append_none xs ys e = ap (λ zs. xs ++ zs) e ∙ append-nil xs
 
 -- the root comes last
 pub made_whole : (w : World) (rows initialized : List ℕ) (old new : Made) → AddsMethod w rows (codes "root") (root_of w initialized) old new

@@ -1,7 +1,7 @@
 -- The classes, the keys and the fields, one after another.
-use Rattle.std.proofs.Common.{◌≡◌, ℕ, ◌+◌, ◌<◌, ◌++◌, Bool, true, false, cond, List, [], ◌∷◌, Some, length, map, take, slice_get, refl, sym, ap, subst, ◌∙◌}
+use Rattle.std.proofs.Common.{◌≡◌, ℕ, ◌+◌, ◌<◌, ◌++◌, Bool, true, false, cond, List, [], ◌∷◌, Some, length, map, take, slice_get, sym, ap, subst, ◌∙◌}
 use Rattle.std.specs.Prelude.{filter, not}
-use Rattle.std.proofs.lemmas.List.{take_more}
+use Rattle.std.proofs.lemmas.List.{append-nil, map-append, take_more}
 use Rattle.std.proofs.lemmas.List.Elements.{filter_more}
 use Rattle.std.proofs.lemmas.Option.{get_or_from_slice_get}
 use Rattle.jim_ast.proofs.Places.{slice_get-below, slice_get-there}
@@ -10,27 +10,26 @@ use Rattle.link_rules.specs.Linked.{IsLinkedClass, LinkedClass}
 use Rattle.link_rules.specs.Lists.{Each}
 use Rattle.link_rules.specs.Classes.{DeclaredClass, DeclaredField}
 use Rattle.jim_link.specs.Members.{classes_of_fields}
-use Rattle.jim_link.proofs.TextFacts.{map-push}
 
 -- the class of one field more
 module _ (fields : List DeclaredField) (row : ℕ) (f : DeclaredField) (there : slice_get fields row ≡ Some f) where
+  -- the instance fields with it
   kept : filter (λ g. not g.decl.is_static) (take (row + 1) fields) ≡ filter (λ g. not g.decl.is_static) (take row fields) ++ cond (not f.decl.is_static) (f ∷ []) []
   kept = subst (λ (g : DeclaredField). filter (λ h. not h.decl.is_static) (take (row + 1) fields) ≡ filter (λ h. not h.decl.is_static) (take row fields) ++ cond (not g.decl.is_static) (g ∷ []) [])
       (get_or_from_slice_get fields row f f there) (filter_more (λ g. not g.decl.is_static) fields row f (slice_get-below fields row f there))
 
+  -- the same, by its flag
   kept_by : (b : Bool) → f.decl.is_static ≡ b
       → filter (λ g. not g.decl.is_static) (take (row + 1) fields) ≡ filter (λ g. not g.decl.is_static) (take row fields) ++ cond (not b) (f ∷ []) []
   kept_by b is = kept ∙ ap (λ s. filter (λ g. not g.decl.is_static) (take row fields) ++ cond (not s) (f ∷ []) []) is
 
+  -- the class of an instance field comes last
   pub instance_class : f.decl.is_static ≡ false → classes_of_fields (take (row + 1) fields) ≡ classes_of_fields (take row fields) ++ f.class ∷ []
-  instance_class is = ap (map (λ (g : DeclaredField). g.class)) (kept_by false is) ∙ map-push (λ (g : DeclaredField). g.class) (filter (λ g. not g.decl.is_static) (take row fields)) f
+  instance_class is = ap (map (λ (g : DeclaredField). g.class)) (kept_by false is) ∙ map-append (λ (g : DeclaredField). g.class) (filter (λ g. not g.decl.is_static) (take row fields)) (f ∷ [])
 
+  -- a static field has no part in them
   pub no_class : f.decl.is_static ≡ true → classes_of_fields (take (row + 1) fields) ≡ classes_of_fields (take row fields)
-  no_class is = ap (map (λ (g : DeclaredField). g.class)) (kept_by true is ∙ append_nil (filter (λ g. not g.decl.is_static) (take row fields)))
-    where
-      append_nil : {X : Type 0} (xs : List X) → xs ++ [] ≡ xs
-      append_nil [] = refl
-      append_nil (x ∷ xs) = ap (λ ys. x ∷ ys) (append_nil xs)
+  no_class is = ap (map (λ (g : DeclaredField). g.class)) (kept_by true is ∙ append-nil (filter (λ g. not g.decl.is_static) (take row fields)))
 
 -- one element more
 pub taken_more : {X : Type 0} (xs : List X) (i : ℕ) (x : X) → slice_get xs i ≡ Some x → take (i + 1) xs ≡ take i xs ++ x ∷ []
@@ -40,7 +39,7 @@ taken_more xs i x there = take_more xs i x (slice_get-below xs i x there) ∙ ap
 pub mapped_taken : {X Y : Type 0} (f : X → Y) (ys : List Y) (i : ℕ) (x : X) (old now : List X) → slice_get ys i ≡ Some (f x) → map f old ≡ take i ys → now ≡ old ++ x ∷ []
     → map f now ≡ take (i + 1) ys
 mapped_taken f ys i x old now there before put =
-    ap (map f) put ∙ map-push f old x ∙ ap (λ zs. zs ++ f x ∷ []) before ∙ sym (taken_more ys i (f x) there)
+    ap (map f) put ∙ map-append f old (x ∷ []) ∙ ap (λ zs. zs ++ f x ∷ []) before ∙ sym (taken_more ys i (f x) there)
 
 -- one class more
 pub class_more : (cs : List DeclaredClass) (i : ℕ) (l : LinkedClass) (ls now : List LinkedClass) → i < length cs

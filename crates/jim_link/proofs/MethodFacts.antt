@@ -14,15 +14,19 @@ use Rattle.link_rules.specs.Conditions.{AreWithin, body_names, label_names, meth
 use Rattle.link_rules.specs.Statements.{HasBody}
 
 module _ (texts : List (List ℕ)) (m : MethodIn) (known : IsKnown texts m) where
+  -- its names have numbers
   numbered : All (λ (id : NameId). id.0 < length m.ids.now) (method_names m.decl.now)
   numbered = within_numbers texts m.ids.now (method_names m.decl.now) known.within
 
+  -- its own name has one
   pub name_below : m.decl.now.name.0 < length m.ids.now
   name_below = method_name (λ (id : NameId). id.0 < length m.ids.now) m.decl.now numbered
 
+  -- the names of its result are among all names
   pub result_within : AreWithin (texts_at texts m.ids.now) (type_names m.decl.now.result)
   result_within = method_result (λ (id : NameId). id.0 < length (texts_at texts m.ids.now)) m.decl.now known.within
 
+  -- and those of its parameters
   pub params_within : AreWithin (texts_at texts m.ids.now) (flat_map type_names m.decl.now.params)
   params_within = method_params (λ (id : NameId). id.0 < length (texts_at texts m.ids.now)) m.decl.now known.within
 

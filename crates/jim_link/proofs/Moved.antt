@@ -18,11 +18,13 @@ use Rattle.link_rules.specs.declared.refusal.LinkKind.TheVariants as rule
 abbrev body_with : List ℕ → Body
 body_with initialized = record { locals = text_local ∷ args_local ∷ []; stmts = root_stmts initialized; labels = []; traps = [] }
 
+-- a root's body is that one
 body_is : (w : World) (xs : List ℕ) (body : Body) → HasBody (root_of w xs) body → body_with xs ≡ body
 body_is w xs body e = same_Some (body_with xs) body e
 
 -- one statement stands in both roots
 module _ (w : World) (xs ys : List ℕ) (i j : ℕ) (same : slice_get (root_stmts xs) i ≡ slice_get (root_stmts ys) j) where
+  -- the statement
   abbrev moved : (s : Stmt) → StmtAt (root_of w xs) i s → StmtAt (root_of w ys) j s
   moved s at = record {
     body = body_with ys;
@@ -30,29 +32,37 @@ module _ (w : World) (xs ys : List ℕ) (i j : ℕ) (same : slice_get (root_stmt
     there = sym same ∙ subst (λ (b : Body). slice_get b.stmts i ≡ Some s) (sym (body_is w xs at.body at.in_body)) at.there;
   }
 
+  -- its call
   abbrev moved_call : PlainCallAt (root_of w xs) i → PlainCallAt (root_of w ys) j
   moved_call at = record { stmt = at.stmt; here = moved at.stmt at.here; call = at.call; is_call = at.is_call }
 
+  -- the call with its numbers
   abbrev moved_named : CallAt w (root_of w xs) i → CallAt w (root_of w ys) j
   moved_named n = record { at = moved_call n.at; class = n.class; is_class = n.is_class; key = n.key; is_key = n.is_key }
 
+  -- what it may run
   abbrev moved_calls : (row : ℕ) → Calls w (root_of w xs) i row → Calls w (root_of w ys) j row
   moved_calls row c = record { names = moved_named c.names; runs = c.runs }
 
+  -- the class that it calls a method of
   abbrev moved_in : (name : List ℕ) → CallsIn (root_of w xs) i name → CallsIn (root_of w ys) j name
   moved_in name c = record { at = moved_call c.at; named = c.named }
 
+  -- the class that it makes an object of
   abbrev moved_makes : (name : List ℕ) → MakesObject (root_of w xs) i name → MakesObject (root_of w ys) j name
   moved_makes name m = record { stmt = m.stmt; here = moved m.stmt m.here; class = m.class; makes = m.makes; named = m.named }
 
+  -- the field that it accesses
   abbrev moved_access : AccessAt (root_of w xs) i → AccessAt (root_of w ys) j
   moved_access a = record { stmt = a.stmt; here = moved a.stmt a.here; access = a.access; accesses = a.accesses }
 
+  -- the class that it names
   abbrev moved_class : (name : List ℕ) → NamesClass (root_of w xs) i name → NamesClass (root_of w ys) j name
   moved_class name (inl m) = inl (moved_makes name m)
   moved_class name (inr (inl c)) = inr (inl (moved_in name c))
   moved_class name (inr (inr a)) = inr (inr (moved_access a.0, a.1))
 
+  -- a local that isn't declared
   moved_local : NamesNoLocal (root_of w xs) i → NamesNoLocal (root_of w ys) j
   moved_local n = record {
     stmt = n.stmt;
@@ -62,6 +72,7 @@ module _ (w : World) (xs ys : List ℕ) (i j : ℕ) (same : slice_get (root_stmt
     missing = λ h. n.missing (subst (λ (b : Body). Has b.locals n.local) (body_is w xs n.here.body n.here.in_body) h);
   }
 
+  -- a root has no trap
   no_trap : (body : Body) → HasBody (root_of w xs) body → (k : ℕ) → slice_get body.traps k ≡ None
   no_trap body e k = subst (λ (b : Body). slice_get b.traps k ≡ None) (body_is w xs body e) refl
 

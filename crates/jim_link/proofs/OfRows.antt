@@ -27,24 +27,30 @@ reached_bodied w row d are reached there = on reached there
     on (initialized {class = class} {index = index} {row = row} i t) is = target_bodied w (root_of w (class ∷ [])) index row d are t is
 
 module _ (w : World) (are : AreRows w.classes w.rows) (accepted : IsAccepted w) (rows : List ℕ) (reached : AreReached w rows) where
+  -- what is reached is one of the rows
   has_reached : (row : ℕ) → row < length (methods_of w.classes) → Reached w row → Has rows row
   has_reached row below r = (reached.each row).1 (below, r)
 
   module _ (row : ℕ) (d : DeclaredMethod) (has : Has rows row) (there : IsMethodOf w row d) where
+    -- the method has a body
     pub row_bodied : IsSome d.decl.body
     row_bodied = reached_bodied w row d are ((reached.each row).0 has).1 there
 
+    -- no rule refuses it
     pub row_accepted : (index : ℕ) (kind : LinkKind) → RefusesAt w d index kind → ⊥
     row_accepted index kind r = accepted (within row index kind) (d, inl (((reached.each row).0 has).1, there), r)
 
+    -- what it may run is one of the rows
     pub row_numbered : (index other : ℕ) → IsTarget w d index other → Has rows other
     row_numbered index other t =
         has_reached other (target_below w d index other are t) (called ((reached.each row).0 has).1 (slice_get-append_left (methods_of w.classes) (root_of w [] ∷ []) row d there) t)
 
   module _ (classes : List ℕ) (are_initialized : AreInitialized w classes) where
+    -- no rule refuses the root
     pub root_accepted : (index : ℕ) (kind : LinkKind) → RefusesAt w (root_of w classes) index kind → ⊥
     root_accepted index kind r = accepted (within (root_number w) index kind) (root_of w classes, inr (refl, classes, are_initialized, refl), r)
 
+    -- what the root may run is one of the rows
     pub root_numbered : (index other : ℕ) → IsTarget w (root_of w classes) index other → Has rows other
     root_numbered index other t = has_reached other (target_below w (root_of w classes) index other are t) (elim (root_target w classes index other t) [
       | inl h ↦ initialized ((are_initialized.each h.0).0 h.1) h.2

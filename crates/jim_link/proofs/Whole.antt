@@ -18,9 +18,11 @@ use Rattle.jim_link.specs.Rows.{AreCodes, ArePartsOf, IsCodeOf, made_in}
 use Rattle.jim_link.specs.declared.rows.Parts.{Parts}
 
 module _ (w : World) (c : CodePart) (m : MemberPart) where
+  -- the program of these parts
   abbrev whole : LinkedProgram
   whole = program_of c m w.rows
 
+  -- what is made is a method of it
   linked_method : (text : List ℕ) (d : DeclaredMethod) (l : LinkedMethod) → IsMadeMethod w c.rows text d (made_in c).constants l → IsLinkedMethod w whole text d l
   linked_method text d l is = record {
     body = is.body;
@@ -34,6 +36,7 @@ module _ (w : World) (c : CodePart) (m : MemberPart) where
     elements = is.elements;
   }
 
+  -- it is the linked program
   pub is_link : (initialized : List ℕ) → IsAccepted w → AreInitialized w initialized → AreCodes w initialized c → AreMembers w m → IsLinkOf w whole
   is_link initialized accepted are codes members = record {
     accepted = accepted;

@@ -1,5 +1,5 @@
 -- What is found among the methods.
-use Rattle.std.proofs.Common.{◌≡◌, ◌≢◌, ℕ, zero, suc, ◌+◌, ◌<◌, ◌≤◌, ◌++◌, List, [], ◌∷◌, Some, length, map, slice_get, get_or, All, refl, sym, ap, subst, ◌∙◌, inl, inr, arith, length-append}
+use Rattle.std.proofs.Common.{◌≡◌, ℕ, zero, suc, ◌+◌, ◌<◌, ◌≤◌, List, [], ◌∷◌, Some, length, map, slice_get, get_or, All, refl, sym, ap, subst, ◌∙◌, arith}
 use Rattle.std.specs.Option.{option_map}
 use Rattle.std.proofs.lemmas.Option.{slice_get-get_or, slice_get-map, same_Some}
 use Rattle.class_tree.specs.Paths.{IsLeast}
@@ -17,6 +17,7 @@ use Rattle.link_program.proofs.Joined.{length-joined, slice_get-joined}
 pub at_map : {X Y : Type 0} (f : X → Y) (xs : List X) (i : ℕ) (x : X) → slice_get xs i ≡ Some x → slice_get (map f xs) i ≡ Some (f x)
 at_map f xs i x e = slice_get-map f xs i ∙ ap (option_map f) e
 
+-- what a mapped list has comes from an element
 pub from_map : {X Y : Type 0} (f : X → Y) (xs : List X) (i : ℕ) (y : Y) → slice_get (map f xs) i ≡ Some y → (x : X) × (slice_get xs i ≡ Some x) × (f x ≡ y)
 from_map f [] i y e = absurd (cc (e))
 from_map f (x ∷ xs) zero y e = (x, refl, same_Some (f x) y e)
@@ -24,12 +25,15 @@ from_map f (x ∷ xs) (suc i) y e = from_map f xs i y e
 
 -- the method with this number, by its parts
 module _ (hs : List MethodHead) (bs : List MethodCode) (as_many : length hs ≡ length bs) (i : ℕ) (m : LinkedMethod) (there : slice_get (joined hs bs) i ≡ Some m) where
+  -- its number is below those of the heads
   below_heads : i < length hs
   below_heads = omega (arith, slice_get-below (joined hs bs) i m there, length-joined hs bs as_many)
 
+  -- it is what is joined there
   is_joined : (h : MethodHead) (b : MethodCode) → slice_get hs i ≡ Some h → slice_get bs i ≡ Some b → linked_method h b ≡ m
   is_joined h b p q = same_Some (linked_method h b) m (sym (slice_get-joined hs bs i h b p q) ∙ there)
 
+  -- the code there is its code
   pub body_of : (b : MethodCode) → b ≡ get_or bs i b → IsBodyOf m b
   body_of b read =
       let h = slice_get-there hs i below_heads in
@@ -37,6 +41,7 @@ module _ (hs : List MethodHead) (bs : List MethodCode) (as_many : length hs ≡ 
       let same = is_joined h.0 b h.1 q in
       record { code = ap (λ (x : LinkedMethod). x.code) (sym same); catches = ap (λ (x : LinkedMethod). x.catches) (sym same) }
 
+  -- the head there is its head
   pub head_of : (h : MethodHead) → h ≡ get_or hs i h → All IsHead hs → IsHeadOf m h
   head_of h read found =
       let p : slice_get hs i ≡ Some h = slice_get-get_or hs i h below_heads ∙ ap Some (sym read) in
@@ -53,9 +58,11 @@ module _ (hs : List MethodHead) (bs : List MethodCode) (as_many : length hs ≡ 
 
 -- the first method of a text, which isn't the root
 module _ (p : LinkedProgram) (text : List ℕ) where
+  -- a method of the text stands at its number
   of_text : (n : ℕ) → HasText p text n → slice_get (texts_of p.methods) n ≡ Some text
   of_text n h = at_map (λ (m : LinkedMethod). m.text) p.methods n h.method h.there ∙ ap Some h.is_text
 
+  -- the first of the text, where it isn't the root
   pub first_text : (n : ℕ) → IsFirstPlace (texts_of p.methods) text n → n + 1 < length p.methods → IsLeast (HasText p text) n
   first_text n is less =
       let m = from_map (λ (m : LinkedMethod). m.text) p.methods n text is.holds in
@@ -64,8 +71,10 @@ module _ (p : LinkedProgram) (text : List ℕ) where
         first = λ k before h. is.first k before (of_text k h);
       }
 
+  -- no method has a text that isn't there
   pub no_text : (Has (texts_of p.methods) text → ⊥) → (n : ℕ) → HasText p text n → ⊥
   no_text none n h = none (n, of_text n h)
 
+  -- a text that only the root has
   pub root_text : (first root : ℕ) → IsFirstPlace (texts_of p.methods) text first → root ≤ first → root + 1 ≡ length p.methods → (n : ℕ) → HasText p text n → ⊥
   root_text first root is late last n h = is.first n (let less = h.not_root in omega (arith, less, late, last)) (of_text n h)

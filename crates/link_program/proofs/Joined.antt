@@ -1,5 +1,5 @@
 -- Methods by what they are and by their code.
-use Rattle.std.proofs.Common.{◌≡◌, ℕ, zero, suc, ◌<◌, ◌++◌, List, [], ◌∷◌, Some, length, map, slice_get, refl, ap, arith}
+use Rattle.std.proofs.Common.{◌≡◌, ℕ, zero, suc, ◌++◌, List, [], ◌∷◌, Some, length, map, slice_get, refl, ap, arith}
 use Rattle.link_rules.specs.Linked.{LinkedMethod}
 use Rattle.link_indexes.specs.Tables.{codes_of}
 use Rattle.link_indexes.specs.declared.method.MethodCode.{MethodCode}

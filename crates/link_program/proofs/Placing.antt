@@ -1,11 +1,11 @@
 -- The first places of texts, as the texts come.
-use Rattle.std.proofs.Common.{◌≡◌, ℕ, ◌+◌, ◌<◌, ◌++◌, Bool, true, false, List, [], ◌∷◌, Option, Some, None, length, length-append, slice_get, get_or, take, ◌≤◌, refl, sym, ap, subst, ◌∙◌, inl, inr, arith}
+use Rattle.std.proofs.Common.{◌≡◌, ℕ, ◌+◌, ◌<◌, ◌++◌, true, false, List, [], ◌∷◌, Option, Some, None, length, length-append, slice_get, get_or, take, ◌≤◌, refl, sym, ap, subst, ◌∙◌, inl, inr, arith}
 use Rattle.std.proofs.lemmas.List.{take_all, take_more, length-take-le}
 use Rattle.std.specs.Option.{IfNone, IfSome, is_some}
 use Rattle.std.proofs.lemmas.Option.{slice_get-get_or}
 use Rattle.jim_ast.specs.Lists.{Adds, Has}
 use Rattle.jim_ast.specs.declared.names.NameId.{NameId}
-use Rattle.jim_ast.proofs.Places.{slice_get-append_left, slice_get-below, slice_get-push, slice_get-pushed, slice_get-there}
+use Rattle.jim_ast.proofs.Places.{slice_get-append_left, slice_get-below, slice_get-push, slice_get-pushed}
 use Rattle.link_program.specs.Places.{ArePlaces, IsFirstPlace}
 use Rattle.link_program.specs.declared.places.FirstPlaces.{FirstPlaces}
 

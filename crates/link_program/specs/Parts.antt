@@ -1,5 +1,5 @@
 -- A linked program by its parts.
-use Rattle.std.specs.Prelude.{◌≡◌, ℕ, ◌<◌, ◌^◌, List, length, map}
+use Rattle.std.specs.Prelude.{map}
 use Rattle.class_tree.specs.Rows.{Rows}
 use Rattle.link_rules.specs.Linked.{LinkedKey, LinkedProgram}
 use Rattle.link_rules.specs.WellLinked.{IsInForm}

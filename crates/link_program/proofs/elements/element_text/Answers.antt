@@ -1,16 +1,17 @@
-use Rattle.std.proofs.Common.{◌<◌, length, arith}
-use Rattle.link_program.proofs.Arrays.{none_left, none_more, text_at}
+use Rattle.std.proofs.Common.{sym, ap, ◌∙◌, rules}
+use Rattle.link_codes.specs.declared.elements.ElementText.{ElementText}
+use Rattle.link_program.proofs.Arrays.{at_below, text_there}
 use Rattle.link_program.proofs.elements.element_text.Goals as goal
 
-pub returns-then-element-index : goal.returns-then-element-index
-returns-then-element-index c =
-    text_at c.args.elements.now c.loop-element.element-index c.args.index c.element-item.result c.as_str.result.now c.loop-element-test.true c.element-item.is c.if-element-index.true
-    c.as_str.ensures
+pub bounds-elements-at : goal.bounds-elements-at
+bounds-elements-at c = at_below c.args.elements.now c.args.index c.count_before-at.result c.count_before-at.ensures c.requires.there.0 c.requires.there.1
 
-pub loop-element-preserved : goal.loop-element-preserved
-loop-element-preserved c =
-    none_more c.args.elements.now c.loop-element.element-index c.args.index c.element-item.result c.loop-element-test.true c.element-item.is c.if-element-index.false c.loop-element.invariant
+pub offset_bounds-elements-at : goal.offset_bounds-elements-at
+offset_bounds-elements-at c =
+    let below = at_below c.args.elements.now c.args.index c.count_before-at.result c.count_before-at.ensures c.requires.there.0 c.requires.there.1 in
+    search rules
 
-pub unreachable-requires : goal.unreachable-requires
-unreachable-requires c =
-    none_left c.args.elements.now c.args.index c.requires.0 (λ k e below there same. c.loop-element.invariant k e (omega (arith, below, c.loop-element-test.false)) there same) c.requires.1
+pub returns : goal.returns
+returns c =
+    text_there c.args.elements.now c.args.index c.count_before-at.result c.count_before-at.ensures c.requires.there.0 c.requires.there.1 c.requires.ordered c.index-elements-at.result c.as_str.result.now
+    c.index-elements-at.is (c.as_str.ensures ∙ ap (λ (e : ElementText). e.text) (sym c.index-elements-at.is))

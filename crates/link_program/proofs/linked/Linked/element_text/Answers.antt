@@ -1,11 +1,19 @@
-use Rattle.std.proofs.Common.{List, ℕ, subst, sym, ◌∙◌}
+use Rattle.std.proofs.Common.{List, map, subst}
 use Rattle.link_rules.specs.Linked.{Element}
+use Rattle.link_rules.specs.Lists.{AreIncreasing}
 use Rattle.link_program.specs.Accessed.{HasElementText}
-use Rattle.link_program.proofs.Arrays.{makes_found}
+use Rattle.link_program.proofs.Arrays.{makes_found, makes_ordered, ordered_pairs}
 use Rattle.link_program.proofs.linked.Linked.element_text.Goals as goal
 
-pub element_text-requires : goal.element_text-requires
-element_text-requires c =
+pub element_text-requires-clause-ordered : goal.element_text-requires-clause-ordered
+element_text-requires-clause-ordered c =
+    let makes = rw (← c.self.view_is) at c.requires in
+    let ordered = makes_ordered _ c.args.method c.args.index c.self.invariant.form makes in
+    let head = c.head.ensures makes.method makes.there in
+    rw c.as_slice.ensures (ordered_pairs c.head.result.now.elements (subst (λ (es : List Element). AreIncreasing (map (λ (e : Element). e.index) es)) head.elements ordered))
+
+pub element_text-requires-clause-there : goal.element_text-requires-clause-there
+element_text-requires-clause-there c =
     let makes = rw (← c.self.view_is) at c.requires in
     let found = makes_found _ c.args.method c.args.index c.self.invariant.form makes in
     let head = c.head.ensures makes.method makes.there in

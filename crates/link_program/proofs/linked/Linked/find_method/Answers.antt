@@ -1,6 +1,4 @@
-use Rattle.std.proofs.Common.{◌≡◌, ◌+◌, ◌<◌, length, sym, subst, arith}
-use Rattle.link_rules.specs.Linked.{LinkedProgram}
-use Rattle.link_program.specs.Accessed.{HasText}
+use Rattle.std.proofs.Common.{arith}
 use Rattle.link_program.proofs.Found.{first_text, no_text, root_text}
 use Rattle.link_program.proofs.linked.Linked.find_method.Goals as goal
 

@@ -1,4 +1,4 @@
-use Rattle.std.proofs.Common.{◌≡◌, ◌++◌, ◌∷◌, [], ℕ, length, sym, subst, ◌∙◌}
+use Rattle.std.proofs.Common.{◌≡◌, ◌++◌, ◌∷◌, [], length, sym, subst, ◌∙◌}
 use Rattle.link_program.proofs.Placing.{adds_new, found_has, not_found, places_again, places_more}
 use Rattle.link_program.proofs.places.FirstPlaces.push.Goals as goal
 
