@@ -1,9 +1,7 @@
-use Rattle.std.proofs.Common.{◌≡◌, ◌<◌, ℕ, Some, [], List, length, get_or, slice_get, subst, sym, ap, ◌∙◌, arith}
+use Rattle.std.proofs.Common.{◌≡◌, ◌<◌, ℕ, Some, [], List, length, get_or, slice_get, subst, sym, arith}
 use Rattle.std.proofs.lemmas.List.{length-map}
-use Rattle.std.proofs.lemmas.List.Elements.{All-get_or}
 use Rattle.std.proofs.lemmas.Option.{get_or_from_slice_get}
 use Rattle.link_rules.specs.Classes.{DeclaredClass, class_name}
-use Rattle.link_rules.specs.Names.{text_of}
 use Rattle.link_classes.specs.Classes.{ClassTable}
 use Rattle.link_classes.specs.Seen.{IsSeen, seen_class, seen_classes}
 use Rattle.link_classes.specs.declared.seen.ClassIn.{ClassIn}
