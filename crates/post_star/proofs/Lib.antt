@@ -17,3 +17,4 @@ pub mod Sweeping
 pub mod Gathers
 pub mod Takes
 pub mod Found
+pub mod Parted

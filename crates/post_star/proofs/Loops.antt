@@ -270,7 +270,7 @@ applied_over d rules steps now w node in_marked n top parent g (Pop from mark to
     by (inl q) = g _ (in_marked.all (Marked node top) _ h (ap (λ (m : ℕ). Marked m mark) e ∙ ap (Marked node) (sym q))) k
     by (inr q) = inr (λ o. absurd (q o))
 
-module _ {W : Type 0} {d : Domain W} {rules : List (Rule W)} {starts : List (Start W)} (l : IsLawful W d) (steps : List BaseStep) (told : IsTold d rules starts) (x : Index W) (index : IsIndex rules steps x) (node : ℕ) where
+module _ {W : Type 0} {d : Domain W} {rules : List (Rule W)} {starts : List (Start W)} (l : IsLawful W d) (steps : List BaseStep) (told : IsTold d rules starts) (x : Index W) {its : List BaseStep} (index : IsIndex rules its x) (node : ℕ) where
   -- the pops of an entry are rules
   pub pops_listed : (entry : Entry) (pops : List (Rule W)) → ((b : ℕ) → entry ≡ Base b → pops ≡ found_at x.pops (Node node)) → ((n mark : ℕ) → entry ≡ Pushed n mark → pops ≡ found_at x.marked (Marked node mark)) → (rule : Rule W) → Has pops rule → Has rules rule
   pops_listed (Base b) pops p q rule h = listed_in x.pops (Node node) index.pops (p b refl) rule h

@@ -6,3 +6,4 @@ pub mod Measures
 pub mod Readings
 pub mod Sweeps
 pub mod Works
+pub mod Systems

@@ -114,6 +114,10 @@ IsClosed {W} d rules starts steps t =
     ((rule : Rule W) → Has rules rule → (e e' : Entry) → IsDone d steps t rule e e')
     × ((s : Start W) → Has starts s → Leq d s.weight (weight_at d t (Base s.base) s.node))
 
+-- the weights of the rules are meant
+abbrev pub AreTold : {W : Type 0} → Domain W → List (Rule W) → Type 0
+AreTold {W} d rules = (r : Rule W) → Has rules r → d.IsMeant (weight_of r)
+
 -- the weights of the rules and of the starts are meant
 pub record IsTold {W : Type 0} (d : Domain W) (rules : List (Rule W)) (starts : List (Start W)) : Type 0 where
   pub rule : (r : Rule W) → Has rules r → d.IsMeant (weight_of r)

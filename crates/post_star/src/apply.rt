@@ -2,7 +2,7 @@ ghost use Rattle.std.specs.Prelude.{OnOk};
 ghost use Rattle.auto_table.specs.declared.rule.Rule.TheVariants.{Flow, Push, Pop};
 ghost use Rattle.auto_table.specs.declared.entry.Entry.TheVariants.{Base, Pushed};
 ghost use Rattle.auto_table.specs.Lists.{Has};
-ghost use Rattle.post_star.specs.Index.{IsIndex};
+ghost use Rattle.post_star.specs.Systems.{IsIndexed, rules_of};
 ghost use Rattle.post_star.specs.Works.{IsTold, IsSound, IsProgress, IsApplied, IsAppliedBetween};
 
 use super::copies::copied;
@@ -24,10 +24,10 @@ fn flow_at<W: Weight>(
     to: u32,
     weight: W,
 ) -> Result<(), NoMemory>
-    requires told { IsTold W.domain system.now.rules.now system.now.starts.now }
-    requires sound { IsSound W.domain system.now.rules.now system.now.starts.now system.now.steps.now table.old }
-    requires listed { Has system.now.rules.now (Flow from to weight) }
-    ensures progress { OnOk result (IsProgress W.domain system.now.rules.now system.now.starts.now system.now.steps.now table.old table.new items.old.items items.new.items entry) }
+    requires told { IsTold W.domain (rules_of system.now) system.now.starts.now }
+    requires sound { IsSound W.domain (rules_of system.now) system.now.starts.now system.now.steps.now table.old }
+    requires listed { Has (rules_of system.now) (Flow from to weight) }
+    ensures progress { OnOk result (IsProgress W.domain (rules_of system.now) system.now.starts.now system.now.steps.now table.old table.new items.old.items items.new.items entry) }
     ensures applied { OnOk result (IsApplied W.domain system.now.steps.now table.new items.new.items (Flow from to weight) entry) }
 {
     let reached = table.at(entry, from).extend(weight);
@@ -46,10 +46,10 @@ fn push_at<W: Weight>(
     mark: u32,
     weight: W,
 ) -> Result<(), NoMemory>
-    requires told { IsTold W.domain system.now.rules.now system.now.starts.now }
-    requires sound { IsSound W.domain system.now.rules.now system.now.starts.now system.now.steps.now table.old }
-    requires listed { Has system.now.rules.now (Push from to mark weight) }
-    ensures progress { OnOk result (IsProgress W.domain system.now.rules.now system.now.starts.now system.now.steps.now table.old table.new items.old.items items.new.items entry) }
+    requires told { IsTold W.domain (rules_of system.now) system.now.starts.now }
+    requires sound { IsSound W.domain (rules_of system.now) system.now.starts.now system.now.steps.now table.old }
+    requires listed { Has (rules_of system.now) (Push from to mark weight) }
+    ensures progress { OnOk result (IsProgress W.domain (rules_of system.now) system.now.starts.now system.now.steps.now table.old table.new items.old.items items.new.items entry) }
     ensures applied { OnOk result (IsApplied W.domain system.now.steps.now table.new items.new.items (Push from to mark weight) entry) }
 {
     let reached = table.at(entry, from).extend(weight);
@@ -70,11 +70,11 @@ fn pop_at_base<W: Weight>(
     to: u32,
     weight: W,
 ) -> Result<(), NoMemory>
-    requires told { IsTold W.domain system.now.rules.now system.now.starts.now }
-    requires index { IsIndex system.now.rules.now system.now.steps.now system.now.index.now }
-    requires sound { IsSound W.domain system.now.rules.now system.now.starts.now system.now.steps.now table.old }
-    requires listed { Has system.now.rules.now (Pop from mark to weight) }
-    ensures progress { OnOk result (IsProgress W.domain system.now.rules.now system.now.starts.now system.now.steps.now table.old table.new items.old.items items.new.items (Base base)) }
+    requires told { IsTold W.domain (rules_of system.now) system.now.starts.now }
+    requires index { IsIndexed system.now }
+    requires sound { IsSound W.domain (rules_of system.now) system.now.starts.now system.now.steps.now table.old }
+    requires listed { Has (rules_of system.now) (Pop from mark to weight) }
+    ensures progress { OnOk result (IsProgress W.domain (rules_of system.now) system.now.starts.now system.now.steps.now table.old table.new items.old.items items.new.items (Base base)) }
     ensures applied { OnOk result (IsApplied W.domain system.now.steps.now table.new items.new.items (Pop from mark to weight) (Base base)) }
 {
     let reached = table.at(Entry::Base(base), from).extend(weight);
@@ -99,10 +99,10 @@ fn pop_at_pushed<W: Weight>(
     to: u32,
     weight: W,
 ) -> Result<(), NoMemory>
-    requires told { IsTold W.domain system.now.rules.now system.now.starts.now }
-    requires sound { IsSound W.domain system.now.rules.now system.now.starts.now system.now.steps.now table.old }
-    requires listed { Has system.now.rules.now (Pop from mark to weight) }
-    ensures progress { OnOk result (IsProgress W.domain system.now.rules.now system.now.starts.now system.now.steps.now table.old table.new items.old.items items.new.items (Pushed node mark)) }
+    requires told { IsTold W.domain (rules_of system.now) system.now.starts.now }
+    requires sound { IsSound W.domain (rules_of system.now) system.now.starts.now system.now.steps.now table.old }
+    requires listed { Has (rules_of system.now) (Pop from mark to weight) }
+    ensures progress { OnOk result (IsProgress W.domain (rules_of system.now) system.now.starts.now system.now.steps.now table.old table.new items.old.items items.new.items (Pushed node mark)) }
     ensures applied { OnOk result (IsApplied W.domain system.now.steps.now table.new items.new.items (Pop from mark to weight) (Pushed node mark)) }
 {
     let entry = Entry::Pushed { node, mark };
@@ -125,11 +125,11 @@ pub fn apply_at<W: Weight>(
     rule: &Rule<W>,
     entry: Entry,
 ) -> Result<(), NoMemory>
-    requires told { IsTold W.domain system.now.rules.now system.now.starts.now }
-    requires index { IsIndex system.now.rules.now system.now.steps.now system.now.index.now }
-    requires sound { IsSound W.domain system.now.rules.now system.now.starts.now system.now.steps.now table.old }
-    requires listed { Has system.now.rules.now rule.now }
-    ensures progress { OnOk result (IsProgress W.domain system.now.rules.now system.now.starts.now system.now.steps.now table.old table.new items.old.items items.new.items entry) }
+    requires told { IsTold W.domain (rules_of system.now) system.now.starts.now }
+    requires index { IsIndexed system.now }
+    requires sound { IsSound W.domain (rules_of system.now) system.now.starts.now system.now.steps.now table.old }
+    requires listed { Has (rules_of system.now) rule.now }
+    ensures progress { OnOk result (IsProgress W.domain (rules_of system.now) system.now.starts.now system.now.steps.now table.old table.new items.old.items items.new.items entry) }
     ensures applied { OnOk result (IsApplied W.domain system.now.steps.now table.new items.new.items rule.now entry) }
 {
     match *rule {
@@ -167,10 +167,10 @@ pub fn apply_between<W: Weight>(
     child: Entry,
     parent: Entry,
 ) -> Result<(), NoMemory>
-    requires told { IsTold W.domain system.now.rules.now system.now.starts.now }
-    requires sound { IsSound W.domain system.now.rules.now system.now.starts.now system.now.steps.now table.old }
-    requires listed { Has system.now.rules.now rule.now }
-    ensures progress { OnOk result (IsProgress W.domain system.now.rules.now system.now.starts.now system.now.steps.now table.old table.new items.old.items items.new.items parent) }
+    requires told { IsTold W.domain (rules_of system.now) system.now.starts.now }
+    requires sound { IsSound W.domain (rules_of system.now) system.now.starts.now system.now.steps.now table.old }
+    requires listed { Has (rules_of system.now) rule.now }
+    ensures progress { OnOk result (IsProgress W.domain (rules_of system.now) system.now.starts.now system.now.steps.now table.old table.new items.old.items items.new.items parent) }
     ensures applied { OnOk result (IsAppliedBetween W.domain system.now.steps.now table.new items.new.items rule.now child parent) }
 {
     if let Rule::Pop {

@@ -5,6 +5,7 @@
 pub mod apply;
 pub mod bases;
 pub mod by_key;
+pub mod common;
 pub mod copies;
 pub mod index;
 pub mod key;
@@ -19,6 +20,7 @@ pub mod turn;
 pub mod work;
 
 pub use bases::{BaseStep, Bases, Start};
+pub use common::Common;
 pub use over_words::any_value;
 pub use reading::value;
 pub use saturation::saturate;

@@ -10,11 +10,9 @@ use weight_laws::Weight;
 /// How far a saturation has come.
 #[derive(Drop)]
 pub struct Progress<W: Weight> {
-    /// Where the rules that are done, and the steps, are looked for.
+    /// Where the rules of its own that are done are looked for.
     pub index: Index<W>,
     pub table: Table<W>,
-    /// How many base steps the index has.
-    pub filed: usize,
     /// How many rules the index has. They are done in the table.
     pub taken: usize,
     /// How many starts are in the table.
@@ -26,14 +24,12 @@ impl<W: Weight> Progress<W> {
     pub fn new(alloc: Global) -> Self
         ensures index { IsIndex {W = W} [] [] result.index }
         ensures table { IsBlank W.domain result.table }
-        ensures filed { result.filed ≡ 0 }
         ensures taken { result.taken ≡ 0 }
         ensures begun { result.begun ≡ 0 }
     {
         Progress {
             index: Index::new(alloc),
             table: Table::new(alloc),
-            filed: 0,
             taken: 0,
             begun: 0,
         }
@@ -43,7 +39,6 @@ impl<W: Weight> Progress<W> {
     pub fn give_up(&mut self, alloc: Global)
         ensures index { IsIndex {W = W} [] [] self.new.index }
         ensures table { IsBlank W.domain self.new.table }
-        ensures filed { self.new.filed ≡ 0 }
         ensures taken { self.new.taken ≡ 0 }
         ensures begun { self.new.begun ≡ 0 }
     {

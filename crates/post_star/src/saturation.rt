@@ -42,7 +42,7 @@ pub fn saturate<W: Weight>(
     ensures { IfOk result (λ table. IsSaturated W.domain rules.now starts.now bases.now.steps.now bases.now.last table) }
 {
     let steps = copied(alloc, bases.steps)?;
-    let mut work = Work::new(alloc, steps, bases.last);
+    let mut work = Work::with_bases(alloc, steps, bases.last)?;
     complete(&mut work, rules, starts)?;
     Ok(work.into_table())
 }

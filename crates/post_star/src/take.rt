@@ -5,6 +5,7 @@ ghost use Rattle.auto_table.specs.Cells.{weight_at};
 ghost use Rattle.post_star.specs.declared.rise.Item.{Item as AnItem};
 ghost use Rattle.post_star.specs.declared.rise.Item.TheVariants.{At};
 ghost use Rattle.post_star.specs.Index.{from_of};
+ghost use Rattle.post_star.specs.Systems.{rules_of};
 ghost use Rattle.post_star.specs.Works.{IsTold, IsBegun, IsSettling, AreTaken};
 
 use super::index::from_node;
@@ -82,9 +83,9 @@ pub fn take_starts<W: Weight>(
     items: &mut VecDeque<Item>,
     begun: usize,
 ) -> Result<(), NoMemory>
-    requires told { IsTold W.domain system.now.rules.now system.now.starts.now }
-    requires begun { IsBegun W.domain system.now.rules.now system.now.starts.now system.now.steps.now table.old items.old.items begun }
-    ensures { OnOk result (IsSettling W.domain system.now.rules.now system.now.starts.now system.now.steps.now table.new items.new.items) }
+    requires told { IsTold W.domain (rules_of system.now) system.now.starts.now }
+    requires begun { IsBegun W.domain (rules_of system.now) system.now.starts.now system.now.steps.now table.old items.old.items begun }
+    ensures { OnOk result (IsSettling W.domain (rules_of system.now) system.now.starts.now system.now.steps.now table.new items.new.items) }
 {
     let starts = system.starts;
     for i in begun..starts.len() {

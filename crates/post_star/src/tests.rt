@@ -337,13 +337,13 @@ fn chain_and_one_more(work: &mut Work<Least>) -> Result<(u64, u64), NoMemory>
 
 /// The same of a work with no base steps.
 fn went_on(alloc: Global) -> Result<bool, NoMemory> {
-    let mut work = Work::new(alloc, Vec::new(alloc), 0);
+    let mut work = Work::with_bases(alloc, Vec::new(alloc), 0)?;
     goes_on(&mut work)
 }
 
 /// The same of a work with no base steps.
 fn chain_items(alloc: Global) -> Result<(u64, u64), NoMemory> {
-    let mut work = Work::new(alloc, Vec::new(alloc), 0);
+    let mut work = Work::with_bases(alloc, Vec::new(alloc), 0)?;
     chain_and_one_more(&mut work)
 }
 

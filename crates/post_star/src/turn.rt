@@ -1,13 +1,16 @@
-ghost use Rattle.std.specs.Prelude.{◌≡◌, ◌≤◌, ◌++◌, ◌∷◌, [], OnOk};
+ghost use Rattle.std.specs.Prelude.{◌≡◌, ◌≤◌, ◌++◌, ◌∷◌, [], List, OnOk};
+ghost use Rattle.post_star.specs.declared.bases.BaseStep.{BaseStep as AStep};
 ghost use Rattle.auto_table.specs.declared.rule.Rule.{Rule as ARule};
 ghost use Rattle.auto_table.specs.declared.entry.Entry.TheVariants.{Pushed};
 ghost use Rattle.auto_table.specs.Lists.{Has};
 ghost use Rattle.post_star.specs.Index.{from_of, IsIndex};
+ghost use Rattle.post_star.specs.Systems.{IsIndexed, rules_of};
 ghost use Rattle.post_star.specs.Measures.{Scope, IsScope, IsWithin, work_left};
 ghost use Rattle.post_star.specs.Works.{IsTold, IsSound, IsProgress, IsApplied, IsAppliedBetween, IsSettling, IsClosed};
 
 use super::apply::{apply_at, apply_between};
 use super::copies::copied;
+use super::index::Index;
 use super::key::Key;
 use super::rise::Item;
 use super::system::System;
@@ -38,11 +41,11 @@ fn work_group<W: Weight>(
     group: &[Rule<W>],
     entry: Entry,
 ) -> Result<(), NoMemory>
-    requires told { IsTold W.domain system.now.rules.now system.now.starts.now }
-    requires index { IsIndex system.now.rules.now system.now.steps.now system.now.index.now }
-    requires sound { IsSound W.domain system.now.rules.now system.now.starts.now system.now.steps.now table.old }
-    requires listed { (rule : ARule W) → Has group.now rule → Has system.now.rules.now rule }
-    ensures progress { OnOk result (IsProgress W.domain system.now.rules.now system.now.starts.now system.now.steps.now table.old table.new items.old.items items.new.items entry) }
+    requires told { IsTold W.domain (rules_of system.now) system.now.starts.now }
+    requires index { IsIndexed system.now }
+    requires sound { IsSound W.domain (rules_of system.now) system.now.starts.now system.now.steps.now table.old }
+    requires listed { (rule : ARule W) → Has group.now rule → Has (rules_of system.now) rule }
+    ensures progress { OnOk result (IsProgress W.domain (rules_of system.now) system.now.starts.now system.now.steps.now table.old table.new items.old.items items.new.items entry) }
     ensures applied { OnOk result ((rule : ARule W) → Has group.now rule → IsApplied W.domain system.now.steps.now table.new items.new.items rule entry) }
 {
     for rule in group {
@@ -51,7 +54,34 @@ fn work_group<W: Weight>(
     Ok(())
 }
 
-/// Does all rules that lead from the node at the entry. Of the pops a pushed entry needs those of its mark alone.
+/// Does the rules of an index that lead from the node at the entry. Of the pops a pushed entry needs those of its mark alone.
+fn work_index<W: Weight>(
+    alloc: Global,
+    system: &System<'_, W>,
+    table: &mut Table<W>,
+    items: &mut VecDeque<Item>,
+    index: &Index<W>,
+    rules: &[Rule<W>],
+    entry: Entry,
+    node: u32,
+) -> Result<(), NoMemory>
+    requires told { IsTold W.domain (rules_of system.now) system.now.starts.now }
+    requires index { IsIndexed system.now }
+    requires sound { IsSound W.domain (rules_of system.now) system.now.starts.now system.now.steps.now table.old }
+    requires own { (steps : List AStep) × IsIndex rules.now steps index.now }
+    requires listed { (rule : ARule W) → Has rules.now rule → Has (rules_of system.now) rule }
+    ensures progress { OnOk result (IsProgress W.domain (rules_of system.now) system.now.starts.now system.now.steps.now table.old table.new items.old.items items.new.items entry) }
+    ensures applied { OnOk result ((rule : ARule W) → Has rules.now rule → from_of rule ≡ node → IsApplied W.domain system.now.steps.now table.new items.new.items rule entry) }
+{
+    let _rules = rules;
+    let stays = index.stays.at(Key::Node(node));
+    work_group(alloc, system, table, items, stays, entry)?;
+    let pops = index.pops_at(entry, node);
+    work_group(alloc, system, table, items, pops, entry)?;
+    Ok(())
+}
+
+/// Does all rules that lead from the node at the entry.
 fn work_at<W: Weight>(
     alloc: Global,
     system: &System<'_, W>,
@@ -60,16 +90,53 @@ fn work_at<W: Weight>(
     entry: Entry,
     node: u32,
 ) -> Result<(), NoMemory>
-    requires told { IsTold W.domain system.now.rules.now system.now.starts.now }
-    requires index { IsIndex system.now.rules.now system.now.steps.now system.now.index.now }
-    requires sound { IsSound W.domain system.now.rules.now system.now.starts.now system.now.steps.now table.old }
-    ensures progress { OnOk result (IsProgress W.domain system.now.rules.now system.now.starts.now system.now.steps.now table.old table.new items.old.items items.new.items entry) }
-    ensures applied { OnOk result ((rule : ARule W) → Has system.now.rules.now rule → from_of rule ≡ node → IsApplied W.domain system.now.steps.now table.new items.new.items rule entry) }
+    requires told { IsTold W.domain (rules_of system.now) system.now.starts.now }
+    requires index { IsIndexed system.now }
+    requires sound { IsSound W.domain (rules_of system.now) system.now.starts.now system.now.steps.now table.old }
+    ensures progress { OnOk result (IsProgress W.domain (rules_of system.now) system.now.starts.now system.now.steps.now table.old table.new items.old.items items.new.items entry) }
+    ensures applied { OnOk result ((rule : ARule W) → Has (rules_of system.now) rule → from_of rule ≡ node → IsApplied W.domain system.now.steps.now table.new items.new.items rule entry) }
 {
-    let stays = system.index.stays.at(Key::Node(node));
-    work_group(alloc, system, table, items, stays, entry)?;
-    let pops = system.index.pops_at(entry, node);
-    work_group(alloc, system, table, items, pops, entry)?;
+    work_index(
+        alloc,
+        system,
+        table,
+        items,
+        system.index,
+        system.rules,
+        entry,
+        node,
+    )?;
+    work_index(
+        alloc,
+        system,
+        table,
+        items,
+        system.own_index,
+        system.own,
+        entry,
+        node,
+    )?;
+    Ok(())
+}
+
+/// Does the pops of a group at the link of a pushed entry.
+fn work_pops<W: Weight>(
+    system: &System<'_, W>,
+    table: &mut Table<W>,
+    items: &mut VecDeque<Item>,
+    group: &[Rule<W>],
+    child: Entry,
+    parent: Entry,
+) -> Result<(), NoMemory>
+    requires told { IsTold W.domain (rules_of system.now) system.now.starts.now }
+    requires sound { IsSound W.domain (rules_of system.now) system.now.starts.now system.now.steps.now table.old }
+    requires listed { (rule : ARule W) → Has group.now rule → Has (rules_of system.now) rule }
+    ensures progress { OnOk result (IsProgress W.domain (rules_of system.now) system.now.starts.now system.now.steps.now table.old table.new items.old.items items.new.items parent) }
+    ensures applied { OnOk result ((rule : ARule W) → Has group.now rule → IsAppliedBetween W.domain system.now.steps.now table.new items.new.items rule child parent) }
+{
+    for rule in group {
+        apply_between(system, table, items, rule, child, parent)?;
+    }
     Ok(())
 }
 
@@ -83,17 +150,17 @@ fn work_between_at<W: Weight>(
     parent: Entry,
     node: u32,
 ) -> Result<(), NoMemory>
-    requires told { IsTold W.domain system.now.rules.now system.now.starts.now }
-    requires index { IsIndex system.now.rules.now system.now.steps.now system.now.index.now }
-    requires sound { IsSound W.domain system.now.rules.now system.now.starts.now system.now.steps.now table.old }
-    ensures progress { OnOk result (IsProgress W.domain system.now.rules.now system.now.starts.now system.now.steps.now table.old table.new items.old.items items.new.items parent) }
-    ensures applied { OnOk result ((rule : ARule W) → Has system.now.rules.now rule → from_of rule ≡ node → IsAppliedBetween W.domain system.now.steps.now table.new items.new.items rule (Pushed pushed mark) parent) }
+    requires told { IsTold W.domain (rules_of system.now) system.now.starts.now }
+    requires index { IsIndexed system.now }
+    requires sound { IsSound W.domain (rules_of system.now) system.now.starts.now system.now.steps.now table.old }
+    ensures progress { OnOk result (IsProgress W.domain (rules_of system.now) system.now.starts.now system.now.steps.now table.old table.new items.old.items items.new.items parent) }
+    ensures applied { OnOk result ((rule : ARule W) → Has (rules_of system.now) rule → from_of rule ≡ node → IsAppliedBetween W.domain system.now.steps.now table.new items.new.items rule (Pushed pushed mark) parent) }
 {
     let child = Entry::Pushed { node: pushed, mark };
-    let group = system.index.marked.at(Key::Marked { node, mark });
-    for rule in group {
-        apply_between(system, table, items, rule, child, parent)?;
-    }
+    let common = system.index.marked.at(Key::Marked { node, mark });
+    work_pops(system, table, items, common, child, parent)?;
+    let own = system.own_index.marked.at(Key::Marked { node, mark });
+    work_pops(system, table, items, own, child, parent)?;
     Ok(())
 }
 
@@ -107,11 +174,11 @@ fn work_between<W: Weight>(
     mark: u32,
     parent: Entry,
 ) -> Result<(), NoMemory>
-    requires told { IsTold W.domain system.now.rules.now system.now.starts.now }
-    requires index { IsIndex system.now.rules.now system.now.steps.now system.now.index.now }
-    requires sound { IsSound W.domain system.now.rules.now system.now.starts.now system.now.steps.now table.old }
-    ensures progress { OnOk result (IsProgress W.domain system.now.rules.now system.now.starts.now system.now.steps.now table.old table.new items.old.items items.new.items parent) }
-    ensures applied { OnOk result ((rule : ARule W) → Has system.now.rules.now rule → IsAppliedBetween W.domain system.now.steps.now table.new items.new.items rule (Pushed pushed mark) parent) }
+    requires told { IsTold W.domain (rules_of system.now) system.now.starts.now }
+    requires index { IsIndexed system.now }
+    requires sound { IsSound W.domain (rules_of system.now) system.now.starts.now system.now.steps.now table.old }
+    ensures progress { OnOk result (IsProgress W.domain (rules_of system.now) system.now.starts.now system.now.steps.now table.old table.new items.old.items items.new.items parent) }
+    ensures applied { OnOk result ((rule : ARule W) → Has (rules_of system.now) rule → IsAppliedBetween W.domain system.now.steps.now table.new items.new.items rule (Pushed pushed mark) parent) }
 {
     // A node that the child reaches later waits as an item of its own.
     let row = copied(alloc, table.row(Entry::Pushed { node: pushed, mark }))?;
@@ -129,11 +196,11 @@ fn turn<W: Weight>(
     items: &mut VecDeque<Item>,
     item: Item,
 ) -> Result<(), NoMemory>
-    requires told { IsTold W.domain system.now.rules.now system.now.starts.now }
-    requires index { IsIndex system.now.rules.now system.now.steps.now system.now.index.now }
-    requires settling { IsSettling W.domain system.now.rules.now system.now.starts.now system.now.steps.now table.old (items.old.items ++ item ∷ []) }
-    ensures settling { OnOk result (IsSettling W.domain system.now.rules.now system.now.starts.now system.now.steps.now table.new items.new.items) }
-    ensures spent { OnOk result ((u : Scope) → IsScope system.now.rules.now system.now.steps.now u → IsWithin W.domain u table.old (items.old.items ++ item ∷ []) → IsWithin W.domain u table.new items.new.items × (work_left W.domain u table.new items.new.items ≤ work_left W.domain u table.old items.old.items)) }
+    requires told { IsTold W.domain (rules_of system.now) system.now.starts.now }
+    requires index { IsIndexed system.now }
+    requires settling { IsSettling W.domain (rules_of system.now) system.now.starts.now system.now.steps.now table.old (items.old.items ++ item ∷ []) }
+    ensures settling { OnOk result (IsSettling W.domain (rules_of system.now) system.now.starts.now system.now.steps.now table.new items.new.items) }
+    ensures spent { OnOk result ((u : Scope) → IsScope (rules_of system.now) system.now.steps.now u → IsWithin W.domain u table.old (items.old.items ++ item ∷ []) → IsWithin W.domain u table.new items.new.items × (work_left W.domain u table.new items.new.items ≤ work_left W.domain u table.old items.old.items)) }
 {
     match item {
         Item::At { entry, node } => work_at(alloc, system, table, items, entry, node)?,
@@ -156,11 +223,11 @@ pub fn run<W: Weight, V: Watch>(
     items: &mut VecDeque<Item>,
     watch: &mut V,
 ) -> Result<(), NoMemory>
-    requires told { IsTold W.domain system.now.rules.now system.now.starts.now }
-    requires index { IsIndex system.now.rules.now system.now.steps.now system.now.index.now }
-    requires settling { IsSettling W.domain system.now.rules.now system.now.starts.now system.now.steps.now table.old items.old.items }
-    ensures sound { OnOk result (IsSound W.domain system.now.rules.now system.now.starts.now system.now.steps.now table.new) }
-    ensures closed { OnOk result (IsClosed W.domain system.now.rules.now system.now.starts.now system.now.steps.now table.new) }
+    requires told { IsTold W.domain (rules_of system.now) system.now.starts.now }
+    requires index { IsIndexed system.now }
+    requires settling { IsSettling W.domain (rules_of system.now) system.now.starts.now system.now.steps.now table.old items.old.items }
+    ensures sound { OnOk result (IsSound W.domain (rules_of system.now) system.now.starts.now system.now.steps.now table.new) }
+    ensures closed { OnOk result (IsClosed W.domain (rules_of system.now) system.now.starts.now system.now.steps.now table.new) }
 {
     while let Some(item) = items.pop_front() {
         watch.takes(item);

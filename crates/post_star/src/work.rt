@@ -1,10 +1,12 @@
-ghost use Rattle.std.specs.Prelude.{◌≡◌, ◌≤◌, ℕ, List, ◌++◌, ◌∷◌, [], true, false, length, take, OnOk, OnErr};
+ghost use Rattle.std.specs.Prelude.{◌≡◌, ◌+◌, ◌≤◌, ℕ, List, ◌++◌, ◌∷◌, [], true, false, length, take, IfOk, OnOk, OnErr};
 ghost use Rattle.post_star.specs.Derivations.{IsLed, Leads};
 ghost use Rattle.post_star.specs.Index.{IsIndex};
 ghost use Rattle.post_star.specs.Readings.{IsSaturated};
-ghost use Rattle.post_star.specs.Works.{IsTold, IsSound, IsClosed, IsClosedTo, weight_of};
+ghost use Rattle.post_star.specs.Systems.{IsIndexed, rules_of};
+ghost use Rattle.post_star.specs.Works.{IsTold, IsSound, IsClosed, IsClosedTo};
 
 use super::bases::{BaseStep, Bases, Start};
+use super::common::{Common, tell_rule};
 use super::progress::Progress;
 use super::system::{Asked, System};
 use super::take::{take_rules, take_starts};
@@ -12,6 +14,7 @@ use super::turn::{Unwatched, Watch, run};
 use auto_table::{NoMemory, Rule, Table};
 use std::alloc::Global;
 use std::marker::Model;
+use std::rc::Rc;
 use weight_laws::Weight;
 
 /// Brings a table to the end, in which the first rules are done and the first starts are in.
@@ -23,14 +26,14 @@ fn finish<W: Weight, V: Watch>(
     begun: usize,
     watch: &mut V,
 ) -> Result<(), NoMemory>
-    requires told { IsTold W.domain system.now.rules.now system.now.starts.now }
-    requires index { IsIndex system.now.rules.now system.now.steps.now system.now.index.now }
-    requires sound { IsSound W.domain system.now.rules.now system.now.starts.now system.now.steps.now table.old }
-    requires closed { IsClosedTo W.domain system.now.rules.now taken system.now.starts.now begun system.now.steps.now table.old }
-    ensures sound { OnOk result (IsSound W.domain system.now.rules.now system.now.starts.now system.now.steps.now table.new) }
-    ensures closed { OnOk result (IsClosed W.domain system.now.rules.now system.now.starts.now system.now.steps.now table.new) }
+    requires told { IsTold W.domain (rules_of system.now) system.now.starts.now }
+    requires index { IsIndexed system.now }
+    requires sound { IsSound W.domain (rules_of system.now) system.now.starts.now system.now.steps.now table.old }
+    requires closed { IsClosedTo W.domain (rules_of system.now) (length system.now.rules.now + taken) system.now.starts.now begun system.now.steps.now table.old }
+    ensures sound { OnOk result (IsSound W.domain (rules_of system.now) system.now.starts.now system.now.steps.now table.new) }
+    ensures closed { OnOk result (IsClosed W.domain (rules_of system.now) system.now.starts.now system.now.steps.now table.new) }
 {
-    let mut items = take_rules(alloc, system.rules, table, taken)?;
+    let mut items = take_rules(alloc, system.own, table, taken)?;
     take_starts(system, table, &mut items, begun)?;
     run(alloc, system, table, &mut items, watch)
 }
@@ -42,42 +45,30 @@ fn advance<W: Weight, V: Watch>(
     progress: &mut Progress<W>,
     watch: &mut V,
 ) -> Result<(), NoMemory>
-    requires told { IsTold W.domain asked.now.rules.now asked.now.starts.now }
-    requires index { IsIndex (take progress.old.taken asked.now.rules.now) (take progress.old.filed asked.now.steps.now) progress.old.index }
-    requires sound { IsSound W.domain asked.now.rules.now asked.now.starts.now asked.now.steps.now progress.old.table }
-    requires closed { IsClosedTo W.domain asked.now.rules.now progress.old.taken asked.now.starts.now progress.old.begun asked.now.steps.now progress.old.table }
-    ensures index { OnOk result (IsIndex asked.now.rules.now asked.now.steps.now progress.new.index) }
-    ensures sound { OnOk result (IsSound W.domain asked.now.rules.now asked.now.starts.now asked.now.steps.now progress.new.table) }
-    ensures closed { OnOk result (IsClosed W.domain asked.now.rules.now asked.now.starts.now asked.now.steps.now progress.new.table) }
-    ensures filed { OnOk result (progress.new.filed ≡ length asked.now.steps.now) }
-    ensures taken { OnOk result (progress.new.taken ≡ length asked.now.rules.now) }
+    requires told { IsTold W.domain (asked.now.common.now.rules ++ asked.now.own.now) asked.now.starts.now }
+    requires index { IsIndex (take progress.old.taken asked.now.own.now) [] progress.old.index }
+    requires sound { IsSound W.domain (asked.now.common.now.rules ++ asked.now.own.now) asked.now.starts.now asked.now.common.now.steps progress.old.table }
+    requires closed { IsClosedTo W.domain (asked.now.common.now.rules ++ asked.now.own.now) (length asked.now.common.now.rules + progress.old.taken) asked.now.starts.now progress.old.begun asked.now.common.now.steps progress.old.table }
+    ensures index { OnOk result (IsIndex asked.now.own.now [] progress.new.index) }
+    ensures sound { OnOk result (IsSound W.domain (asked.now.common.now.rules ++ asked.now.own.now) asked.now.starts.now asked.now.common.now.steps progress.new.table) }
+    ensures closed { OnOk result (IsClosed W.domain (asked.now.common.now.rules ++ asked.now.own.now) asked.now.starts.now asked.now.common.now.steps progress.new.table) }
+    ensures taken { OnOk result (progress.new.taken ≡ length asked.now.own.now) }
     ensures begun { OnOk result (progress.new.begun ≡ length asked.now.starts.now) }
 {
-    progress.index.add_steps(asked.steps, progress.filed)?;
-    progress.index.add_rules(asked.rules, progress.taken)?;
+    progress.index.add_rules(asked.own, progress.taken)?;
     let system = System {
-        rules: asked.rules,
-        index: &progress.index,
+        rules: asked.common.rules(),
+        steps: asked.common.bases().steps,
+        index: asked.common.index(),
+        own: asked.own,
+        own_index: &progress.index,
         starts: asked.starts,
-        steps: asked.steps,
     };
     let (taken, begun) = (progress.taken, progress.begun);
     finish(alloc, &system, &mut progress.table, taken, begun, watch)?;
-    progress.filed = asked.steps.len();
-    progress.taken = asked.rules.len();
+    progress.taken = asked.own.len();
     progress.begun = asked.starts.len();
     Ok(())
-}
-
-/// The weight of a rule in hand is meant.
-fn tell_rule<W: Weight>(rule: &Rule<W>)
-    ensures { W.domain.IsMeant (weight_of rule.now) }
-{
-    match *rule {
-        Rule::Flow { weight, .. } => weight.told(),
-        Rule::Push { weight, .. } => weight.told(),
-        Rule::Pop { weight, .. } => weight.told(),
-    }
 }
 
 /// A saturation that goes on: rules and starts come in, and `settle` brings the table to the end for all of them. What
@@ -85,41 +76,51 @@ fn tell_rule<W: Weight>(rule: &Rule<W>)
 #[derive(Drop)]
 pub struct Work<W: Weight> {
     alloc: Global,
-    steps: Vec<BaseStep>,
-    last: u32,
-    rules: Vec<Rule<W>>,
+    common: Rc<Common<W>>,
+    /// The rules that it has of its own.
+    own: Vec<Rule<W>>,
     starts: Vec<Start<W>>,
     progress: Progress<W>,
 }
 
 impl<W: Weight> Model for Work<W> {
+    ghost use Rattle.std.specs.Prelude.{◌++◌};
     ghost use Rattle.post_star.specs.Jobs.{Job};
 
     ghost Value = { Job W };
 
     ghost use Rattle.post_star.specs.Jobs.{all_taken, IsWork};
 
-    ghost view = { λ w. record { steps = w.steps.items; last = w.last; rules = w.rules.items; starts = w.starts.items; settled = all_taken w.rules.items w.starts.items w.progress.taken w.progress.begun } };
+    ghost view = { λ w. record { steps = w.common.value.steps; last = w.common.value.last; rules = w.common.value.rules ++ w.own.items; starts = w.starts.items; settled = all_taken w.own.items w.starts.items w.progress.taken w.progress.begun } };
 
-    ghost invariant = { λ w. IsWork W.domain w.steps.items w.last w.rules.items w.progress.index w.starts.items w.progress.table w.progress.filed w.progress.taken w.progress.begun };
+    ghost invariant = { λ w. IsWork W.domain w.common.value w.own.items w.progress.index w.starts.items w.progress.table w.progress.taken w.progress.begun };
 }
 
 impl<W: Weight> Work<W> {
-    /// A work with these base steps and this last base, no rules and no starts. It takes no memory, and is settled.
-    ///
-    /// Each base that a step names leads to the last one by some word.
-    pub fn new(alloc: Global, bases: Vec<BaseStep>, last: u32) -> Self
-        requires led { IsLed {W = W} [] bases.items last }
-        ensures { result ≡ record { steps = bases.items; last = last; rules = []; starts = []; settled = true } }
+    /// A work over what it has in common with others, without rules of its own and starts. It takes no memory, and is settled.
+    pub fn new(alloc: Global, common: Rc<Common<W>>) -> Self
+        ensures { result ≡ record { steps = common.value.steps; last = common.value.last; rules = common.value.rules; starts = []; settled = true } }
     {
+        let _rules = common.rules();
+        let _bases = common.bases();
         Work {
             alloc,
-            steps: bases,
-            last,
-            rules: Vec::new(alloc),
+            common,
+            own: Vec::new(alloc),
             starts: Vec::new(alloc),
             progress: Progress::new(alloc),
         }
+    }
+
+    /// A work with these base steps and this last base, no rules and no starts. It is settled. Want of memory is the only refusal.
+    ///
+    /// Each base that a step names leads to the last one by some word.
+    pub fn with_bases(alloc: Global, bases: Vec<BaseStep>, last: u32) -> Result<Self, NoMemory>
+        requires led { IsLed {W = W} [] bases.items last }
+        ensures { IfOk result (λ w. w ≡ record { steps = bases.items; last = last; rules = []; starts = []; settled = true }) }
+    {
+        let common = Common::new(alloc, Vec::new(alloc), bases, last)?;
+        Ok(Work::new(alloc, Rc::new(alloc, common)?))
     }
 
     /// Puts the rule last. The work is then unsettled; after want of memory it is as before.
@@ -128,7 +129,7 @@ impl<W: Weight> Work<W> {
         ensures err { OnErr result (self.new ≡ self.old) }
     {
         tell_rule(&rule);
-        self.rules.push(rule)?;
+        self.own.push(rule)?;
         Ok(())
     }
 
@@ -165,9 +166,9 @@ impl<W: Weight> Work<W> {
             return Ok(());
         }
         let asked = Asked {
-            rules: &self.rules,
+            common: &self.common,
+            own: &self.own,
             starts: &self.starts,
-            steps: &self.steps,
         };
         match advance(self.alloc, &asked, &mut self.progress, watch) {
             Ok(()) => Ok(()),
@@ -182,7 +183,7 @@ impl<W: Weight> Work<W> {
     pub fn settled(&self) -> bool
         ensures { result ≡ self.now.settled }
     {
-        self.progress.taken == self.rules.len() && self.progress.begun == self.starts.len()
+        self.progress.taken == self.own.len() && self.progress.begun == self.starts.len()
     }
 
     /// The base steps and the last base.
@@ -190,10 +191,7 @@ impl<W: Weight> Work<W> {
         ensures steps { result.steps.now ≡ self.now.steps }
         ensures last { result.last ≡ self.now.last }
     {
-        Bases {
-            steps: &self.steps,
-            last: self.last,
-        }
+        self.common.bases()
     }
 
     /// The table of a settled work, whose values are those of all its rules and starts.

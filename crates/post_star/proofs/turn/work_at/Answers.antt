@@ -1,17 +1,23 @@
-use Rattle.post_star.specs.declared.key.Key.TheVariants.{Node}
 use Rattle.post_star.proofs.Applies.{progress_more}
-use Rattle.post_star.proofs.Loops.{listed_in, pops_listed, both_applied}
+use Rattle.post_star.proofs.Parted.{parted_applied}
+use Rattle.post_star.proofs.Scopes.{has_left, has_right}
 use Rattle.post_star.proofs.turn.work_at.Goals as goal
 
-pub work_group-requires-clause-listed : goal.work_group-requires-clause-listed
-work_group-requires-clause-listed g c = listed_in c.args.system.now.index.now.stays (Node c.args.node) c.requires.index.stays c.at-stays.ensures
+pub work_index-requires-clause-own : goal.work_index-requires-clause-own
+work_index-requires-clause-own g c = (_, c.requires.index.common)
 
-pub work_group-requires-2-clause-listed : goal.work_group-requires-2-clause-listed
-work_group-requires-2-clause-listed g c = pops_listed g.met.W.Weight.laws _ c.requires.told c.args.system.now.index.now c.requires.index c.args.node c.args.entry c.pops_at-pops.result.now c.pops_at-pops.ensures.base c.pops_at-pops.ensures.pushed
+pub work_index-requires-clause-listed : goal.work_index-requires-clause-listed
+work_index-requires-clause-listed g c = has_left c.args.system.now.rules.now c.args.system.now.own.now
+
+pub work_index-requires-2-clause-own : goal.work_index-requires-2-clause-own
+work_index-requires-2-clause-own g c = (_, c.requires.index.own)
+
+pub work_index-requires-2-clause-listed : goal.work_index-requires-2-clause-listed
+work_index-requires-2-clause-listed g c = has_right c.args.system.now.rules.now c.args.system.now.own.now
 
 pub returns-clause-progress : goal.returns-clause-progress
-returns-clause-progress g c = progress_more g.met.W.Weight.laws _ c.requires.told c.requires.sound c.in_ok-work_group.ensures.progress c.in_ok-work_group-2.ensures.progress
+returns-clause-progress g c = progress_more g.met.W.Weight.laws _ c.requires.told c.requires.sound c.in_ok-work_index.ensures.progress c.in_ok-work_index-2.ensures.progress
 
 pub returns-clause-applied : goal.returns-clause-applied
-returns-clause-applied g c = both_applied g.met.W.Weight.laws _ c.requires.told c.args.system.now.index.now c.requires.index c.args.node c.args.entry c.at-stays.result.now c.pops_at-pops.result.now c.at-stays.ensures c.pops_at-pops.ensures.base c.pops_at-pops.ensures.pushed
-    c.in_ok-work_group-2.ensures.progress.kept c.in_ok-work_group.ensures.applied c.in_ok-work_group-2.ensures.applied
+returns-clause-applied g c = parted_applied c.args.system.now.rules.now c.args.system.now.own.now g.met.W.Weight.laws _ c.requires.told c.in_ok-work_index-2.ensures.progress.kept c.args.node c.args.entry
+    c.in_ok-work_index.ensures.applied c.in_ok-work_index-2.ensures.applied
