@@ -1,0 +1,4 @@
+pub mod OneCode
+pub mod OneLink
+pub mod OneList
+pub mod OneRefusal

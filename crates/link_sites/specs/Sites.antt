@@ -1,0 +1,94 @@
+-- The allocation sites of a linked program, the classes of their objects, and the fields that these have.
+use Rattle.std.specs.Prelude.{◌≡◌, ℕ, ◌<◌, ◌⊎◌, List, Some, false, codes, length, slice_get}
+use Rattle.std.specs.Cmp.Lexicographic.{slice_cmp}
+use Rattle.std.specs.Ordering.{nat_cmp}
+use Rattle.std.specs.declared.cmp.Ordering.TheVariants.{Less}
+use Rattle.class_tree.specs.Rows.{Sub}
+use Rattle.link_rules.specs.declared.code.Code.{Code}
+use Rattle.link_rules.specs.declared.code.Code.TheVariants.{New, NewArray}
+use Rattle.link_rules.specs.Classes.{object_name}
+use Rattle.link_rules.specs.Flow.{MayRaise}
+use Rattle.link_rules.specs.Linked.{LinkedProgram}
+use Rattle.link_rules.specs.Targets.{exception_names}
+use Rattle.link_program.specs.Accessed.{field_class}
+use Rattle.link_program.specs.Classes.{names_of}
+use Rattle.link_program.specs.Places.{IsFirstPlace}
+use Rattle.link_sites.specs.declared.place.Place.{Place}
+use Rattle.link_sites.specs.declared.site.Site.{Site}
+use Rattle.link_sites.specs.declared.site.Site.TheVariants as site
+use Rattle.link_sites.specs.Places.{ComesBefore, HasCode, IsSameStatement}
+
+-- the statement makes objects, or arrays
+abbrev pub Makes : Code → Type 0
+Makes (New to class) = Unit {0}
+Makes (NewArray to) = Unit {0}
+Makes _ = ⊥
+
+-- the statement makes arrays
+abbrev pub MakesArrays : Code → Type 0
+MakesArrays (NewArray to) = Unit {0}
+MakesArrays _ = ⊥
+
+-- the statement at the place has the fact, and no exception is in flight there
+abbrev pub IsUnraised : LinkedProgram → Place → (Code → Type 0) → Type 0
+IsUnraised p place Fact = (place.raised ≡ false) × HasCode p place.method place.index Fact
+
+-- a site of the program. A constant that no start node has is one too: it has an object, which nothing holds
+abbrev pub IsSite : LinkedProgram → Site → Type 0
+IsSite p (site.New place) = IsUnraised p place Makes
+IsSite p (site.Raised place kind) = IsUnraised p place (λ code. MayRaise code kind)
+IsSite p (site.Text number) = number < length p.texts
+IsSite p (site.Class number) = number < length p.class_texts
+
+-- the first class with this name
+abbrev pub IsNamedClass : LinkedProgram → List ℕ → ℕ → Type 0
+IsNamedClass p name class = IsFirstPlace (names_of p.classes) name class
+
+-- the class of what a statement makes; that of an array is `java.lang.Object`
+abbrev pub IsClassOfMade : LinkedProgram → Code → ℕ → Type 0
+IsClassOfMade p (New to made) class = class ≡ made
+IsClassOfMade p (NewArray to) class = IsNamedClass p object_name class
+IsClassOfMade p _ class = ⊥
+
+-- the class of the exceptions of this kind
+abbrev pub IsClassOfRaised : LinkedProgram → ℕ → ℕ → Type 0
+IsClassOfRaised p kind class = (name : List ℕ) × (slice_get exception_names kind ≡ Some name) × IsNamedClass p name class
+
+-- the class of the objects of a site
+abbrev pub IsSiteClass : LinkedProgram → Site → ℕ → Type 0
+IsSiteClass p (site.New place) class = IsUnraised p place (λ code. IsClassOfMade p code class)
+IsSiteClass p (site.Raised place kind) class = IsUnraised p place (λ code. MayRaise code kind) × IsClassOfRaised p kind class
+IsSiteClass p (site.Text number) class = (number < length p.texts) × IsNamedClass p (codes "java.lang.String") class
+IsSiteClass p (site.Class number) class = (number < length p.class_texts) × IsNamedClass p (codes "java.lang.Class") class
+
+-- the objects of the site are arrays
+abbrev pub IsArraySite : LinkedProgram → Site → Type 0
+IsArraySite p (site.New place) = IsUnraised p place MakesArrays
+IsArraySite p _ = ⊥
+
+-- objects of this class have the instance field: the class is below the one that declares it
+abbrev pub HasDeclared : LinkedProgram → ℕ → ℕ → Type 0
+HasDeclared p class field = (declaring : ℕ) × (field_class p field ≡ Some declaring) × Sub p.rows class declaring
+
+-- the objects of the site have the field: each declared field that their class has, and arrays have their elements, which the number 0 stands for
+abbrev pub HasField : LinkedProgram → Site → ℕ → Type 0
+HasField p s field = ((field ≡ 0) × IsArraySite p s) ⊎ ((class : ℕ) × IsSiteClass p s class × HasDeclared p class field)
+
+-- a comes before b by the bytes of the texts
+abbrev pub IsTextBefore : List (List ℕ) → ℕ → ℕ → Type 0
+IsTextBefore texts a b = (first : List ℕ) × (second : List ℕ) × (slice_get texts a ≡ Some first) × (slice_get texts b ≡ Some second)
+    × (slice_cmp nat_cmp first second ≡ Less)
+
+-- the order in which sites are printed: what statements make and raise by statement, at one statement what it makes first and then by kind; then
+-- texts and then class constants, each by bytes
+abbrev pub Precedes : LinkedProgram → Site → Site → Type 0
+Precedes p (site.New a) (site.New b) = ComesBefore a b
+Precedes p (site.New a) (site.Raised b kind) = ComesBefore a b ⊎ IsSameStatement a b
+Precedes p (site.Raised a kind) (site.New b) = ComesBefore a b
+Precedes p (site.Raised a kind) (site.Raised b other) = ComesBefore a b ⊎ (IsSameStatement a b × (kind < other))
+Precedes p (site.New a) _ = Unit {0}
+Precedes p (site.Raised a kind) _ = Unit {0}
+Precedes p (site.Text a) (site.Text b) = IsTextBefore p.texts a b
+Precedes p (site.Text a) (site.Class b) = Unit {0}
+Precedes p (site.Class a) (site.Class b) = IsTextBefore p.class_texts a b
+Precedes p _ _ = ⊥
