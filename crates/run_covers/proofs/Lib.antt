@@ -1,0 +1,4 @@
+pub mod Offered
+pub mod Rows
+pub mod Heap
+pub mod Whole

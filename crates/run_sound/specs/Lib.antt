@@ -1,0 +1,4 @@
+pub mod Frames
+pub mod Simulated
+pub mod Composed
+pub mod Links

@@ -1,0 +1,9 @@
+pub mod Crossings
+pub mod Strings
+pub mod More
+pub mod Rounds
+pub mod Compose
+pub mod Found
+pub mod Starts
+pub mod Targets
+pub mod Within

@@ -1,0 +1,4 @@
+pub mod Strings
+pub mod Laws
+pub mod Found
+pub mod Starts

@@ -1,0 +1,174 @@
+-- The edges along which objects go from one node to another.
+--
+-- The rules within a method and between methods are the data flow of a flow-sensitive points-to analysis (Späth, Ali and Bodden 2019). That static
+-- fields forget the calls, and how exceptions flow, is this project's own.
+use Rattle.std.specs.Prelude.{◌≡◌, ℕ, ◌+◌, ◌⊎◌, Bool, List, Option, Some, true, false, slice_get}
+use Rattle.link_rules.specs.declared.code.Arg.{Arg}
+use Rattle.link_rules.specs.declared.code.Code.{Code}
+use Rattle.link_rules.specs.declared.code.Code.TheVariants as code
+use Rattle.link_rules.specs.Flow.{Handles, MayRaise, Next}
+use Rattle.link_rules.specs.Linked.{LinkedMethod, LinkedProgram}
+use Rattle.link_rules.specs.WellLinked.{HasTarget}
+use Rattle.link_sites.specs.declared.place.Place.{Place}
+use Rattle.link_sites.specs.Places.{HasCode, before, in_flight}
+use Rattle.spds_rules.specs.declared.edge.EdgeKind.{EdgeKind}
+use Rattle.spds_rules.specs.declared.edge.EdgeKind.TheVariants.{Flow, Load, Call, Return, Jump}
+use Rattle.spds_rules.specs.declared.node.Node.{Node}
+use Rattle.spds_rules.specs.declared.node.Var.{Var}
+use Rattle.spds_rules.specs.declared.node.Var.TheVariants.{Local, This, Param, Caught, Thrown, Made, Raised}
+use Rattle.spds_rules.specs.Nodes.{IsNode, arg_var}
+
+-- a variable of a frame
+abbrev pub IsOfFrame : Var → Type 0
+IsOfFrame (Local x) = Unit {0}
+IsOfFrame This = Unit {0}
+IsOfFrame (Param number) = Unit {0}
+IsOfFrame Caught = Unit {0}
+IsOfFrame _ = ⊥
+
+-- the statement assigns the local
+abbrev pub AssignsTo : Code → ℕ → Type 0
+AssignsTo (code.This to) x = x ≡ to
+AssignsTo (code.Param to number) x = x ≡ to
+AssignsTo (code.Caught to) x = x ≡ to
+AssignsTo (code.Copy to a) x = x ≡ to
+AssignsTo (code.Cast to a) x = x ≡ to
+AssignsTo (code.New to class) x = x ≡ to
+AssignsTo (code.NewArray to) x = x ≡ to
+AssignsTo (code.Numeric to divides) x = x ≡ to
+AssignsTo (code.Length to a) x = x ≡ to
+AssignsTo (code.Load to base field) x = x ≡ to
+AssignsTo (code.LoadCell to base) x = x ≡ to
+AssignsTo (code.LoadStatic to field) x = x ≡ to
+AssignsTo (code.Call to mode class key receiver args targets) x = to ≡ Some x
+AssignsTo _ x = ⊥
+
+-- a variable of the frame that the statement doesn't assign
+abbrev pub Leaves : Code → Var → Type 0
+Leaves c (Local x) = AssignsTo c x → ⊥
+Leaves c v = IsOfFrame v
+
+-- the statement assigns what v is to the local w
+abbrev pub Assigns : Code → Var → Var → Type 0
+Assigns (code.This to) v w = (v ≡ This) × (w ≡ Local to)
+Assigns (code.Param to number) v w = (v ≡ Param number) × (w ≡ Local to)
+Assigns (code.Caught to) v w = (v ≡ Caught) × (w ≡ Local to)
+Assigns (code.Copy to a) v w = (arg_var a ≡ Some v) × (w ≡ Local to)
+Assigns (code.Cast to a) v w = (arg_var a ≡ Some v) × (w ≡ Local to)
+Assigns (code.New to class) v w = (v ≡ Made) × (w ≡ Local to)
+Assigns (code.NewArray to) v w = (v ≡ Made) × (w ≡ Local to)
+Assigns _ v w = ⊥
+
+-- what the statement puts in flight: an exception that it raises, or its operand
+abbrev pub IsThrownBy : Code → Var → Type 0
+IsThrownBy c (Raised kind) = MayRaise c kind
+IsThrownBy (code.Throw a) v = arg_var a ≡ Some v
+IsThrownBy _ v = ⊥
+
+-- what a handler finds: the locals, the receiver and the parameters as they were, and what was in flight as what is caught
+abbrev pub IsCaughtAs : Var → Var → Type 0
+IsCaughtAs (Local x) w = w ≡ Local x
+IsCaughtAs This w = w ≡ This
+IsCaughtAs (Param number) w = w ≡ Param number
+IsCaughtAs Thrown w = w ≡ Caught
+IsCaughtAs _ w = ⊥
+
+-- v before the statement at t of a method goes to w at s, over the statement, into flight, or from flight into a handler
+abbrev pub FlowsIn : LinkedMethod → Code → ℕ → Bool → Var → ℕ → Bool → Var → Type 0
+FlowsIn m c t false v s false w = Next c t s × ((Leaves c v × (w ≡ v)) ⊎ Assigns c v w)
+FlowsIn m c t false v s true w = (s ≡ t) × ((IsOfFrame v × (w ≡ v)) ⊎ (IsThrownBy c v × (w ≡ Thrown)))
+FlowsIn m c t true v s false w = Handles m.catches t s × IsCaughtAs v w
+FlowsIn m c t true v s true w = ⊥
+
+-- an edge within a frame
+pub record IsFlow (p : LinkedProgram) (a b : Node) : Type 0 where
+  pub same : b.place.method ≡ a.place.method
+  pub method : LinkedMethod
+  pub there : slice_get p.methods a.place.method ≡ Some method
+  pub code : Code
+  pub here : slice_get method.code a.place.index ≡ Some code
+  pub flows : FlowsIn method code a.place.index a.place.raised a.var b.place.index b.place.raised b.var
+
+-- the statement loads the field of v into w
+abbrev pub LoadsInto : Code → Var → ℕ → Var → Type 0
+LoadsInto (code.Load to base field) v f w = (v ≡ Local base) × (f ≡ field) × (w ≡ Local to)
+LoadsInto (code.LoadCell to base) v f w = (v ≡ Local base) × (f ≡ 0) × (w ≡ Local to)
+LoadsInto _ v f w = ⊥
+
+-- an edge from what is loaded from to what is loaded into
+pub record IsLoad (p : LinkedProgram) (a : Node) (field : ℕ) (b : Node) : Type 0 where
+  pub same : b.place.method ≡ a.place.method
+  pub unraised : (a.place.raised ≡ false) × (b.place.raised ≡ false)
+  pub loads : HasCode p a.place.method a.place.index (λ c. LoadsInto c a.var field b.var × Next c a.place.index b.place.index)
+
+-- the statement stores v into the static field
+abbrev pub StoresStatic : Code → Var → ℕ → Type 0
+StoresStatic (code.StoreStatic field a) v f = (f ≡ field) × (arg_var a ≡ Some v)
+StoresStatic _ v f = ⊥
+
+-- the statement loads the static field into w
+abbrev pub LoadsStatic : Code → ℕ → Var → Type 0
+LoadsStatic (code.LoadStatic to field) f w = (f ≡ field) × (w ≡ Local to)
+LoadsStatic _ f w = ⊥
+
+-- an edge from what is stored into a static field to each local that the field is loaded into
+pub record IsJump (p : LinkedProgram) (a b : Node) : Type 0 where
+  pub field : ℕ
+  pub load : ℕ
+  pub unraised : (a.place.raised ≡ false) × (b.place.raised ≡ false)
+  pub stores : HasCode p a.place.method a.place.index (λ c. StoresStatic c a.var field)
+  pub loads : HasCode p b.place.method load (λ c. LoadsStatic c field b.var × Next c load b.place.index)
+
+-- the call passes v as w
+abbrev pub Passes : Option ℕ → List Arg → Var → Var → Type 0
+Passes receiver args v This = (x : ℕ) × (receiver ≡ Some x) × (v ≡ Local x)
+Passes receiver args v (Param number) = (a : Arg) × (slice_get args number ≡ Some a) × (arg_var a ≡ Some v)
+Passes receiver args v _ = ⊥
+
+-- an edge from what a call passes to what a method that it may run begins with
+pub record IsPassed (p : LinkedProgram) (a : Node) (call : Place) (b : Node) : Type 0 where
+  pub from : a.place ≡ call
+  pub unraised : call.raised ≡ false
+  pub target : HasTarget p call.method call.index b.place.method
+  pub begins : b.place ≡ before b.place.method 0
+  pub passes : Passes target.receiver target.args a.var b.var
+
+-- the statement returns v
+abbrev pub Returns : Code → Var → Type 0
+Returns (code.Return (Some a)) v = arg_var a ≡ Some v
+Returns _ v = ⊥
+
+-- a value that is returned goes to the local that takes the call's result, just behind the call
+pub record IsResult (p : LinkedProgram) (a : Node) (call : Place) (to : Option ℕ) (b : Node) : Type 0 where
+  pub returned : HasCode p a.place.method a.place.index (λ c. Returns c a.var)
+  pub unraised : a.place.raised ≡ false
+  pub goes_on : b.place ≡ before call.method (call.index + 1)
+  pub local : ℕ
+  pub taken : to ≡ Some local
+  pub is_local : b.var ≡ Local local
+
+-- an exception that leaves a method is in flight at the call
+pub record IsEscape (a : Node) (call : Place) (b : Node) : Type 0 where
+  pub raised : a.place.raised ≡ true
+  pub at_call : b.place ≡ in_flight call.method call.index
+  pub thrown : (a.var ≡ Thrown) × (b.var ≡ Thrown)
+
+-- an edge from what leaves a method that the call may run to where it comes to
+pub record IsReturned (p : LinkedProgram) (a : Node) (call : Place) (b : Node) : Type 0 where
+  pub unraised : call.raised ≡ false
+  pub target : HasTarget p call.method call.index a.place.method
+  pub gives : IsResult p a call target.to b ⊎ IsEscape a call b
+
+-- the rows of the table of edges, by their kind
+abbrev pub IsRow : LinkedProgram → Node → EdgeKind → Node → Type 0
+IsRow p a Flow b = IsFlow p a b
+IsRow p a (Load field) b = IsLoad p a field b
+IsRow p a (Call call) b = IsPassed p a call b
+IsRow p a (Return call) b = IsReturned p a call b
+IsRow p a Jump b = IsJump p a b
+
+-- an edge of the program: a row that joins two of its nodes
+pub record IsEdge (p : LinkedProgram) (a : Node) (kind : EdgeKind) (b : Node) : Type 0 where
+  pub from : IsNode p a
+  pub to : IsNode p b
+  pub row : IsRow p a kind b

@@ -1,0 +1,6 @@
+pub mod Nodes
+pub mod Edges
+pub mod Stores
+pub mod Demand
+pub mod Systems
+pub mod Answers

@@ -1,0 +1,23 @@
+-- The stores into instance fields and into elements of arrays.
+use Rattle.std.specs.Prelude.{◌≡◌, ℕ, Some, false}
+use Rattle.link_rules.specs.declared.code.Code.{Code}
+use Rattle.link_rules.specs.declared.code.Code.TheVariants as code
+use Rattle.link_rules.specs.Linked.{LinkedProgram}
+use Rattle.link_sites.specs.Places.{HasCode}
+use Rattle.spds_rules.specs.declared.node.Var.{Var}
+use Rattle.spds_rules.specs.declared.node.Var.TheVariants.{Local}
+use Rattle.spds_rules.specs.declared.store.StoreAt.{StoreAt}
+use Rattle.spds_rules.specs.Nodes.{arg_var}
+
+-- the statement stores v into the field of w. A store of null or of a number stores nothing
+abbrev pub StoresInto : Code → ℕ → Var → Var → Type 0
+StoresInto (code.Store base field a) f w v = (f ≡ field) × (w ≡ Local base) × (arg_var a ≡ Some v)
+StoresInto (code.StoreCell base a) f w v = (f ≡ 0) × (w ≡ Local base) × (arg_var a ≡ Some v)
+StoresInto _ f w v = ⊥
+
+-- a store of the program
+pub record IsStore (p : LinkedProgram) (s : StoreAt) : Type 0 where
+  pub unraised : s.place.raised ≡ false
+  pub base_there : s.base.place ≡ s.place
+  pub arg_there : s.arg.place ≡ s.place
+  pub stores : HasCode p s.place.method s.place.index (λ c. StoresInto c s.field s.base.var s.arg.var)

@@ -1,0 +1,6 @@
+pub mod Listing
+pub mod Fitting
+pub mod Offering
+pub mod Shaping
+pub mod Firsts
+pub mod Determined
