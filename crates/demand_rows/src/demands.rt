@@ -1,0 +1,233 @@
+//! What queries demand: how many nodes, and which sites.
+ghost use Rattle.std.specs.Prelude.{All, IsTrue};
+ghost use Rattle.spds_rules.specs.Nodes.{IsNode};
+
+use super::linked_of;
+use super::programs::{
+    ALL_SORTS, ESCAPES, INHERITED, NULL_RECEIVER, PASSED_BOX, RECURSION, SAME_TEXT, STATIC_BOX,
+    STORED_NULL, TWO_BOXES, TWO_CALLS,
+};
+use super::spots::{Origin, Spot, node, site};
+use demand_set::{Demand, DemandError, demand};
+use jim_ast::NoMemory;
+use link_program::Linked;
+use link_sites::Site;
+use spds_nodes::{is_node, site_of};
+use spds_rules::{Node, Var};
+use std::alloc::{AllocError, Global};
+use std::test::Fail;
+
+// A query of a program: its targets, how many nodes it demands, and of which sites start nodes are among them, in their order.
+struct Case {
+    name: &'static str,
+    text: &'static str,
+    targets: &'static [Spot],
+    nodes: u32,
+    sites: &'static [Origin],
+}
+
+const CASES: [Case; 14] = [
+    Case {
+        name: "two calls",
+        text: TWO_CALLS,
+        targets: &[Spot::Before(1, 4, Var::Local(2))],
+        nodes: 10,
+        sites: &[Origin::Made(1, 0), Origin::Made(1, 1)],
+    },
+    Case {
+        name: "two boxes",
+        text: TWO_BOXES,
+        targets: &[Spot::Before(2, 8, Var::Local(4))],
+        nodes: 31,
+        sites: &[
+            Origin::Made(2, 0),
+            Origin::Made(2, 1),
+            Origin::Made(2, 2),
+            Origin::Made(2, 3),
+        ],
+    },
+    Case {
+        name: "passed box",
+        text: PASSED_BOX,
+        targets: &[Spot::Before(1, 4, Var::Local(2))],
+        nodes: 13,
+        sites: &[Origin::Made(0, 3), Origin::Made(1, 0)],
+    },
+    Case {
+        name: "static box",
+        text: STATIC_BOX,
+        targets: &[Spot::Before(0, 9, Var::Local(5))],
+        nodes: 16,
+        sites: &[Origin::Made(0, 0), Origin::Made(0, 1), Origin::Made(0, 2)],
+    },
+    Case {
+        name: "recursion",
+        text: RECURSION,
+        targets: &[Spot::Before(1, 1, Var::Local(0))],
+        nodes: 5,
+        sites: &[Origin::Made(0, 1)],
+    },
+    Case {
+        name: "escapes",
+        text: ESCAPES,
+        targets: &[Spot::Before(2, 4, Var::Local(1))],
+        nodes: 15,
+        sites: &[
+            Origin::Made(0, 0),
+            Origin::Made(0, 1),
+            Origin::Fault(0, 2, 0),
+            Origin::Fault(0, 3, 0),
+        ],
+    },
+    Case {
+        name: "what is caught",
+        text: ESCAPES,
+        targets: &[Spot::Before(2, 3, Var::Local(0))],
+        nodes: 12,
+        sites: &[
+            Origin::Made(0, 0),
+            Origin::Fault(0, 2, 0),
+            Origin::Fault(0, 3, 0),
+        ],
+    },
+    Case {
+        name: "null receiver",
+        text: NULL_RECEIVER,
+        targets: &[Spot::Before(0, 4, Var::Local(1))],
+        nodes: 4,
+        sites: &[Origin::Fault(0, 1, 0)],
+    },
+    Case {
+        name: "inherited",
+        text: INHERITED,
+        targets: &[Spot::Before(2, 2, Var::Local(1))],
+        nodes: 5,
+        sites: &[Origin::Made(0, 0), Origin::Made(1, 0)],
+    },
+    Case {
+        name: "one text twice",
+        text: SAME_TEXT,
+        targets: &[
+            Spot::Before(1, 3, Var::Local(0)),
+            Spot::Before(1, 3, Var::Local(1)),
+        ],
+        nodes: 7,
+        sites: &[Origin::Text(0)],
+    },
+    Case {
+        name: "two texts",
+        text: SAME_TEXT,
+        targets: &[
+            Spot::Before(1, 3, Var::Local(0)),
+            Spot::Before(1, 3, Var::Local(2)),
+        ],
+        nodes: 6,
+        sites: &[Origin::Text(1), Origin::Text(0)],
+    },
+    Case {
+        name: "all sorts",
+        text: ALL_SORTS,
+        targets: &[Spot::Before(0, 9, Var::Local(0))],
+        nodes: 10,
+        sites: &[
+            Origin::Made(0, 8),
+            Origin::Text(1),
+            Origin::Text(0),
+            Origin::Class(1),
+            Origin::Class(0),
+        ],
+    },
+    Case {
+        name: "stored null",
+        text: STORED_NULL,
+        targets: &[Spot::Before(0, 4, Var::Local(2))],
+        nodes: 5,
+        sites: &[Origin::Made(0, 0)],
+    },
+    Case {
+        name: "unset",
+        text: STORED_NULL,
+        targets: &[Spot::Before(0, 0, Var::Local(2))],
+        nodes: 1,
+        sites: &[],
+    },
+];
+
+fn sites_are(sites: &[Site], origins: &[Origin]) -> bool {
+    sites.len() == origins.len()
+        && sites
+            .iter()
+            .zip(origins)
+            .all(|(found, origin)| *found == site(*origin))
+}
+
+// Whether each node has its number, and those at which objects come to be have the number of their site.
+fn are_numbered(found: &Demand) -> bool {
+    for (number, node) in found.nodes().iter().enumerate() {
+        if found.number_of(*node) != u32::try_from(number).ok() {
+            return false;
+        }
+        if found.site_number_of(*node).is_some() != site_of(*node).is_some() {
+            return false;
+        }
+    }
+    true
+}
+
+// Whether the query demands what it is to demand, within a budget of just as many nodes.
+fn fits(alloc: Global, linked: &Linked, targets: &[Node], case: &Case) -> Result<bool, NoMemory>
+    requires { All (IsNode linked.now) targets.now }
+{
+    match demand(alloc, linked, targets, case.nodes) {
+        Ok(found) => Ok(
+            found.nodes().len() == case.nodes as usize
+                && sites_are(found.sites(), case.sites)
+                && are_numbered(&found),
+        ),
+        Err(DemandError::OverBudget { .. }) => Ok(false),
+        Err(DemandError::NoMemory) => Err(AllocError),
+    }
+}
+
+// Whether it demands more than the budget allows.
+fn exceeds(alloc: Global, linked: &Linked, targets: &[Node], budget: u32) -> Result<bool, NoMemory>
+    requires { All (IsNode linked.now) targets.now }
+{
+    match demand(alloc, linked, targets, budget) {
+        Ok(_) => Ok(false),
+        Err(DemandError::OverBudget { budget: told }) => Ok(told == budget),
+        Err(DemandError::NoMemory) => Err(AllocError),
+    }
+}
+
+// Whether the program has all the nodes.
+fn are_nodes(linked: &Linked, nodes: &[Node]) -> bool
+    ensures { IsTrue result → All (IsNode linked.now) nodes.now }
+{
+    nodes.iter().all(|node| is_node(linked, *node))
+}
+
+fn is_right(alloc: Global, linked: &Linked, case: &Case) -> Result<bool, NoMemory> {
+    let targets: Vec<Node> = case.targets.iter().map(|spot| node(*spot)).collect(alloc)?;
+    if !are_nodes(linked, &targets) {
+        return Ok(false);
+    }
+    let one_less = case.nodes.saturating_sub(1);
+    Ok(fits(alloc, linked, &targets, case)? && exceeds(alloc, linked, &targets, one_less)?)
+}
+
+fn is_right_of(alloc: Global, case: &Case) -> Result<bool, NoMemory> {
+    match linked_of(alloc, case.text) {
+        Some(linked) => is_right(alloc, &linked, case),
+        None => Ok(false),
+    }
+}
+
+#[test]
+fn nodes_and_sites_in_order(rt: HostRuntime) -> Result<(), Fail> {
+    for case in &CASES {
+        let name = case.name;
+        assert!(rt; is_right_of(rt.alloc(), case)?, "{name}");
+    }
+    Ok(())
+}

@@ -1,0 +1,56 @@
+//! Linked programs from texts.
+ghost use Rattle.std.specs.Prelude.{IfSome};
+ghost use Rattle.link_rules.specs.Conditions.{IsRead};
+ghost use Rattle.link_rules.specs.WellLinked.{IsWellLinked};
+
+use jim_ast::Program;
+use jim_link::{declares_named, link};
+use jim_parse::parse;
+use jim_prelude::PRELUDE;
+use jim_text::lex;
+use link_program::Linked;
+use read_laws::derived_programs_are_read;
+use std::alloc::Global;
+
+// The program of a text, if it is one.
+fn read(alloc: Global, text: &str) -> Option<Program>
+    ensures { IfSome result IsRead }
+{
+    derived_programs_are_read();
+    let bytes = text.as_bytes();
+    if bytes.len() > 16_777_216 {
+        return None;
+    }
+    let tokens = lex(alloc, bytes).ok()?;
+    parse(alloc, bytes, &tokens).ok()
+}
+
+// The linked program of two, where no rule refuses them.
+fn joined(alloc: Global, input: &Program, prelude: &Program) -> Option<Linked>
+    requires input { IsRead input.now }
+    requires prelude { IsRead prelude.now }
+    ensures { IfSome result IsWellLinked }
+{
+    if !declares_named(prelude) {
+        return None;
+    }
+    link(alloc, input, prelude, "Main").ok()
+}
+
+// The linked program of one and the stand-ins.
+fn linked_with(alloc: Global, input: &Program) -> Option<Linked>
+    requires { IsRead input.now }
+    ensures { IfSome result IsWellLinked }
+{
+    let prelude = read(alloc, PRELUDE)?;
+    joined(alloc, input, &prelude)
+}
+
+/// The program of a text, linked with the stand-ins for Java's own classes from the `main` of its class `Main` on. `None` where the text is no
+/// program, where a rule of linking refuses it, and for want of memory.
+pub fn linked_of(alloc: Global, text: &str) -> Option<Linked>
+    ensures { IfSome result IsWellLinked }
+{
+    let input = read(alloc, text)?;
+    linked_with(alloc, &input)
+}

@@ -1,0 +1,32 @@
+//! A linked program as a graph.
+ghost use Rattle.std.specs.Prelude.{None};
+ghost use Rattle.spds_rules.specs.Edges.{IsEdge};
+ghost use Rattle.spds_rules.specs.Stores.{IsStore};
+
+use demand_walk::{Graph, NoMemory};
+use link_program::Linked;
+use spds_nodes::{into, stores_of};
+use spds_rules::{Edge, Node, StoreAt};
+use std::alloc::Global;
+
+/// The edges and the stores of a linked program. It doesn't tell what it was asked for.
+#[derive(Drop)]
+pub struct ProgramGraph<'a> {
+    pub linked: &'a Linked,
+}
+
+impl<'a> Graph for ProgramGraph<'a> {
+    ghost edge = { λ g. IsEdge g.linked.now };
+
+    ghost store = { λ g. IsStore g.linked.now };
+
+    ghost asked = { λ g. None };
+
+    fn edges_into(&mut self, alloc: Global, node: Node) -> Result<Vec<Edge>, NoMemory> {
+        into(alloc, self.linked, node)
+    }
+
+    fn stores(&mut self, alloc: Global, field: u32) -> Result<Vec<StoreAt>, NoMemory> {
+        stores_of(alloc, self.linked, field)
+    }
+}

@@ -1,0 +1,9 @@
+pub mod Appended
+pub mod Keys
+pub mod SameKey
+pub mod Asked
+pub mod Grown
+pub mod Followed
+pub mod Searched
+pub mod Counts
+pub mod Selected

@@ -1,0 +1,105 @@
+//! What a walk takes in at one node.
+ghost use Rattle.std.specs.Prelude.{◌≡◌, ◌++◌, ◌∷◌, [], ◌⊎◌, ℕ, List, OnErr, OnOk};
+ghost use Rattle.jim_ast.specs.Lists.{Adds, Has};
+ghost use Rattle.spds_rules.specs.declared.edge.Edge.{Edge};
+ghost use Rattle.spds_rules.specs.Demand.{AreAll};
+ghost use Rattle.demand_walk.specs.Graphs.{AreSameEdges, AreSameStores, Asks, EdgeInto, StoreOf};
+ghost use Rattle.demand_walk.specs.Searches.{ComesFrom, ComesFromOne, Grows, IsEndOf, IsFollowed, IsStored};
+
+use super::fields::Fields;
+use super::graph::{Graph, NoMemory};
+use super::nodes::Nodes;
+use spds_rules::{Edge, EdgeKind, Node, StoreAt};
+use std::alloc::Global;
+
+/// What a walk has found so far.
+#[derive(Drop)]
+pub struct Found {
+    pub nodes: Nodes,
+    pub edges: Vec<Edge>,
+    pub fields: Fields,
+    pub stores: Vec<StoreAt>,
+}
+
+// Adds the nodes of the stores.
+fn add_ends(nodes: &mut Nodes, stores: &[StoreAt]) -> Result<(), NoMemory>
+    ensures grows { OnOk result (Grows (IsEndOf (Has stores.now)) nodes.old nodes.new) }
+    ensures ends { OnOk result ((n : Node) → IsEndOf (Has stores.now) n → Has nodes.new n) }
+{
+    for store in stores {
+        nodes.add(store.base)?;
+        nodes.add(store.arg)?;
+    }
+    Ok(())
+}
+
+// Adds the stores of a field that is new, and their nodes.
+fn load<G: Graph>(
+    alloc: Global,
+    graph: &mut G,
+    nodes: &mut Nodes,
+    stores: &mut Vec<StoreAt>,
+    field: u32,
+) -> Result<(), NoMemory>
+    ensures same_edges { AreSameEdges (G.edge graph.old) (G.edge graph.new) }
+    ensures same_stores { AreSameStores (G.store graph.old) (G.store graph.new) }
+    ensures kept { Asks (G.asked graph.old) [] (G.asked graph.new) }
+    ensures grows { OnOk result (Grows (IsEndOf (StoreOf (G.store graph.old) field)) nodes.old nodes.new) }
+    ensures stored { OnOk result ((fields : List ℕ) → (Has fields field → ⊥) → IsStored (G.store graph.old) nodes.old fields stores.old.items
+        → IsStored (G.store graph.old) nodes.new (fields ++ field ∷ []) stores.new.items) }
+{
+    let found = graph.stores(alloc, field)?;
+    add_ends(nodes, &found)?;
+    stores.extend_from_slice(&found)?;
+    Ok(())
+}
+
+// Adds an edge, its source, and, where it loads a field that no edge before it loads, the stores of the field and their nodes.
+fn follow<G: Graph>(
+    alloc: Global,
+    graph: &mut G,
+    found: &mut Found,
+    edge: Edge,
+) -> Result<(), NoMemory>
+    requires followed { IsFollowed (G.store graph.old) found.old.nodes found.old.edges.items found.old.fields found.old.stores.items }
+    ensures same_edges { AreSameEdges (G.edge graph.old) (G.edge graph.new) }
+    ensures same_stores { AreSameStores (G.store graph.old) (G.store graph.new) }
+    ensures kept { Asks (G.asked graph.old) [] (G.asked graph.new) }
+    ensures edges { OnOk result (found.new.edges.items ≡ found.old.edges.items ++ edge ∷ []) }
+    ensures grows { OnOk result (Grows (ComesFrom (G.store graph.old) edge) found.old.nodes found.new.nodes) }
+    ensures followed { OnOk result (IsFollowed (G.store graph.old) found.new.nodes found.new.edges.items found.new.fields found.new.stores.items) }
+{
+    found.nodes.add(edge.from)?;
+    found.edges.push(edge)?;
+    let EdgeKind::Load(field) = edge.kind else {
+        return Ok(());
+    };
+    if !found.fields.add(field)? {
+        return Ok(());
+    }
+    load(alloc, graph, &mut found.nodes, &mut found.stores, field)?;
+    Ok(())
+}
+
+/// Asks for the edges into a node, and follows each.
+pub fn visit<G: Graph>(
+    alloc: Global,
+    graph: &mut G,
+    found: &mut Found,
+    node: Node,
+) -> Result<(), NoMemory>
+    requires followed { IsFollowed (G.store graph.old) found.old.nodes found.old.edges.items found.old.fields found.old.stores.items }
+    ensures same_edges { AreSameEdges (G.edge graph.old) (G.edge graph.new) }
+    ensures same_stores { AreSameStores (G.store graph.old) (G.store graph.new) }
+    ensures asked { OnOk result (Asks (G.asked graph.old) (node ∷ []) (G.asked graph.new)) }
+    ensures asked_or_not { OnErr result (Asks (G.asked graph.old) [] (G.asked graph.new) ⊎ Asks (G.asked graph.old) (node ∷ []) (G.asked graph.new)) }
+    ensures edges { OnOk result ((into : List Edge) × AreAll (EdgeInto (G.edge graph.old) node) into × (found.new.edges.items ≡ found.old.edges.items ++ into)) }
+    ensures grows { OnOk result (Grows (ComesFromOne (G.store graph.old) (EdgeInto (G.edge graph.old) node)) found.old.nodes found.new.nodes) }
+    ensures followed { OnOk result (IsFollowed (G.store graph.old) found.new.nodes found.new.edges.items found.new.fields found.new.stores.items) }
+{
+    let into = graph.edges_into(alloc, node)?;
+    for edge in &into {
+        follow(alloc, graph, found, *edge)?;
+    }
+    Ok(())
+}

@@ -1,0 +1,14 @@
+pub mod Apart
+pub mod Brought
+pub mod Complete
+pub mod Ends
+pub mod Filed
+pub mod Flights
+pub mod Froms
+pub mod Joined
+pub mod Named
+pub mod Numbered
+pub mod Parts
+pub mod Sources
+pub mod Started
+pub mod Statements

@@ -1,0 +1,8 @@
+use Rattle.std.proofs.Common.{take}
+use Rattle.jim_ast.specs.Lists.{Has}
+use Rattle.spds_nodes.specs.Added.{IsAdded, Over}
+use Rattle.spds_nodes.specs.Into.{IsReturnFrom}
+use Rattle.spds_nodes.proofs.rows.push_returns_of.Given as goal
+
+abbrev pub invariant-loop-index : goal.invariant-loop-index
+invariant-loop-index l = IsAdded (Over (Has (take l.index-index l.statements)) (IsReturnFrom l.linked l.node l.call l.target)) l.fn.edges.items l.edges.items

@@ -1,0 +1,5 @@
+pub mod Added
+pub mod Codes
+pub mod Into
+pub mod Starts
+pub mod Stored

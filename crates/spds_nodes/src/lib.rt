@@ -1,0 +1,22 @@
+//! The edges into a node, the start nodes of a site and the stores of a field, exactly as the definitions of `spds_rules` have them, read off the
+//! indexes of a linked program.
+#![tactic(auto)]
+
+mod behind;
+mod codes;
+mod edges;
+mod flows;
+mod found;
+mod nodes;
+mod places;
+mod raised;
+mod rows;
+mod sites;
+mod starts;
+mod stores;
+
+pub use edges::into;
+pub use nodes::{is_node, site_of};
+pub use sites::{has_field, site_class};
+pub use starts::starts_of;
+pub use stores::stores_of;
