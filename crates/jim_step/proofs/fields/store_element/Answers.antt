@@ -1,0 +1,5 @@
+use Rattle.jim_step.proofs.Wheres.{where_not}
+use Rattle.jim_step.proofs.fields.store_element.Goals as goal
+
+pub returns-else-is_array-clause-row : goal.returns-else-is_array-clause-row
+returns-else-is_array-clause-row c = λ p top. where_not _ _ c.is_array.result (rw (← c.site.ensures) c.is_array.ensures) c.if-is_array.false

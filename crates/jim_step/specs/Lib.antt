@@ -1,0 +1,10 @@
+pub mod Frames
+pub mod Keeping
+pub mod Leaving
+pub mod Named
+pub mod Plans
+pub mod Ready
+pub mod Sizes
+pub mod Stacks
+pub mod Standing
+pub mod Steady

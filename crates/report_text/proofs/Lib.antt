@@ -1,0 +1,4 @@
+pub mod Aliased
+pub mod Growing
+pub mod Made
+pub mod Standing

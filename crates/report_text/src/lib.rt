@@ -1,0 +1,12 @@
+//! The texts of replies: places and allocation sites of a linked program, and what is answered about them, as a user reads them.
+#![tactic(auto)]
+
+mod answers;
+mod places;
+mod sites;
+#[cfg(test)]
+mod tests;
+
+pub use answers::{alias_text, answer_text};
+pub use places::{place_text, push_place_text};
+pub use sites::{push_site_text, site_text};

@@ -1,0 +1,107 @@
+//! The texts of allocation sites.
+ghost use Rattle.std.specs.Prelude.{◌≡◌, ◌<◌, Some, IfOk, OnOk, slice_get, string_bytes};
+ghost use Rattle.link_rules.specs.Flow.{MayRaise};
+ghost use Rattle.link_rules.specs.Targets.{exception_names};
+ghost use Rattle.link_sites.specs.Sites.{IsSite, IsUnraised, Makes};
+ghost use Rattle.report_text.specs.Texts.{AddsText, IsMadeAt, IsNewText, IsRaisedText, IsSiteText, constant_text};
+
+use super::places::push_place_text;
+use jim_ast::NoMemory;
+use link_program::Linked;
+use link_rules::Code;
+use link_sites::{Place, Site};
+use std::alloc::Global;
+
+// The name of the class of the exceptions of a kind.
+fn exception_name(kind: u8) -> &'static str
+    requires { kind < 6 }
+    ensures { slice_get exception_names kind ≡ Some result.now }
+{
+    match kind {
+        0 => "java.lang.NullPointerException",
+        1 => "java.lang.ArrayIndexOutOfBoundsException",
+        2 => "java.lang.ArrayStoreException",
+        3 => "java.lang.NegativeArraySizeException",
+        4 => "java.lang.ClassCastException",
+        _ => "java.lang.ArithmeticException",
+    }
+}
+
+// Adds the name of the class of which a statement makes an object, or the type of the array that it makes.
+fn push_made(text: &mut String, linked: &Linked, place: Place) -> Result<(), NoMemory>
+    requires { IsUnraised linked.now place Makes }
+    ensures { OnOk result (AddsText (IsMadeAt linked.now place) (string_bytes text.old) (string_bytes text.new)) }
+{
+    let methods = linked.methods();
+    prove!(place.method < methods);
+    match linked.code(place.method)[place.index as usize] {
+        Code::New { class, .. } => text.push_str(linked.class_name(class)),
+        Code::NewArray { .. } => {
+            text.push_str(linked.element_text(place.method, place.index))?;
+            text.push_str("[]")
+        }
+        _ => unreachable!(),
+    }
+}
+
+// Adds the text of the objects that a statement makes.
+fn push_new(text: &mut String, linked: &Linked, place: Place) -> Result<(), NoMemory>
+    requires { IsUnraised linked.now place Makes }
+    ensures { OnOk result (AddsText (IsNewText linked.now place) (string_bytes text.old) (string_bytes text.new)) }
+{
+    push_place_text(text, linked, place)?;
+    text.push_str(" new ")?;
+    push_made(text, linked, place)
+}
+
+// Adds the text of the exceptions of a kind that a statement raises.
+fn push_raised(text: &mut String, linked: &Linked, place: Place, kind: u8) -> Result<(), NoMemory>
+    requires { IsUnraised linked.now place (λ code. MayRaise code kind) }
+    ensures { OnOk result (AddsText (IsRaisedText linked.now place kind) (string_bytes text.old) (string_bytes text.new)) }
+{
+    push_place_text(text, linked, place)?;
+    text.push_str(" raise ")?;
+    text.push_str(exception_name(kind))
+}
+
+// Adds the text of a constant: what it is, and its spelling in quotes.
+fn push_constant(text: &mut String, word: &str, spelling: &str) -> Result<(), NoMemory>
+    ensures { OnOk result (AddsText (λ added. added ≡ constant_text word.now spelling.now) (string_bytes text.old) (string_bytes text.new)) }
+{
+    text.push_str(word)?;
+    text.push_str(" \"")?;
+    text.push_str(spelling)?;
+    text.push_str("\"")
+}
+
+/// Adds the text of a site of the program: `PLACE new CLASS` for what a statement makes, the class of an array being the type of its elements and `[]`;
+/// `PLACE raise CLASS` for the implicit exceptions of one kind that a statement raises; `text "SPELLING"` and `class "SPELLING"` for constants.
+pub fn push_site_text(text: &mut String, linked: &Linked, site: Site) -> Result<(), NoMemory>
+    requires { IsSite linked.now site }
+    ensures { OnOk result (AddsText (IsSiteText linked.now site) (string_bytes text.old) (string_bytes text.new)) }
+{
+    match site {
+        Site::New(place) => push_new(text, linked, place),
+        Site::Raised(place, kind) => push_raised(text, linked, place, kind),
+        Site::Text(number) => {
+            push_constant(text, "text", linked.texts()[number as usize].as_str())
+        }
+        Site::Class(number) => {
+            push_constant(
+                text,
+                "class",
+                linked.class_texts()[number as usize].as_str(),
+            )
+        }
+    }
+}
+
+/// The text of a site of the program, as bytes.
+pub fn site_text(alloc: Global, linked: &Linked, site: Site) -> Result<Vec<u8>, NoMemory>
+    requires { IsSite linked.now site }
+    ensures { IfOk result (λ text. IsSiteText linked.now site text.items) }
+{
+    let mut text = String::new(alloc);
+    push_site_text(&mut text, linked, site)?;
+    Ok(text.into_bytes())
+}

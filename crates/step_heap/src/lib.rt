@@ -1,0 +1,13 @@
+//! The heap of a run: objects with all that was written into them, and indexes by which the value of a field and the elements of an array are
+//! read without a look at each write.
+#![tactic(auto)]
+
+mod heap;
+mod indexed;
+mod object;
+
+pub use heap::Heap;
+pub use object::Object;
+
+#[cfg(test)]
+mod tests;
