@@ -1,0 +1,13 @@
+pub mod AtNode
+pub mod CallStrings
+pub mod Coming
+pub mod Counted
+pub mod Filed
+pub mod Moved
+pub mod Order
+pub mod Searching
+pub mod Spelled
+pub mod Stepped
+pub mod Targets
+pub mod Trails
+pub mod Truths

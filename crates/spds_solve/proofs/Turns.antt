@@ -1,0 +1,112 @@
+-- The turns of the search.
+use Rattle.std.proofs.Common.{◌≡◌, ℕ, zero, suc, ◌+◌, ◌<◌, ◌≤◌, ◌↔◌, ◌⊎◌, ◌++◌, All, List, [], ◌∷◌, length, map, take, Some, slice_get, slice_set, sym, ap, ◌∙◌, subst, inl, inr, length-append, arith}
+use Rattle.std.specs.List.{flat_map}
+use Rattle.std.proofs.lemmas.Bool.{cases_eq}
+use Rattle.std.proofs.Math.Seq.{take-append_seam}
+use Rattle.std.proofs.lemmas.List.{append-nil, length-set}
+use Rattle.demand_walk.proofs.Counts.{length-IsApart}
+use Rattle.jim_ast.specs.Lists.{Has, IsApart}
+use Rattle.jim_ast.proofs.Places.{slice_get-below, slice_get-set_other, slice_get-set_same}
+use Rattle.link_laws.proofs.Lists.{all_at, at_all, map_at}
+use Rattle.link_rules.specs.Linked.{LinkedProgram}
+use Rattle.link_sites.specs.declared.site.Site.{Site}
+use Rattle.spds_solve.specs.Searches.{AllBuilt, AllSettled, AreFoundBy, AreRefreshed, IsCandidate, IsComplete}
+use Rattle.spds_solve.proofs.Whole.{candidate_range}
+use Rattle.spds_tables.proofs.Lists.{Has-flat_map, Has-right}
+use Rattle.spds_tables.specs.declared.numbered.Met.{Met}
+use Rattle.spds_tables.specs.declared.parts.Parts.{Parts}
+use Rattle.spds_tables.specs.declared.tables.SiteTables.{SiteTables}
+use Rattle.spds_tables.specs.Parts.{IsInParts}
+use Rattle.spds_tables.specs.Tables.{AreSettled}
+
+module _ (parts : Parts) (old mets : List Met) where
+  -- no table is refreshed yet
+  pub refreshed_none : (tables : List SiteTables) → AllBuilt parts old tables → AreRefreshed parts old mets 0 tables
+  refreshed_none tables built = record { count = built.count; settled = λ site t low there. absurd (omega arith); waiting = λ site t low there. built.each site t there }
+
+  -- one more is
+  pub refreshed_more : (tables : List SiteTables) (site : ℕ) (t : SiteTables) → site < length tables → AreRefreshed parts old mets site tables → AreSettled parts site mets t
+      → AreRefreshed parts old mets (site + 1) (slice_set tables site t)
+  refreshed_more tables site t low was now = record {
+    count = length-set tables site t ∙ was.count;
+    settled = λ k x below there. elim (cases_eq k site) [
+      | inl e ↦
+          let same : x ≡ t = (let a = slice_get-set_same tables site t low in let b : slice_get (slice_set tables site t) site ≡ Some x = subst (λ (n : ℕ). slice_get (slice_set tables site t) n ≡ Some x) e there in cc) in
+          subst (λ (y : SiteTables). AreSettled parts k mets y) (sym same) (subst (λ (n : ℕ). AreSettled parts n mets t) (sym e) now)
+      | inr n ↦ was.settled k x (omega arith) (sym (slice_get-set_other tables site k t n) ∙ there)
+    ];
+    waiting = λ k x low2 there. was.waiting k x (omega arith) (sym (slice_get-set_other tables site k t (λ e. absurd (omega arith))) ∙ there);
+  }
+
+  -- all are
+  pub refreshed_all : (tables : List SiteTables) (done : ℕ) → length tables ≤ done → AreRefreshed parts old mets done tables → AllSettled parts mets tables
+  refreshed_all tables done all was = record {
+    count = was.count;
+    each = λ site t there. was.settled site t (let below = slice_get-below tables site t there in omega arith) there;
+  }
+
+-- settled tables are built
+pub settled_built : (parts : Parts) (mets : List Met) (tables : List SiteTables) → AllSettled parts mets tables → AllBuilt parts mets tables
+settled_built parts mets tables s = record { count = s.count; each = λ site t there. (s.each site t there).built }
+
+module _ (p : LinkedProgram) (sites : List Site) (parts : Parts) (old new : List Met) (tables : List SiteTables) (settled : AllSettled parts old tables)
+    (now : (m : Met) → Has new m ↔ (Has old m ⊎ ((m.store < length parts.stores.items) × IsCandidate p sites parts tables m))) where
+  -- what is found in a turn is in range
+  pub turn_inside : All (IsInParts parts) old → All (IsInParts parts) new
+  turn_inside all = all_at (IsInParts parts) new (λ i m there. elim ((now m).0 (i, there)) [
+    | inl a ↦ at_all (IsInParts parts) old a.0 m all a.1
+    | inr c ↦ candidate_range p sites parts old tables settled m c.0 c.1
+  ])
+
+  module _ (behind : (behind : List Met) × (new ≡ old ++ behind)) where
+    -- and is found over what was there before
+    pub turn_found : AreFoundBy p sites parts old → AreFoundBy p sites parts new
+    turn_found found = AreFoundBy.more old behind.0 tables found settled
+        (λ m has. (now m).0 (subst (λ (xs : List Met). Has xs m) (sym behind.1) (Has-right old behind.0 m has))) behind.1
+
+    -- where nothing is, nothing is missing
+    pub turn_complete : length new ≤ length old → AreFoundBy p sites parts old → IsComplete p sites parts tables new
+    turn_complete short found =
+        let same = nothing behind.0 behind.1 short in
+        record {
+          settled = subst (λ (xs : List Met). AllSettled parts xs tables) (sym same) settled;
+          found = turn_found found;
+          closed = λ m store c. (now m).1 (inr (store, c));
+        }
+      where
+        nothing : (behind : List Met) → new ≡ old ++ behind → length new ≤ length old → new ≡ old
+        nothing [] e short = e ∙ append-nil old
+        nothing (m ∷ behind) e short = absurd (let l = ap length e in omega (arith, l, length-append old (m ∷ behind)))
+
+-- the numbers below one
+abbrev pub below : ℕ → List ℕ
+below zero = []
+below (suc n) = n ∷ below n
+
+has_below : (n k : ℕ) → k < n → Has (below n) k
+has_below zero k low = absurd (omega arith)
+has_below (suc n) k low = elim (cases_eq k n) [ inl e ↦ (0, ap Some (sym e)) | inr ne ↦ (let h = has_below n k (omega arith) in (suc h.0, h.1)) ]
+
+-- all meets that there may be
+abbrev pub all_mets : ℕ → ℕ → List Met
+all_mets sites stores =
+    flat_map (λ o. flat_map (λ b. map (λ s. record { object = o; base = b; store = s }) (below stores)) (below sites)) (below sites)
+
+met_among : (sites stores : ℕ) (m : Met) → m.object < sites → m.base < sites → m.store < stores → Has (all_mets sites stores) m
+met_among sites stores m object base store =
+    let s = has_below stores m.store store in
+    Has-flat_map (λ o. flat_map (λ b. map (λ s. record { object = o; base = b; store = s }) (below stores)) (below sites)) (below sites) m.object m
+    (has_below sites m.object object)
+    (Has-flat_map (λ b. map (λ s. record { object = m.object; base = b; store = s }) (below stores)) (below sites) m.base m (has_below sites m.base base)
+    (s.0, map_at (λ (s : ℕ). record { object = m.object; base = m.base; store = s }) (below stores) s.0 m.store s.1))
+
+-- there are no more meets than these
+pub mets_few : (parts : Parts) (mets : List Met) → IsApart mets → All (IsInParts parts) mets
+    → length mets ≤ length (all_mets (length parts.starts.items) (length parts.stores.items))
+mets_few parts mets apart all =
+    length-IsApart mets (all_mets (length parts.starts.items) (length parts.stores.items)) apart
+    (λ m has. let h = at_all (IsInParts parts) mets has.0 m all has.1 in met_among (length parts.starts.items) (length parts.stores.items) m h.object h.base h.store)
+
+-- the meets before a turn are the front of those after it
+pub front_before : (old new : List Met) → (behind : List Met) × (new ≡ old ++ behind) → take (length old) new ≡ old
+front_before old new behind = ap (take (length old)) behind.1 ∙ take-append_seam old behind.0

@@ -1,0 +1,11 @@
+use Rattle.demand_walk.proofs.Keys.{Adds-insert_key, put-insert_key}
+use Rattle.jim_ast.proofs.Places.{IsApart-adds}
+use Rattle.spds_solve.proofs.SameKey.{same_met, self_met}
+use Rattle.spds_solve.proofs.mets.Mets.add.Goals as goal
+use Rattle.spds_tables.specs.contracts.numbered.MetPartialEq.TheImpl.{eq-value}
+
+pub invariant_of-self-2 : goal.invariant_of-self-2
+invariant_of-self-2 c = IsApart-adds _ _ c.args.met c.self.invariant (rw c.in_ok-insert.ensures.keys (Adds-insert_key (eq-value).it same_met self_met _ _))
+
+pub returns : goal.returns
+returns c = rw (← c.self.view_is) (put-insert_key (eq-value).it same_met self_met _ _ _ _ c.in_ok-insert.ensures.added c.in_ok-insert.ensures.keys)

@@ -1,0 +1,7 @@
+use Rattle.auto_table.proofs.Keys.{Has-list_any}
+use Rattle.spds_solve.proofs.SameKey.{same_met, self_met}
+use Rattle.spds_solve.proofs.mets.Mets.contains.Goals as goal
+use Rattle.spds_tables.specs.contracts.numbered.MetPartialEq.TheImpl.{eq-value}
+
+pub returns : goal.returns
+returns c = rw (← c.self.view_is) (Has-list_any (eq-value).it same_met self_met _ _ _ c.contains.ensures)

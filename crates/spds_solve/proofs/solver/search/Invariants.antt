@@ -1,0 +1,18 @@
+use Rattle.std.proofs.Common.{◌≡◌, ◌+◌, ◌-◌, ◌≤◌, All, false, length, take, if◌then◌else◌}
+use Rattle.spds_solve.specs.Searches.{AllBuilt, AreFoundBy, IsComplete}
+use Rattle.spds_solve.proofs.Turns.{all_mets}
+use Rattle.spds_solve.proofs.solver.search.Given as goal
+use Rattle.spds_tables.specs.Parts.{IsInParts}
+
+abbrev pub invariant-loop-goes_on : goal.invariant-loop-goes_on
+invariant-loop-goes_on l = record {
+  taken : l.taken ≤ length l.mets;
+  inside : All (IsInParts l.parts) l.mets;
+  built : AllBuilt l.parts (take l.taken l.mets) l.tables.items;
+  found : AreFoundBy l.linked l.sites l.parts l.mets;
+  done : l.goes_on ≡ false → IsComplete l.linked l.sites l.parts l.tables.items l.mets;
+}
+
+abbrev pub decreases-loop-goes_on : goal.decreases-loop-goes_on
+decreases-loop-goes_on l =
+    if l.goes_on then 1 + (length (all_mets (length l.parts.starts.items) (length l.parts.stores.items)) - length l.mets) else 0

@@ -1,0 +1,66 @@
+-- The search for meets, over settled tables.
+use Rattle.std.specs.Prelude.{◌≡◌, ◌<◌, ◌≤◌, ◌⊎◌, ◌++◌, ℕ, List, [], Some, length, slice_get}
+use Rattle.jim_ast.specs.Lists.{Has}
+use Rattle.link_rules.specs.Linked.{LinkedProgram}
+use Rattle.link_sites.specs.declared.site.Site.{Site}
+use Rattle.link_sites.specs.Sites.{HasField}
+use Rattle.spds_tables.specs.declared.numbered.Met.{Met}
+use Rattle.spds_tables.specs.declared.parts.Parts.{Parts}
+use Rattle.spds_tables.specs.declared.tables.SiteTables.{SiteTables}
+use Rattle.spds_tables.specs.Parts.{store_at}
+use Rattle.spds_tables.specs.Systems.{Reaches}
+use Rattle.spds_tables.specs.Tables.{AreBuilt, AreSettled, ArrivesAt}
+
+-- the base's own object is at the base of the store, and has the field
+pub record IsBaseOf (p : LinkedProgram) (sites : List Site) (parts : Parts) (tables : List SiteTables) (base store : ℕ) : Type 0 where
+  pub table : SiteTables
+  pub table_is : slice_get tables base ≡ Some table
+  pub site : Site
+  pub site_is : slice_get sites base ≡ Some site
+  pub itself : Reaches table.fields (store_at parts store).base []
+  pub has : HasField p site (store_at parts store).field
+
+-- one call string is at the argument and at the base
+pub record HaveShared (parts : Parts) (tables : List SiteTables) (m : Met) : Type 0 where
+  pub object : SiteTables
+  pub object_is : slice_get tables m.object ≡ Some object
+  pub base : SiteTables
+  pub base_is : slice_get tables m.base ≡ Some base
+  pub shared : (word : List ℕ) × Reaches object.calls (store_at parts m.store).arg word × Reaches base.calls (store_at parts m.store).base word
+
+-- what the tables say may be stored
+abbrev pub IsCandidate : LinkedProgram → List Site → Parts → List SiteTables → Met → Type 0
+IsCandidate p sites parts tables m = IsBaseOf p sites parts tables m.base m.store × HaveShared parts tables m
+
+-- the tables of all sites over these meets
+pub record AllBuilt (parts : Parts) (mets : List Met) (tables : List SiteTables) : Type 0 where
+  pub count : length tables ≡ length parts.starts.items
+  pub each : (site : ℕ) (t : SiteTables) → slice_get tables site ≡ Some t → AreBuilt parts site mets t
+
+-- and they have come to the end
+pub record AllSettled (parts : Parts) (mets : List Met) (tables : List SiteTables) : Type 0 where
+  pub count : length tables ≡ length parts.starts.items
+  pub each : (site : ℕ) (t : SiteTables) → slice_get tables site ≡ Some t → AreSettled parts site mets t
+
+-- the tables of the sites before one are settled over the meets, the others have some of these
+pub record AreRefreshed (parts : Parts) (old mets : List Met) (done : ℕ) (tables : List SiteTables) : Type 0 where
+  pub count : length tables ≡ length parts.starts.items
+  pub settled : (site : ℕ) (t : SiteTables) → site < done → slice_get tables site ≡ Some t → AreSettled parts site mets t
+  pub waiting : (site : ℕ) (t : SiteTables) → done ≤ site → slice_get tables site ≡ Some t → AreBuilt parts site old t
+
+-- meets that were found in turns: those of a turn over tables that are settled over those before
+pub data AreFoundBy (p : LinkedProgram) (sites : List Site) (parts : Parts) : List Met → Type 0 where
+  none : AreFoundBy p sites parts []
+  more : {mets : List Met} (first behind : List Met) (tables : List SiteTables) → AreFoundBy p sites parts first → AllSettled parts first tables
+      → ((m : Met) → Has behind m → Has first m ⊎ ((m.store < length parts.stores.items) × IsCandidate p sites parts tables m)) → mets ≡ first ++ behind
+      → AreFoundBy p sites parts mets
+
+-- tables over all meets, which no further turn adds to
+pub record IsComplete (p : LinkedProgram) (sites : List Site) (parts : Parts) (tables : List SiteTables) (mets : List Met) : Type 0 where
+  pub settled : AllSettled parts mets tables
+  pub found : AreFoundBy p sites parts mets
+  pub closed : (m : Met) → m.store < length parts.stores.items → IsCandidate p sites parts tables m → Has mets m
+
+-- the tables say that the node may hold an object of their site
+abbrev pub IsHeldOf : SiteTables → ℕ → Type 0
+IsHeldOf t node = Reaches t.fields node [] × ArrivesAt t.calls node

@@ -1,0 +1,95 @@
+//! What was solved, and what is read of it.
+ghost use Rattle.std.specs.Prelude.{◌≡◌, ◌↔◌, ℕ, List, Some, map, slice_get, IfOk, IsTrue};
+ghost use Rattle.demand_set.specs.Demands.{DemandParts};
+ghost use Rattle.link_rules.specs.Linked.{LinkedProgram};
+ghost use Rattle.link_sites.specs.declared.place.Place.{Place};
+ghost use Rattle.link_sites.specs.declared.site.Site.{Site};
+ghost use Rattle.spds_rules.specs.declared.node.Node.{Node};
+ghost use Rattle.spds_rules.specs.declared.store.StoreAt.{StoreAt};
+ghost use Rattle.spds_rules.specs.Answers.{IsAnswered};
+ghost use Rattle.spds_rules.specs.Demand.{Asked};
+ghost use Rattle.spds_rules.specs.Systems.{Calls, Meets};
+ghost use Rattle.spds_solve.specs.Solved.{AreOfBases, IsSolved};
+
+use super::answers::{Answers, Held};
+use super::mets::Mets;
+use auto_table::NoMemory;
+use spds_tables::{Met, Parts, SiteTables, share};
+use std::alloc::Global;
+use std::marker::Model;
+
+/// The meets of a demand and the systems of its sites over all meets. Sites, nodes and stores are named by their numbers in the demand.
+#[derive(Drop)]
+pub struct Solved {
+    parts: Parts,
+    tables: Vec<SiteTables>,
+    mets: Mets,
+    answers: Answers,
+}
+
+impl Model for Solved {
+    ghost use Rattle.spds_solve.specs.Solved.{SolvedParts};
+
+    ghost Value = { SolvedParts };
+
+    ghost use Rattle.std.specs.Prelude.{map};
+    ghost use Rattle.spds_solve.specs.Solved.{AreOfBases};
+
+    ghost view = { λ s. record {
+      calls = map (λ t. t.calls) s.tables.items;
+      mets = s.mets;
+      held = s.answers;
+    } };
+
+    ghost invariant = { λ s. AreOfBases s.parts.bases s.tables.items };
+}
+
+impl Solved {
+    /// What the search ended with.
+    pub fn of(parts: Parts, tables: Vec<SiteTables>, mets: Mets, answers: Answers) -> Self
+        requires { AreOfBases parts.bases tables.items }
+        ensures { result ≡ record { calls = map (λ t. t.calls) tables.items; mets = mets; held = answers } }
+    {
+        Solved {
+            parts,
+            tables,
+            mets,
+            answers,
+        }
+    }
+
+    /// Whether the node may hold an object of the site: the empty word leads from it to the site, and some call string is there. Takes no memory.
+    pub fn holds(&self, site: u32, node: u32) -> bool
+        ensures { (p : LinkedProgram) (q : Asked) (d : DemandParts) (o : Site) (n : Node) → IsSolved p q d self.now
+            → slice_get d.sites site ≡ Some o → slice_get d.nodes node ≡ Some n → IsTrue result ↔ IsAnswered p q n o }
+    {
+        self.answers.contains(Held { site, node })
+    }
+
+    /// Whether an object of the one site may be stored into one of the other by the store. Takes no memory.
+    pub fn meet(&self, object: u32, base: u32, store: u32) -> bool
+        ensures { (p : LinkedProgram) (q : Asked) (d : DemandParts) (o b : Site) (s : StoreAt) → IsSolved p q d self.now
+            → slice_get d.sites object ≡ Some o → slice_get d.sites base ≡ Some b → slice_get d.stores store ≡ Some s → IsTrue result ↔ Meets p q o b s }
+    {
+        self.mets.contains(Met {
+            object,
+            base,
+            store,
+        })
+    }
+
+    /// Whether an object of the site may be at both nodes under one call string.
+    pub fn together(&self, alloc: Global, site: u32, a: u32, b: u32) -> Result<bool, NoMemory>
+        ensures { IfOk result (λ yes. (p : LinkedProgram) (q : Asked) (d : DemandParts) (o : Site) (n m : Node) → IsSolved p q d self.now
+            → slice_get d.sites site ≡ Some o → slice_get d.nodes a ≡ Some n → slice_get d.nodes b ≡ Some m
+            → IsTrue yes ↔ ((string : List Place) × Calls p q o n string × Calls p q o m string)) }
+    {
+        match self.tables.get(site as usize) {
+            Some(tables) => {
+                let shared = share(alloc, &self.parts.bases, tables, a, tables, b)?;
+                Ok(shared)
+            }
+            None => Ok(false),
+        }
+    }
+}

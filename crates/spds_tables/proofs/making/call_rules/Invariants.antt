@@ -1,0 +1,6 @@
+use Rattle.std.proofs.Common.{take}
+use Rattle.spds_tables.specs.Making.{AreGathered, IsCallRuleOf}
+use Rattle.spds_tables.proofs.making.call_rules.Given as goal
+
+abbrev pub invariant-loop-edge : goal.invariant-loop-edge
+invariant-loop-edge l = AreGathered (IsCallRuleOf l.calls) (take l.edge-index l.edges) l.rules.items

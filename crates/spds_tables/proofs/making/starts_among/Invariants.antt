@@ -1,0 +1,6 @@
+use Rattle.std.proofs.Common.{take}
+use Rattle.spds_tables.specs.Making.{AreGathered, IsStartAt}
+use Rattle.spds_tables.proofs.making.starts_among.Given as goal
+
+abbrev pub invariant-loop-number : goal.invariant-loop-number
+invariant-loop-number l = AreGathered (IsStartAt l.linked l.nodes) (take l.number-index l.numbers) l.starts.items

@@ -1,0 +1,42 @@
+//! What the systems of all sites share.
+ghost use Rattle.std.specs.Prelude.{◌≡◌, ◌<◌, length};
+ghost use Rattle.spds_tables.specs.Parts.{starts_at, store_at};
+
+use super::numbered::{Jump, StartAt, Stored};
+use call_side::IndexedBases;
+use post_star::Common;
+use std::rc::Rc;
+use weight_laws::Reach;
+
+/// What the systems of all sites of a demand share.
+#[derive(Drop)]
+pub struct Parts {
+    /// What the field systems have in common: their rules but for those of stores.
+    pub fields: Rc<Common<Reach>>,
+    /// What the call systems have in common: their rules, and the call strings of methods.
+    pub calls: Rc<Common<Reach>>,
+    /// The call strings of methods.
+    pub bases: IndexedBases,
+    pub jumps: Vec<Jump>,
+    /// The start nodes of each site.
+    pub starts: Vec<Vec<StartAt>>,
+    pub stores: Vec<Stored>,
+}
+
+impl Parts {
+    /// The start nodes of a site.
+    pub fn starts_of(&self, site: u32) -> &[StartAt]
+        requires { site < length self.now.starts.items }
+        ensures { result.now ≡ starts_at self.now site }
+    {
+        self.starts[site as usize].as_slice()
+    }
+
+    /// The store with the number.
+    pub fn stored(&self, store: u32) -> Stored
+        requires { store < length self.now.stores.items }
+        ensures { result ≡ store_at self.now store }
+    {
+        self.stores[store as usize]
+    }
+}
