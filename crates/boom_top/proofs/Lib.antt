@@ -1,7 +1,9 @@
+pub mod Answered
+pub mod Asked
 pub mod Both
-pub mod Lines
-pub mod Made
-pub mod Only
-pub mod Positions
+pub mod Commanded
+pub mod Counted
+pub mod Noded
+pub mod Once
+pub mod Replied
 pub mod Sent
-pub mod Words

@@ -1,17 +1,23 @@
 -- What was written, and what the status then says.
-use Rattle.std.proofs.Common.{◌≡◌, ℕ, ◌+◌, ◌<◌, List, length, Option, Some, None, Result, Ok, Err, refl, sym, ◌∙◌, subst, ◌⊎◌, inl, inr, string_bytes, arith}
-use Rattle.std.specs.Result.{IfOk, OnErr}
+use Rattle.std.proofs.Common.{◌≡◌, ℕ, ◌+◌, ◌<◌, List, length, Option, Some, None, Result, Ok, Err, ap, refl, sym, ◌∙◌, subst, ◌⊎◌, inl, inr, arith}
+use Rattle.std.specs.Result.{IfErr, IfOk, IsOk}
 use Rattle.std.specs.Option.{IfSome}
-use Rattle.std.specs.declared.alloc.AllocError.{AllocError}
 use Rattle.std.specs.Io.KnownBytes.{Appends}
 use Rattle.boom_io.specs.Causes.{Rose}
 use Rattle.boom_io.specs.Whole.{AppendsProperPrefix, TakesFirst}
-use Rattle.boom_top.specs.Requests.{Request, IsRequest, NoRequest}
-use Rattle.boom_top.specs.Replies.{GivesUp, IsReply, IsReplyTo, text_of}
-use Rattle.boom_top.specs.Parts.{Sends}
+use Rattle.report_text.specs.Lines.{text_of}
+use Rattle.boom_words.specs.Requests.{Request, IsRequest}
+use Rattle.boom_top.specs.Parts.{IsGiven, Makes, Sends, status_of}
+use Rattle.boom_top.specs.Queries.{Accepted, source_of}
+use Rattle.boom_top.specs.Replies.{GivesUp, IsReply, IsReplyTo}
+use Rattle.boom_top.specs.Runs.{CoversAllRuns, IsAnswerable}
+use Rattle.boom_top.specs.declared.query.NoReply.{NoReply}
+use Rattle.boom_top.specs.declared.query.NoReply.TheVariants as none
 use Rattle.boom_top.specs.declared.query.Reply.{Reply}
 use Rattle.boom_top.specs.declared.status.Status.{Status}
-use Rattle.boom_top.specs.declared.status.Status.TheVariants.{Done, Usage, ReadFault, TooLong, NotText, NotJimple, NoSuchPlace, OverBudget, WriteFault, NoMemory, Unsupported}
+use Rattle.boom_top.specs.declared.status.Status.TheVariants.{Done, Usage, ReadFault, WriteFault, NoMemory}
+use Rattle.boom_top.proofs.Asked.{covers, enough}
+use Rattle.boom_top.proofs.Once.{source_given, source_one}
 
 -- what is said of the bytes that were read is said of those that were left
 pub IfSome-read : {A : Type 0} (o : Option A) (v : A) (P : A → Type 0) → IfSome o (λ x. v ≡ x) → P v → IfSome o P
@@ -29,101 +35,152 @@ pub IfSome-any : {A : Type 0} (o : Option A) (P : A → Type 0) → ((x : A) →
 IfSome-any (Some x) P p = p x
 IfSome-any None P p = tt
 
-module _ (words : List (List ℕ)) (bytes : List ℕ) where
-  -- a reply to the request that the words are is a reply to the words
-  pub IsReply-request : (r : Request) → IsRequest words r → (s : Status) (lines : List (List ℕ)) → IsReplyTo r bytes s lines → IsReply words bytes s lines
-  IsReply-request r requested Usage lines h = absurd h.0
-  IsReply-request r requested Done lines h = (r, requested, h)
-  IsReply-request r requested ReadFault lines h = (r, requested, h)
-  IsReply-request r requested TooLong lines h = (r, requested, h)
-  IsReply-request r requested (NoSuchPlace which) lines h = (r, requested, h)
-  IsReply-request r requested (OverBudget budget) lines h = (r, requested, h)
-  IsReply-request r requested WriteFault lines h = (r, requested, h)
-  IsReply-request r requested NoMemory lines h = (r, requested, h)
-  IsReply-request r requested (Unsupported index) lines h = (r, requested, h)
-  IsReply-request r requested (NotText at) lines h = (r, requested, h)
-  IsReply-request r requested (NotJimple at) lines h = (r, requested, h)
+-- words that are at most one request have one status
+words_one : (words : List (List ℕ)) (bytes : List ℕ) → ((a b : Request) → IsRequest words a → IsRequest words b → a ≡ b)
+    → (s t : Status) (xs ys : List (List ℕ)) → IsReply words bytes s xs → IsReply words bytes t ys → s ≡ t
+words_one words bytes one s t xs ys (inl a) (inl b) = a.1.0 ∙ sym b.1.0
+words_one words bytes one s t xs ys (inl a) (inr b) = absurd (a.0 b.0 b.1)
+words_one words bytes one s t xs ys (inr a) (inl b) = absurd (b.0 a.0 a.1)
+words_one words bytes one s t xs ys (inr a) (inr b) =
+    let same = subst (λ (r : Request). IsReplyTo r bytes s xs) (one a.0 b.0 a.1 b.1) a.2 in
+    source_one b.0 (source_of b.0.question bytes) s t xs ys same b.2
 
-  -- and a reply to words that are one request is a reply to it
-  pub request-IsReply : (r : Request) → IsRequest words r → ((other : Request) → IsRequest words other → r ≡ other)
-      → (s : Status) (lines : List (List ℕ)) → IsReply words bytes s lines → IsReplyTo r bytes s lines
-  request-IsReply r requested only Usage lines h = absurd (h.0 r requested)
-  request-IsReply r requested only Done lines h = subst (λ (x : Request). IsReplyTo x bytes Done lines) (sym (only h.0 h.1)) h.2
-  request-IsReply r requested only ReadFault lines h = absurd h.2.0
-  request-IsReply r requested only TooLong lines h = subst (λ (x : Request). IsReplyTo x bytes TooLong lines) (sym (only h.0 h.1)) h.2
-  request-IsReply r requested only (NoSuchPlace which) lines h = subst (λ (x : Request). IsReplyTo x bytes (NoSuchPlace which) lines) (sym (only h.0 h.1)) h.2
-  request-IsReply r requested only (OverBudget budget) lines h = subst (λ (x : Request). IsReplyTo x bytes (OverBudget budget) lines) (sym (only h.0 h.1)) h.2
-  request-IsReply r requested only WriteFault lines h = absurd h.2.0
-  request-IsReply r requested only NoMemory lines h = absurd h.2.0
-  request-IsReply r requested only (Unsupported index) lines h = subst (λ (x : Request). IsReplyTo x bytes (Unsupported index) lines) (sym (only h.0 h.1)) h.2
-  request-IsReply r requested only (NotText at) lines h = subst (λ (x : Request). IsReplyTo x bytes (NotText at) lines) (sym (only h.0 h.1)) h.2
-  request-IsReply r requested only (NotJimple at) lines h = subst (λ (x : Request). IsReplyTo x bytes (NotJimple at) lines) (sym (only h.0 h.1)) h.2
+-- a reply to words that are a request is one to the request
+reply_to : (words : List (List ℕ)) (bytes : List ℕ) → ((a b : Request) → IsRequest words a → IsRequest words b → a ≡ b) → (r : Request) → IsRequest words r
+    → (s : Status) (lines : List (List ℕ)) → IsReply words bytes s lines → IsReplyTo r bytes s lines
+reply_to words bytes one r is s lines (inl a) = absurd (a.0 r is)
+reply_to words bytes one r is s lines (inr a) = subst (λ (q : Request). IsReplyTo q bytes s lines) (one a.0 r a.1 is) a.2
 
-  -- words that are no request have one status
-  pub usage-only : NoRequest words → (s : Status) (lines : List (List ℕ)) → IsReply words bytes s lines → s ≡ Usage
-  usage-only none Usage lines h = refl
-  usage-only none Done lines h = absurd (none h.0 h.1)
-  usage-only none ReadFault lines h = absurd (none h.0 h.1)
-  usage-only none TooLong lines h = absurd (none h.0 h.1)
-  usage-only none (NoSuchPlace which) lines h = absurd (none h.0 h.1)
-  usage-only none (OverBudget budget) lines h = absurd (none h.0 h.1)
-  usage-only none WriteFault lines h = absurd (none h.0 h.1)
-  usage-only none NoMemory lines h = absurd (none h.0 h.1)
-  usage-only none (Unsupported index) lines h = absurd (none h.0 h.1)
-  usage-only none (NotText at) lines h = absurd (none h.0 h.1)
-  usage-only none (NotJimple at) lines h = absurd (none h.0 h.1)
+-- a status that gives up is no status of a reply
+given_up : (s : Status) → GivesUp s → IsGiven s → ⊥
+given_up ReadFault up given = given
+given_up WriteFault up given = given
+given_up NoMemory up given = given
+given_up _ up given = absurd up
 
-  -- what a reply is
-  abbrev pub Made : Reply → Type 0
-  Made reply = (lines : List (List ℕ)) × IsReply words bytes reply.status lines × (string_bytes reply.text ≡ text_of lines)
+-- a reply to words doesn't give up
+pub reply_stands : (words : List (List ℕ)) (bytes : List ℕ) (s : Status) (lines : List (List ℕ)) → IsReply words bytes s lines → GivesUp s → ⊥
+reply_stands words bytes s lines (inl a) up = subst GivesUp a.1.0 up
+reply_stands words bytes s lines (inr a) up = given_up s up (source_given a.0 (source_of a.0.question bytes) s lines a.2)
 
-  -- the reply has the one status
-  abbrev pub Only : Reply → Type 0
-  Only reply = (s : Status) (lines : List (List ℕ)) → IsReply words bytes s lines → s ≡ reply.status
+-- where no read failed, want of memory is the only reason for no reply
+pub only_memory : (made : Result Reply NoReply) → (made ≡ Err none.ReadFault → ⊥) → (e : NoReply) → made ≡ Err e → e ≡ none.NoMemory
+only_memory made calm none.ReadFault is = absurd (calm is)
+only_memory made calm none.NoMemory is = refl
 
-module _ (X : Type 0) (old new : Option (List ℕ)) (before now : ℕ) (result : Status) where
+-- the status where there is no reply gives up
+lost : (e : NoReply) → GivesUp (status_of e)
+lost none.ReadFault = tt
+lost none.NoMemory = tt
+
+-- what was sent, by what was made
+module _ (old new : Option (List ℕ)) (before now : ℕ) (result : Status) (X : Type 0) where
   abbrev pub Sent : Reply → Type 0
-  Sent reply = Sends reply.status (string_bytes reply.text) old new before now result
+  Sent reply = Sends reply.status reply.text.items old new before now result
 
-  abbrev pub Failed : Type 0
-  Failed = (result ≡ NoMemory) × X
+  abbrev pub Unsent : NoReply → Type 0
+  Unsent e = (result ≡ status_of e) × X
 
-  pub replied : (words : List (List ℕ)) (bytes : List ℕ) (made : Result Reply AllocError) → IfOk made Sent → OnErr made Failed → IfOk made (Made words bytes)
-      → GivesUp result ⊎ ((lines : List (List ℕ)) × IsReply words bytes result lines × Appends old new (text_of lines))
-  replied words bytes (Err e) sent failed is = inl (subst GivesUp (sym failed.0) tt)
-  replied words bytes (Ok reply) sent failed is = elim sent [
-    | inl whole ↦ inr (is.0, subst (λ (s : Status). IsReply words bytes s is.0) (sym whole.0) is.1, subst (λ (t : List ℕ). Appends old new t) is.2 whole.1)
-    | inr part ↦ inl (subst GivesUp (sym part.0) tt)
+  module _ (words : List (List ℕ)) (bytes : List ℕ) where
+    abbrev pub Made : Reply → Type 0
+    Made reply = Makes (IsReply words bytes) reply
+
+    pub replied : (made : Result Reply NoReply) → IfOk made Sent → IfErr made Unsent → IfOk made Made
+        → GivesUp result ⊎ ((lines : List (List ℕ)) × IsReply words bytes result lines × Appends old new (text_of lines))
+    replied (Err e) sent unsent is = inl (subst GivesUp (sym unsent.0) (lost e))
+    replied (Ok reply) sent unsent is = elim sent [
+      | inl whole ↦ inr (is.0, subst (λ (s : Status). IsReply words bytes s is.0) (sym whole.0) is.1, subst (λ (t : List ℕ). Appends old new t) is.2 whole.1)
+      | inr part ↦ inl (subst GivesUp (sym part.0) tt)
+    ]
+
+    pub partly : (made : Result Reply NoReply) → IfOk made Sent → IfErr made Unsent → IfOk made Made → result ≡ WriteFault
+        → (s : Status) × (lines : List (List ℕ)) × IsReply words bytes s lines × AppendsProperPrefix old new (text_of lines)
+    partly (Err none.ReadFault) sent unsent is fault = absurd (let no : ReadFault ≡ WriteFault = sym unsent.0 ∙ fault in cc)
+    partly (Err none.NoMemory) sent unsent is fault = absurd (let no : NoMemory ≡ WriteFault = sym unsent.0 ∙ fault in cc)
+    partly (Ok reply) sent unsent is fault = elim sent [
+      | inl whole ↦ absurd (reply_stands words bytes reply.status is.0 is.1 (subst GivesUp (sym fault ∙ whole.0) tt))
+      | inr part ↦ (reply.status, is.0, is.1, subst (λ (t : List ℕ). AppendsProperPrefix old new t) is.2 part.2)
+    ]
+
+    abbrev pub IsOne : Type 0
+    IsOne = (a b : Request) → IsRequest words a → IsRequest words b → a ≡ b
+
+    pub exactly : (made : Result Reply NoReply) → IfOk made Sent → IfErr made Unsent → IfOk made Made → (IsOk made → IsOne)
+        → (s : Status) (lines : List (List ℕ)) → IsReply words bytes s lines → (result ≡ s) ⊎ GivesUp result
+    exactly (Err e) sent unsent is one s lines h = inr (subst GivesUp (sym unsent.0) (lost e))
+    exactly (Ok reply) sent unsent is one s lines h = elim sent [
+      | inl whole ↦ inl (whole.0 ∙ words_one words bytes (one refl) reply.status s is.0 lines is.1 h)
+      | inr part ↦ inr (subst GivesUp (sym part.0) tt)
+    ]
+
+    pub soundly : (made : Result Reply NoReply) → IfOk made Sent → IfErr made Unsent → IfOk made Made → (IsOk made → IsOne)
+        → result ≡ Done → (r : Request) → IsRequest words r → (a : Accepted r bytes) → CoversAllRuns a.linked r.question old new
+    soundly (Err none.ReadFault) sent unsent is one done r is_request a = absurd (let no : ReadFault ≡ Done = sym unsent.0 ∙ done in cc)
+    soundly (Err none.NoMemory) sent unsent is one done r is_request a = absurd (let no : NoMemory ≡ Done = sym unsent.0 ∙ done in cc)
+    soundly (Ok reply) sent unsent is one done r is_request a = elim sent [
+      | inl whole ↦
+          let to = reply_to words bytes (one refl) r is_request reply.status is.0 is.1 in
+          let status : reply.status ≡ Done = sym whole.0 ∙ done in
+          covers r bytes a old new is.0 (subst (λ (t : List ℕ). Appends old new t) is.2 whole.1)
+          (subst (λ (s : Status). IsReplyTo r bytes s is.0) status to)
+      | inr part ↦ absurd (let no : WriteFault ≡ Done = sym part.0 ∙ done in cc)
+    ]
+
+    pub completely : (made : Result Reply NoReply) → IfOk made Sent → IfErr made Unsent → IfOk made Made → (IsOk made → IsOne) → (Failed : Type 0)
+        → (made ≡ Err none.ReadFault → Failed) → IsAnswerable words bytes → ¬ Failed → ¬ Rose before now → (result ≡ Done) ⊎ (result ≡ NoMemory)
+    completely (Err e) sent unsent is one Failed fault can read calm =
+        inr (unsent.0 ∙ ap status_of (only_memory (Err e) (λ h. read (fault h)) e refl))
+    completely (Ok reply) sent unsent is one Failed fault can read calm = elim sent [
+      | inl whole ↦
+          let to = reply_to words bytes (one refl) can.request can.requested reply.status is.0 is.1 in
+          inl (whole.0 ∙ enough can.request bytes can.accepted reply.status is.0 to can.answer)
+      | inr part ↦ absurd (calm part.1)
+    ]
+
+  -- what was made has the status that was answered, unless a write failed
+  pub IfOk-status : (made : Result Reply NoReply) (s : Status) (P : Type 0) → IfOk made Sent → IfErr made Unsent → (GivesUp s → ⊥)
+      → IfOk made (λ reply. reply.status ≡ s → P) → result ≡ s → P
+  IfOk-status (Err e) s P sent unsent stands p is = absurd (stands (subst GivesUp (sym unsent.0 ∙ is) (lost e)))
+  IfOk-status (Ok reply) s P sent unsent stands p is = elim sent [
+    | inl whole ↦ p (sym whole.0 ∙ is)
+    | inr part ↦ absurd (stands (subst GivesUp (sym part.0 ∙ is) tt))
   ]
 
-  pub exactly : (words : List (List ℕ)) (bytes : List ℕ) (made : Result Reply AllocError) → IfOk made Sent → OnErr made Failed → IfOk made (Only words bytes)
-      → (s : Status) (lines : List (List ℕ)) → IsReply words bytes s lines → (result ≡ s) ⊎ GivesUp result
-  exactly words bytes (Err e) sent failed only s lines h = inr (subst GivesUp (sym failed.0) tt)
-  exactly words bytes (Ok reply) sent failed only s lines h = elim sent [
-    | inl whole ↦ inl (whole.0 ∙ sym (only s lines h))
-    | inr part ↦ inr (subst GivesUp (sym part.0) tt)
+  -- a status that gives up, other than a write fault, is that of no reply
+  pub unsent_by : (made : Result Reply NoReply) (e : NoReply) → IfOk made Sent → IfErr made Unsent → IfOk made (λ reply. GivesUp reply.status → ⊥)
+      → result ≡ status_of e → (made ≡ Err e) × X
+  unsent_by (Err none.ReadFault) none.ReadFault sent unsent stands is = (refl, unsent.1)
+  unsent_by (Err none.NoMemory) none.NoMemory sent unsent stands is = (refl, unsent.1)
+  unsent_by (Err none.ReadFault) none.NoMemory sent unsent stands is = absurd (let no : ReadFault ≡ NoMemory = sym unsent.0 ∙ is in cc)
+  unsent_by (Err none.NoMemory) none.ReadFault sent unsent stands is = absurd (let no : NoMemory ≡ ReadFault = sym unsent.0 ∙ is in cc)
+  unsent_by (Ok reply) e sent unsent stands is = elim sent [
+    | inl whole ↦ absurd (stands (subst GivesUp (sym is ∙ whole.0) (lost e)))
+    | inr part ↦ absurd (not_write e (sym part.0 ∙ is))
+  ]
+    where
+      not_write : (e : NoReply) → WriteFault ≡ status_of e → ⊥
+      not_write none.ReadFault h = cc
+      not_write none.NoMemory h = cc
+
+  -- a write fault is a write that failed
+  pub write_failed : (made : Result Reply NoReply) → IfOk made Sent → IfErr made Unsent → IfOk made (λ reply. GivesUp reply.status → ⊥)
+      → result ≡ WriteFault → Rose before now
+  write_failed (Err none.ReadFault) sent unsent stands is = absurd (let no : ReadFault ≡ WriteFault = sym unsent.0 ∙ is in cc)
+  write_failed (Err none.NoMemory) sent unsent stands is = absurd (let no : NoMemory ≡ WriteFault = sym unsent.0 ∙ is in cc)
+  write_failed (Ok reply) sent unsent stands is = elim sent [
+    | inl whole ↦ absurd (stands (subst GivesUp (sym is ∙ whole.0) tt))
+    | inr part ↦ part.1
   ]
 
-  pub soundly : (F : List ℕ → Type 0) (made : Result Reply AllocError) → IfOk made Sent → OnErr made Failed → IfOk made (λ reply. reply.status ≡ Done → F (string_bytes reply.text))
-      → result ≡ Done → (text : List ℕ) × Appends old new text × F text
-  soundly F (Err e) sent failed f done = absurd (let no : NoMemory ≡ Done = sym failed.0 ∙ done in cc)
-  soundly F (Ok reply) sent failed f done = elim sent [
-    | inl whole ↦ (string_bytes reply.text, whole.1, f (sym whole.0 ∙ done))
-    | inr part ↦ absurd (let no : WriteFault ≡ Done = sym part.0 ∙ done in cc)
+  -- words that are no command are refused, unless a write fails or memory is lacking
+  pub refused_words : (made : Result Reply NoReply) → IfOk made Sent → IfErr made Unsent → IfOk made (λ reply. reply.status ≡ Usage)
+      → ((e : NoReply) → made ≡ Err e → e ≡ none.NoMemory) → (result ≡ Usage) ⊎ (result ≡ WriteFault) ⊎ (result ≡ NoMemory)
+  refused_words (Err e) sent unsent usage calm = inr (inr (unsent.0 ∙ ap status_of (calm e refl)))
+  refused_words (Ok reply) sent unsent usage calm = elim sent [
+    | inl whole ↦ inl (whole.0 ∙ usage)
+    | inr part ↦ inr (inl part.0)
   ]
 
-  pub completely : (made : Result Reply AllocError) → IfOk made Sent → OnErr made Failed → IfOk made (λ reply. Done ≡ reply.status) → ¬ Rose before now
-      → (result ≡ Done) ⊎ (result ≡ NoMemory)
-  completely (Err e) sent failed done calm = inr failed.0
-  completely (Ok reply) sent failed done calm = elim sent [
-    | inl whole ↦ inl (whole.0 ∙ sym done)
-    | inr part ↦ absurd (calm part.1)
-  ]
-
-  pub partly : (words : List (List ℕ)) (bytes : List ℕ) (made : Result Reply AllocError) → IfOk made Sent → OnErr made Failed → IfOk made (Made words bytes)
-      → result ≡ WriteFault → (s : Status) × (lines : List (List ℕ)) × IsReply words bytes s lines × AppendsProperPrefix old new (text_of lines)
-  partly words bytes (Err e) sent failed is fault = absurd (let no : NoMemory ≡ WriteFault = sym failed.0 ∙ fault in cc)
-  partly words bytes (Ok reply) sent failed is fault = elim sent [
-    | inl whole ↦ absurd (subst (λ (s : Status). IsReply words bytes s is.0) (sym whole.0 ∙ fault) is.1).2.0
-    | inr part ↦ (reply.status, is.0, is.1, subst (λ (t : List ℕ). AppendsProperPrefix old new t) is.2 part.2)
-  ]
+  -- a read that failed is told
+  pub read_lost : (made : Result Reply NoReply) → IfErr made Unsent → made ≡ Err none.ReadFault → result ≡ ReadFault
+  read_lost made unsent is = (subst (λ (m : Result Reply NoReply). IfErr m Unsent) is unsent).0

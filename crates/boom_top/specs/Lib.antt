@@ -1,7 +1,6 @@
-pub mod Requests
+pub mod Demo
 pub mod Queries
+pub mod Refusals
 pub mod Replies
-pub mod Commands
-pub mod Reads
-pub mod Texts
+pub mod Runs
 pub mod Parts

@@ -1,49 +1,55 @@
--- What a request asks of a text: the program that it spells, and the place in it.
-use Rattle.std.specs.Prelude.{◌≡◌, ℕ, ◌<◌, ◌≤◌, List, ◌++◌, length, slice_get, Some, codes}
-use Rattle.jim_ast.specs.declared.names.NameId.{NameId}
+-- What a request asks of a text: the program that it spells and that is linked.
+use Rattle.std.specs.Prelude.{ℕ, ◌<◌, ◌≤◌, List, All, length}
 use Rattle.jim_ast.specs.declared.syntax.Program.{Program}
-use Rattle.form_one.specs.declared.code.Main.{Main}
-use Rattle.form_one.specs.Form.{IsText, IsFormOne}
 use Rattle.jim_parse.specs.Derives.{Spells}
-use Rattle.boom_top.specs.Requests.{Request}
-use Rattle.boom_top.specs.declared.status.Which.{Which}
-use Rattle.boom_top.specs.declared.status.Which.TheVariants.{Method, Index, Local}
+use Rattle.jim_prelude.specs.declared.TheConstants.{PRELUDE}
+use Rattle.link_rules.specs.Conditions.{DeclaresNine}
+use Rattle.link_rules.specs.Linked.{LinkedProgram, Links}
+use Rattle.boom_words.specs.Named.{IsDigit}
+use Rattle.boom_words.specs.Requests.{Question, Request, alias, demo, points_to, run}
+use Rattle.demo_text.specs.Demo.{demo_source}
 
 -- the most bytes that are read
 abbrev pub limit : ℕ
 limit = 16777216
 
--- the bytes are of the first form for the entry: they spell a program of the form, and its `main` stands in the class of this name
-pub record IsFirstForm (bytes entry : List ℕ) (program : Program) (main : Main) : Type 0 where
-  pub spelled : Spells bytes program
-  pub form : IsFormOne program main
-  pub entered : IsText program.names main.entry entry
+-- the bytes that a question is about: those that are read, but for the demo its own text
+abbrev pub source_of : Question → List ℕ → List ℕ
+source_of (points_to asked) bytes = bytes
+source_of (alias asked) bytes = bytes
+source_of (run asked) bytes = bytes
+source_of (demo boxes) bytes = demo_source boxes
 
--- the text of the method `main` of a class
-abbrev pub main_text : List ℕ → List ℕ
-main_text entry = codes "<" ++ entry ++ codes ": void main(java.lang.String[])>"
+-- the question needs no bytes
+abbrev pub IsDemo : Question → Type 0
+IsDemo (demo boxes) = Unit {0}
+IsDemo _ = ⊥
 
--- the local with this number has this name
-abbrev pub IsLocal : Program → Main → ℕ → List ℕ → Type 0
-IsLocal program main local text = (id : NameId) × (slice_get main.locals local ≡ Some id) × IsText program.names id text
+-- what the parts of a question keep: the choices of a run are digits, and the demo has from 1 to 400 boxes
+abbrev pub IsFit : Question → Type 0
+IsFit (run asked) = All IsDigit asked.choices
+IsFit (demo boxes) = (0 < boxes) × (boxes ≤ 400)
+IsFit _ = Unit {0}
 
--- the place that a request names: a method, a statement of it, and a local that it declares
-pub record IsPlace (request : Request) (program : Program) (main : Main) (local : ℕ) : Type 0 where
-  pub method : request.method ≡ main_text request.entry
-  pub index : request.index < length main.code
-  pub named : IsLocal program main local request.local
+-- the stand-ins for Java's own classes: the program that their text spells. It declares the nine classes that linking needs
+pub record IsPrelude (prelude : Program) : Type 0 where
+  pub spelled : Spells PRELUDE.now prelude
+  pub nine : DeclaresNine prelude
 
--- the first part of a place that isn't there
-abbrev pub IsMissing : Request → Program → Main → Which → Type 0
-IsMissing r program main Method = ¬ (r.method ≡ main_text r.entry)
-IsMissing r program main Index = (r.method ≡ main_text r.entry) × (length main.code ≤ r.index)
-IsMissing r program main Local = (r.method ≡ main_text r.entry) × (r.index < length main.code) × ((local : ℕ) → ¬ IsLocal program main local r.local)
+-- the text of the stand-ins has no tokens, or these derive no program, or it doesn't declare the nine classes
+abbrev pub HasNoPrelude : Type 0
+HasNoPrelude = (prelude : Program) → ¬ IsPrelude prelude
 
--- a request that names a place of the program that the bytes spell
-pub record Query (request : Request) (bytes : List ℕ) : Type 0 where
-  pub program : Program
-  pub main : Main
-  pub local : ℕ
-  pub short : length bytes ≤ limit
-  pub form : IsFirstForm bytes request.entry program main
-  pub place : IsPlace request program main local
+-- the linked program of a program and the stand-ins, from the class of this name on
+pub record LinksTo (input : Program) (entry : List ℕ) (p : LinkedProgram) : Type 0 where
+  pub prelude : Program
+  pub is_prelude : IsPrelude prelude
+  pub links : Links input prelude entry p
+
+-- the program that a request is about, among these bytes: they spell one, and it is linked
+pub record Accepted (r : Request) (bytes : List ℕ) : Type 0 where
+  pub short : length (source_of r.question bytes) ≤ limit
+  pub input : Program
+  pub spelled : Spells (source_of r.question bytes) input
+  pub linked : LinkedProgram
+  pub links : LinksTo input r.entry linked

@@ -1,127 +1,118 @@
--- The status and the lines with which a command is answered.
-use Rattle.std.specs.Prelude.{◌≡◌, ℕ, ◌<◌, ◌≤◌, List, [], ◌∷◌, ◌++◌, length, slice_get, Some, codes}
-use Rattle.std.specs.declared.option.Option.{Option}
-use Rattle.std.specs.Fmt.{decimal}
-use Rattle.std.specs.Io.KnownBytes.{Appends}
-use Rattle.jim_ast.specs.Lists.{Has}
-use Rattle.jim_ast.specs.declared.names.NameId.{NameId}
+-- The status and the lines with which a command is answered: the checks in their order, each with the status that refuses.
+use Rattle.std.specs.Prelude.{◌≡◌, ℕ, ◌<◌, ◌≤◌, ◌⊎◌, List, [], ◌∷◌, length}
 use Rattle.jim_ast.specs.declared.syntax.Program.{Program}
-use Rattle.form_one.specs.declared.code.Code.TheVariants.{New}
-use Rattle.form_one.specs.declared.code.Main.{Main}
-use Rattle.form_one.specs.Answer.{local_at, IsAnswer, IsDemandSize}
-use Rattle.form_one.specs.Query.{IsOver}
-use Rattle.form_one.specs.Form.{IsText}
 use Rattle.jim_text.specs.declared.Token.{Token}
 use Rattle.jim_text.specs.Lexes.{Lexes, StopsAt}
 use Rattle.jim_parse.specs.Derives.{Spells, IsRefusedAt}
-use Rattle.boom_top.specs.Requests.{Request, IsRequest, NoRequest}
-use Rattle.boom_top.specs.Queries.{IsFirstForm, IsMissing, Query, limit}
-use Rattle.boom_top.specs.declared.status.Which.{Which}
-use Rattle.boom_top.specs.declared.status.Which.TheVariants.{Method, Index, Local}
+use Rattle.link_rules.specs.declared.refusal.LinkError.{LinkError}
+use Rattle.link_rules.specs.declared.refusal.LinkError.TheVariants as link
+use Rattle.link_rules.specs.Linked.{IsRefused, LinkedProgram, Links}
+use Rattle.link_sites.specs.declared.site.Site.{Site}
+use Rattle.spds_rules.specs.declared.node.Node.{Node}
+use Rattle.query_core.specs.declared.places.Which.{Which}
+use Rattle.query_core.specs.Answers.{AreSharedBy, IsAnswerTo, IsOver}
+use Rattle.query_core.specs.Places.{ArePlacesOf, IsMissing, IsMissingOfTwo, IsPlaceOf}
+use Rattle.report_text.specs.Aliases.{IsAliasText}
+use Rattle.report_text.specs.Answers.{IsAnswerText}
+use Rattle.report_text.specs.Lines.{text_of}
+use Rattle.run_report.specs.Named.{digits_of}
+use Rattle.run_report.specs.Reports.{IsRunText}
+use Rattle.boom_words.specs.Requests.{Alias, PointsTo, Question, Request, RunFor, IsRequest, NoRequest, alias, demo, points_to, run}
+use Rattle.boom_top.specs.Demo.{IsDemoText, demo_asked}
+use Rattle.boom_top.specs.Queries.{HasNoPrelude, IsPrelude, limit, source_of}
+use Rattle.boom_top.specs.Refusals.{refusal}
 use Rattle.boom_top.specs.declared.status.Status.{Status}
-use Rattle.boom_top.specs.declared.status.Status.TheVariants.{Done, Usage, ReadFault, TooLong, NotText, NotJimple, NoSuchPlace, OverBudget, WriteFault, NoMemory, Unsupported}
+use Rattle.boom_top.specs.declared.status.Status.TheVariants.{Done, Usage, ReadFault, TooLong, NotText, NotJimple, NotLinked, NoSuchPlace, OverBudget, WriteFault, NoMemory, BadPrelude}
 
--- the number with which the program ends
-abbrev pub number_of : Status → ℕ
-number_of Done = 0
-number_of Usage = 1
-number_of ReadFault = 2
-number_of TooLong = 3
-number_of (NotText at) = 4
-number_of (NotJimple at) = 5
-number_of (NoSuchPlace which) = 7
-number_of (OverBudget budget) = 11
-number_of WriteFault = 12
-number_of NoMemory = 13
-number_of (Unsupported index) = 14
+-- the status is this one, and its refusal is the only line
+abbrev pub IsRefusedBy : Status → Status → List (List ℕ) → Type 0
+IsRefusedBy by status lines = (status ≡ by) × (lines ≡ refusal by ∷ [])
 
--- a place's text: the method's, a blank, the index
-abbrev pub place_text : List ℕ → ℕ → List ℕ
-place_text method index = method ++ codes " " ++ decimal index
-
--- the first line of an answer
-abbrev pub query_line : Request → List ℕ
-query_line r = codes "points-to " ++ place_text r.method r.index ++ codes " " ++ r.local
-
--- the class whose object the statement with this index makes
-abbrev pub IsMadeClass : Program → Main → ℕ → List ℕ → Type 0
-IsMadeClass program main site class = (to : ℕ) × (id : NameId) × (slice_get main.code site ≡ Some (New to id)) × IsText program.names id class
-
--- the line of a site: its place, and the class of its objects
-abbrev pub site_line : List ℕ → ℕ → List ℕ → List ℕ
-site_line method site class = codes "site " ++ place_text method site ++ codes " new " ++ class
-
--- the lines of sites, in order
-pub data SiteLines (program : Program) (main : Main) (method : List ℕ) : List ℕ → List (List ℕ) → Type 0 where
-  none : SiteLines program main method [] []
-  some : {site : ℕ} {class : List ℕ} {sites : List ℕ} {lines : List (List ℕ)} → IsMadeClass program main site class
-      → SiteLines program main method sites lines → SiteLines program main method (site ∷ sites) (site_line method site class ∷ lines)
-
--- the lines with the number of sites and with the size of the demand
-abbrev pub count_lines : ℕ → ℕ → List (List ℕ)
-count_lines sites demanded = (codes "sites " ++ decimal sites) ∷ (codes "demanded " ++ decimal demanded) ∷ []
-
--- The lines that answer a request about a local of a program: one for the request, one for each site, two for the counts.
-pub record IsAnswered (r : Request) (program : Program) (main : Main) (local : ℕ) (lines : List (List ℕ)) : Type 0 where
-  pub sites : List ℕ
+-- the answer about a node within the budget, which is told by its sites and the size of its demand
+pub record IsAnswered (p : LinkedProgram) (Tells : Node → List Site → ℕ → List ℕ → Type 0) (budget : ℕ) (n : Node) (lines : List (List ℕ)) : Type 0 where
+  pub sites : List Site
   pub demanded : ℕ
-  pub site_lines : List (List ℕ)
-  pub answer : IsAnswer main.code (local_at r.index local) sites
-  pub size : IsDemandSize main.code (local_at r.index local) demanded
-  pub affordable : demanded ≤ r.budget
-  pub texts : SiteLines program main r.method sites site_lines
-  pub lines_are : lines ≡ query_line r ∷ site_lines ++ count_lines (length sites) demanded
+  pub answer : IsAnswerTo p n sites demanded
+  pub affordable : demanded ≤ budget
+  pub told : Tells n sites demanded (text_of lines)
 
--- the word for the part of a place that isn't there
-abbrev pub which_text : Which → List ℕ
-which_text Method = codes "method"
-which_text Index = codes "index"
-which_text Local = codes "local"
+-- what two nodes share, within the budget
+pub record AreAliased (p : LinkedProgram) (budget : ℕ) (a b : Node) (lines : List (List ℕ)) : Type 0 where
+  pub sites : List Site
+  pub demanded : ℕ
+  pub shared : AreSharedBy p a b sites demanded
+  pub affordable : demanded ≤ budget
+  pub told : IsAliasText p a b sites demanded (text_of lines)
 
--- the line of a refusal
-abbrev pub refusal : Status → List ℕ
-refusal Usage = codes "refused Usage"
-refusal TooLong = codes "refused TooLong"
-refusal (NotText at) = codes "refused NotText " ++ decimal at
-refusal (NotJimple at) = codes "refused NotJimple " ++ decimal at
-refusal (NoSuchPlace which) = codes "refused NoSuchPlace " ++ which_text which
-refusal (OverBudget budget) = codes "refused OverBudget " ++ decimal budget
-refusal (Unsupported index) = codes "refused Unsupported " ++ decimal index
-refusal _ = []
+-- about nodes of a linked program: their demand is over the budget, or they are answered
+abbrev pub IsBudgetReply : LinkedProgram → List Node → ℕ → (List (List ℕ) → Type 0) → Status → List (List ℕ) → Type 0
+IsBudgetReply p nodes budget Answers status lines = (IsOver p nodes budget × IsRefusedBy (OverBudget budget) status lines)
+    ⊎ (Answers lines × (status ≡ Done))
 
--- Why bytes are no program of the first form for the entry: no token begins at a byte, no program goes on with a token, or the program that they spell
--- is of another form.
-abbrev pub IsUnread : List ℕ → List ℕ → Status → Type 0
-IsUnread bytes entry (NotText at) = StopsAt bytes at
-IsUnread bytes entry (NotJimple at) = (tokens : List Token) × Lexes bytes tokens × IsRefusedAt bytes tokens at
-IsUnread bytes entry (Unsupported index) = (program : Program) × Spells bytes program × ((main : Main) → ¬ IsFirstForm bytes entry program main) × (index ≡ 0)
-IsUnread bytes entry _ = ⊥
+-- about a place of a linked program: a part of it is missing, or it is there
+abbrev pub IsPlaceReply : LinkedProgram → PointsTo → (Node → List Site → ℕ → List ℕ → Type 0) → Status → List (List ℕ) → Type 0
+IsPlaceReply p asked Tells status lines =
+    ((which : Which) × IsMissing p asked.method asked.index asked.local which × IsRefusedBy (NoSuchPlace which) status lines)
+    ⊎ ((n : Node) × IsPlaceOf p asked.method asked.index asked.local n
+    × IsBudgetReply p (n ∷ []) asked.budget (IsAnswered p Tells asked.budget n) status lines)
 
--- Which status refuses a request over these bytes: the first check that fails, of length, tokens, grammar, form, place and budget.
-abbrev pub Refuses : Request → List ℕ → Status → Type 0
-Refuses r bytes TooLong = limit < length bytes
-Refuses r bytes (NotText at) = (length bytes ≤ limit) × IsUnread bytes r.entry (NotText at)
-Refuses r bytes (NotJimple at) = (length bytes ≤ limit) × IsUnread bytes r.entry (NotJimple at)
-Refuses r bytes (Unsupported index) = (length bytes ≤ limit) × IsUnread bytes r.entry (Unsupported index)
-Refuses r bytes (NoSuchPlace which) = (program : Program) × (main : Main) × (length bytes ≤ limit) × IsFirstForm bytes r.entry program main
-    × IsMissing r program main which
-Refuses r bytes (OverBudget budget) = (q : Query r bytes) × IsOver q.main.code (local_at r.index q.local) r.budget × (budget ≡ r.budget)
-Refuses r bytes _ = ⊥
+-- about two locals at a place: a part of it is missing, or both are there
+abbrev pub IsAliasReply : LinkedProgram → Alias → Status → List (List ℕ) → Type 0
+IsAliasReply p asked status lines =
+    ((which : Which) × IsMissingOfTwo p asked.method asked.index asked.first asked.second which × IsRefusedBy (NoSuchPlace which) status lines)
+    ⊎ ((a : Node) × (b : Node) × ArePlacesOf p asked.method asked.index asked.first asked.second a b
+    × IsBudgetReply p (a ∷ b ∷ []) asked.budget (AreAliased p asked.budget a b) status lines)
 
--- The status and the lines that answer a request over these bytes.
+-- about a run: how it stands
+abbrev pub IsRunReply : LinkedProgram → List ℕ → RunFor → Status → List (List ℕ) → Type 0
+IsRunReply p entry asked status lines = IsRunText p entry asked.steps (digits_of asked.choices) (text_of lines) × (status ≡ Done)
+
+-- about a linked program
+abbrev pub IsLinkedReply : LinkedProgram → List ℕ → Question → Status → List (List ℕ) → Type 0
+IsLinkedReply p entry (points_to asked) = IsPlaceReply p asked (IsAnswerText p)
+IsLinkedReply p entry (alias asked) = IsAliasReply p asked
+IsLinkedReply p entry (run asked) = IsRunReply p entry asked
+IsLinkedReply p entry (demo boxes) = IsPlaceReply p (demo_asked boxes) (λ n. IsDemoText p boxes)
+
+-- a rule of linking refuses the program with the stand-ins, and this is told of it
+abbrev pub IsNotLinked : Program → Program → List ℕ → LinkError → Type 0
+IsNotLinked input prelude entry (link.Refused kind place index) = IsRefused input prelude entry kind place index
+IsNotLinked input prelude entry link.NoMemory = ⊥
+
+-- of a program and the stand-ins: a rule of linking refuses it, or it is linked
+abbrev pub IsJoinedReply : Request → Program → Program → Status → List (List ℕ) → Type 0
+IsJoinedReply r input prelude status lines = ((error : LinkError) × IsNotLinked input prelude r.entry error × IsRefusedBy (NotLinked error) status lines)
+    ⊎ ((p : LinkedProgram) × Links input prelude r.entry p × IsLinkedReply p r.entry r.question status lines)
+
+-- of a program: there are no stand-ins, or there are
+abbrev pub IsProgramReply : Request → Program → Status → List (List ℕ) → Type 0
+IsProgramReply r input status lines = (HasNoPrelude × IsRefusedBy BadPrelude status lines)
+    ⊎ ((prelude : Program) × IsPrelude prelude × IsJoinedReply r input prelude status lines)
+
+-- why bytes spell no program: no token begins at a byte, or no program goes on with a token
+abbrev pub IsUnread : List ℕ → Status → Type 0
+IsUnread bytes (NotText at) = StopsAt bytes at
+IsUnread bytes (NotJimple at) = (tokens : List Token) × Lexes bytes tokens × IsRefusedAt bytes tokens at
+IsUnread bytes _ = ⊥
+
+-- of a text within the limit: it spells no program, or it spells one
+abbrev pub IsTextReply : Request → List ℕ → Status → List (List ℕ) → Type 0
+IsTextReply r text status lines = (IsUnread text status × (lines ≡ refusal status ∷ []))
+    ⊎ ((input : Program) × Spells text input × IsProgramReply r input status lines)
+
+-- of any text: it is too long, or within the limit
+abbrev pub IsSourceReply : Request → List ℕ → Status → List (List ℕ) → Type 0
+IsSourceReply r text status lines = ((limit < length text) × IsRefusedBy TooLong status lines)
+    ⊎ ((length text ≤ limit) × IsTextReply r text status lines)
+
+-- The status and the lines that answer a request over these bytes. The demo is about its own text.
 abbrev pub IsReplyTo : Request → List ℕ → Status → List (List ℕ) → Type 0
-IsReplyTo r bytes Done lines = (q : Query r bytes) × IsAnswered r q.program q.main q.local lines
-IsReplyTo r bytes status lines = Refuses r bytes status × (lines ≡ refusal status ∷ [])
+IsReplyTo r bytes status lines = IsSourceReply r (source_of r.question bytes) status lines
 
--- The status and the lines that answer these words over these bytes. A fault and want of memory are no answers.
+-- The status and the lines that answer these words over these bytes: they are no command, or one. A fault and want of memory are no answers.
 abbrev pub IsReply : List (List ℕ) → List ℕ → Status → List (List ℕ) → Type 0
-IsReply words bytes Usage lines = NoRequest words × (lines ≡ refusal Usage ∷ [])
-IsReply words bytes status lines = (r : Request) × IsRequest words r × IsReplyTo r bytes status lines
-
--- the text of lines: each ends with a line feed
-abbrev pub text_of : List (List ℕ) → List ℕ
-text_of [] = []
-text_of (line ∷ lines) = line ++ 10 ∷ text_of lines
+IsReply words bytes status lines = (NoRequest words × IsRefusedBy Usage status lines)
+    ⊎ ((r : Request) × IsRequest words r × IsReplyTo r bytes status lines)
 
 -- a fault or want of memory
 abbrev pub GivesUp : Status → Type 0
@@ -129,22 +120,3 @@ GivesUp ReadFault = Unit {0}
 GivesUp WriteFault = Unit {0}
 GivesUp NoMemory = Unit {0}
 GivesUp _ = ⊥
-
--- one of the lines of a text
-pub record HasLine (text line : List ℕ) : Type 0 where
-  pub lines : List (List ℕ)
-  pub text_is : text ≡ text_of lines
-  pub has : Has lines line
-
--- a text with this line was written
-abbrev pub Prints : Option (List ℕ) → Option (List ℕ) → List ℕ → Type 0
-Prints before now line = (text : List ℕ) × Appends before now text × HasLine text line
-
--- the words ask for a place of the program that the bytes spell, and the budget is at least the size of the demand
-pub record IsAnswerable (words : List (List ℕ)) (bytes : List ℕ) : Type 0 where
-  pub request : Request
-  pub requested : IsRequest words request
-  pub query : Query request bytes
-  pub size : ℕ
-  pub demand : IsDemandSize query.main.code (local_at request.index query.local) size
-  pub affordable : size ≤ request.budget

@@ -1,15 +1,21 @@
 //! The top call: the words of a command line and a program go in, a reply comes out.
 #![tactic(auto)]
 
-mod place;
+mod aliases;
+mod demo;
+mod linked;
 mod query;
 mod reading;
-mod reply;
-mod request;
+mod refusal;
+#[cfg(test)]
+mod refusal_tests;
+#[cfg(test)]
+mod row_tests;
 mod status;
 #[cfg(test)]
 mod tests;
 mod top;
 
-pub use status::{Status, Which};
+pub use query_core::Which;
+pub use status::Status;
 pub use top::boomer;

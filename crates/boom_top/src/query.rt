@@ -1,58 +1,155 @@
-//! The answer to a command about a program.
-ghost use Rattle.std.specs.Prelude.{◌≡◌, ◌∷◌, [], ℕ, List, IfOk, string_bytes};
-ghost use Rattle.form_one.specs.Form.{IsFormOne};
-ghost use Rattle.boom_top.specs.Commands.{request_of};
-ghost use Rattle.boom_top.specs.Parts.{Answers, PrintsRuns};
-ghost use Rattle.boom_top.specs.Queries.{IsPlace};
-ghost use Rattle.boom_top.specs.Reads.{AreFew};
-ghost use Rattle.boom_top.specs.Replies.{refusal, text_of};
+//! The reply to a question about a linked program.
+ghost use Rattle.std.specs.Prelude.{◌≡◌, ℕ, All, IfOk, IsErr};
+ghost use Rattle.link_rules.specs.WellLinked.{IsWellLinked};
+ghost use Rattle.link_sites.specs.Sites.{IsSite};
+ghost use Rattle.query_core.specs.declared.places.Which.{Which as AWhich};
+ghost use Rattle.query_core.specs.Places.{IsPlaceOf};
+ghost use Rattle.spds_rules.specs.declared.node.Node.{Node as ANode};
+ghost use Rattle.report_text.specs.Answers.{IsAnswerText};
+ghost use Rattle.run_report.specs.Named.{IsDigit};
+ghost use Rattle.boom_words.specs.Commands.{points_to_of, question_of, run_of};
+ghost use Rattle.boom_top.specs.Parts.{Makes, Tells};
+ghost use Rattle.boom_top.specs.Queries.{IsFit};
+ghost use Rattle.boom_top.specs.Replies.{IsLinkedReply, IsPlaceReply, IsRunReply};
 
-use super::reading::Reading;
-use super::reply::{answer_text, refusal_text};
-use super::request::Command;
+use super::aliases::alias_reply;
+use super::demo::demo_reply;
+use super::refusal::refusal_text;
 use super::status::Status;
-use form_one::{QueryError, points_to};
+use boom_words::{Asked, Command, Query, Running};
 use jim_ast::NoMemory;
+use link_program::Linked;
+use query_core::{Answer, QueryError, place, points_to};
+use report_text::answer_text;
+use run_report::run_text;
+use spds_rules::Node;
 use std::alloc::{AllocError, Global};
 
 /// A status, and the text that is written with it.
 #[derive(Drop)]
 pub(crate) struct Reply {
     pub status: Status,
-    pub text: String,
+    pub text: Vec<u8>,
+}
+
+/// Why there is no reply.
+#[derive(Clone, Copy)]
+pub(crate) enum NoReply {
+    ReadFault,
+    NoMemory,
+}
+
+impl From<NoMemory> for NoReply {
+    ghost use Rattle.std.specs.Prelude.{◌≡◌};
+    ghost use Rattle.boom_top.specs.declared.query.NoReply.TheVariants.{NoMemory as NoRoom};
+
+    ghost from_gives = { λ error none. none ≡ NoRoom };
+
+    fn from(_: NoMemory) -> Self {
+        NoReply::NoMemory
+    }
 }
 
 /// A refusal.
 pub(crate) fn refused(alloc: Global, status: Status) -> Result<Reply, NoMemory>
-    ensures status { IfOk result (λ reply. reply.status ≡ status) }
-    ensures text { IfOk result (λ reply. string_bytes reply.text ≡ text_of (refusal status ∷ [])) }
+    ensures { IfOk result (Tells status) }
 {
-    let text = refusal_text(alloc, status)?;
+    let text = refusal_text(alloc, &status)?;
+    let text = text.into_bytes();
     Ok(Reply { status, text })
 }
 
-/// The reply to a command whose place is there.
-pub(crate) fn answer(
+/// The refusal of a query that has no answer.
+pub(crate) fn not_answered(alloc: Global, error: QueryError) -> Result<Reply, NoMemory>
+    ensures missing { (which : AWhich) → error ≡ QueryError.NoSuchPlace which → IfOk result (Tells (Status.NoSuchPlace which)) }
+    ensures over { (budget : ℕ) → error ≡ QueryError.OverBudget budget → IfOk result (Tells (Status.OverBudget budget)) }
+    ensures no_memory { error ≡ QueryError.NoMemory → IsErr result }
+{
+    match error {
+        QueryError::NoSuchPlace { which } => refused(alloc, Status::NoSuchPlace { which }),
+        QueryError::OverBudget { budget } => refused(alloc, Status::OverBudget { budget }),
+        QueryError::NoMemory => Err(AllocError),
+    }
+}
+
+/// The node of a place that is there.
+pub(crate) fn named(linked: &Linked, method: &str, index: u32, local: &str) -> Node
+    requires { (n : ANode) × IsPlaceOf linked.now method.now index local.now n }
+    ensures { IsPlaceOf linked.now method.now index local.now result }
+{
+    match place(linked, method, index, local) {
+        Ok(node) => node,
+        Err(_) => unreachable!(),
+    }
+}
+
+// The reply that answers a query of a place that is there.
+fn answered(
+    alloc: Global,
+    asked: &Asked<'_>,
+    linked: &Linked,
+    answer: &Answer,
+) -> Result<Reply, NoMemory>
+    requires place { (n : ANode) × IsPlaceOf linked.now asked.now.method.now asked.now.index asked.now.local.now n }
+    requires sites { All (IsSite linked.now) answer.now.sites }
+    ensures done { IfOk result (λ reply. reply.status ≡ Status.Done) }
+    ensures text { IfOk result (λ reply. (n : ANode) × IsPlaceOf linked.now asked.now.method.now asked.now.index asked.now.local.now n
+        × IsAnswerText linked.now n answer.now.sites answer.now.demanded reply.text.items) }
+{
+    let node = named(linked, asked.method, asked.index, asked.local);
+    let sites = answer.sites.as_slice();
+    let text = answer_text(alloc, linked, node, sites, answer.demanded)?;
+    let status = Status::Done;
+    Ok(Reply { status, text })
+}
+
+// The reply that tells which sites a local may hold.
+fn points_to_reply(alloc: Global, asked: &Asked<'_>, linked: &Linked) -> Result<Reply, NoMemory>
+    requires { IsWellLinked linked.now }
+    ensures { IfOk result (Makes (IsPlaceReply linked.now (points_to_of asked.now) (IsAnswerText linked.now))) }
+{
+    match points_to(
+        alloc,
+        linked,
+        asked.method,
+        asked.index,
+        asked.local,
+        asked.budget,
+    ) {
+        Ok(answer) => answered(alloc, asked, linked, &answer),
+        Err(error) => not_answered(alloc, error),
+    }
+}
+
+// The reply that tells how a run stands.
+fn run_reply(
+    alloc: Global,
+    entry: &str,
+    asked: &Running<'_>,
+    linked: &Linked,
+) -> Result<Reply, NoMemory>
+    requires { All IsDigit asked.now.choices.now }
+    ensures { IfOk result (Makes (IsRunReply linked.now entry.now (run_of asked.now))) }
+{
+    let text = run_text(alloc, linked, entry, asked.steps, asked.choices)?;
+    let status = Status::Done;
+    Ok(Reply { status, text })
+}
+
+/// The reply to what a command asks of a linked program.
+pub(crate) fn linked_reply(
     alloc: Global,
     command: &Command<'_>,
-    reading: &Reading,
-    local: u32,
+    linked: &Linked,
 ) -> Result<Reply, NoMemory>
-    requires form { IsFormOne reading.now.program reading.now.main }
-    requires few { AreFew reading.now.main }
-    requires place { IsPlace (request_of command.now) reading.now.program reading.now.main local }
-    ensures reply { IfOk result (λ reply. (lines : List (List ℕ))
-        × Answers (request_of command.now) reading.now.program reading.now.main local reply.status lines × (string_bytes reply.text ≡ text_of lines)) }
-    ensures sound { IfOk result (λ reply. reply.status ≡ Status.Done
-        → PrintsRuns (request_of command.now) reading.now.program reading.now.main local (string_bytes reply.text)) }
+    requires well { IsWellLinked linked.now }
+    requires fit { IsFit (question_of command.now.query) }
+    ensures { IfOk result (Makes (IsLinkedReply linked.now command.now.entry.now (question_of command.now.query))) }
 {
-    match points_to(alloc, &reading.main, command.index, local, command.budget) {
-        Ok(found) => {
-            let status = Status::Done;
-            let text = answer_text(alloc, command, &reading.program, &reading.main, &found)?;
-            Ok(Reply { status, text })
-        }
-        Err(QueryError::OverBudget { budget }) => refused(alloc, Status::OverBudget { budget }),
-        Err(QueryError::NoMemory) => Err(AllocError),
+    match &command.query {
+        Query::PointsTo(asked) => points_to_reply(alloc, asked, linked),
+        Query::Alias(asked) => alias_reply(alloc, asked, linked),
+        Query::Run(asked) => run_reply(alloc, command.entry, asked, linked),
+        Query::Demo { boxes } => demo_reply(alloc, *boxes, linked),
     }
 }

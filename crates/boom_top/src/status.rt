@@ -1,20 +1,12 @@
 //! How a call ended.
 ghost use Rattle.std.specs.Prelude.{◌≡◌};
-ghost use Rattle.boom_top.specs.Replies.{number_of};
+ghost use Rattle.boom_top.specs.Refusals.{number_of};
 
-/// The part of a place that isn't there.
-#[derive(Clone, Copy, Debug, PartialEq, Eq)]
-pub enum Which {
-    /// No method has this text.
-    Method,
-    /// The method has no statement with this index.
-    Index,
-    /// The method declares no local of this name.
-    Local,
-}
+use link_rules::LinkError;
+use query_core::Which;
 
 /// How a call ended. What each means stands at `boomer`.
-#[derive(Clone, Copy, Debug, PartialEq, Eq)]
+#[derive(Debug, Drop)]
 pub enum Status {
     /// The answer was written whole.
     Done,
@@ -29,6 +21,8 @@ pub enum Status {
     /// The tokens derive no program: this is the place, from 0, of the first token with which none goes on, or the number of tokens where the end comes
     /// too early.
     NotJimple { at: u32 },
+    /// A rule of linking refuses the program: the first, and what it is told of. `LinkError::NoMemory` never stands here.
+    NotLinked(LinkError),
     /// A part of the place that the command names isn't there: the first in the order of `Which`.
     NoSuchPlace { which: Which },
     /// More nodes than this budget are demanded.
@@ -37,8 +31,9 @@ pub enum Status {
     WriteFault,
     /// Memory that was asked for wasn't found.
     NoMemory,
-    /// The bytes spell a program that isn't of the first form for the entry. The index is 0.
-    Unsupported { index: u32 },
+    /// The stand-ins for Java's own classes that are built in have no tokens, derive no program, or don't declare the nine classes that linking
+    /// needs.
+    BadPrelude,
 }
 
 impl Status {
@@ -53,11 +48,12 @@ impl Status {
             Status::TooLong => 3,
             Status::NotText { .. } => 4,
             Status::NotJimple { .. } => 5,
+            Status::NotLinked(_) => 6,
             Status::NoSuchPlace { .. } => 7,
             Status::OverBudget { .. } => 11,
             Status::WriteFault => 12,
             Status::NoMemory => 13,
-            Status::Unsupported { .. } => 14,
+            Status::BadPrelude => 16,
         }
     }
 }

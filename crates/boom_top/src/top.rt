@@ -1,71 +1,127 @@
 //! The top call.
-ghost use Rattle.std.specs.Prelude.{◌≡◌, ◌≢◌, ◌≤◌, ◌⊎◌, ℕ, List, length, map, IfOk, IfSome, OnErr, string_bytes};
+ghost use Rattle.std.specs.Prelude.{◌≡◌, ◌≢◌, ◌⊎◌, ℕ, Err, List, length, map, IfErr, IfOk, IfSome, IsOk, string_bytes};
 ghost use Rattle.std.specs.Io.KnownBytes.{Appends, IsAtEnd};
 ghost use Rattle.boom_io.specs.Causes.{Rose};
 ghost use Rattle.boom_io.specs.Whole.{AppendsProperPrefix};
-ghost use Rattle.form_one.specs.Answer.{local_at, IsDemandSize};
-ghost use Rattle.form_one.specs.Machine.{State, Run, Holds};
-ghost use Rattle.boom_top.specs.Commands.{request_of};
-ghost use Rattle.boom_top.specs.Parts.{PrintsRuns, Sends};
-ghost use Rattle.boom_top.specs.Queries.{Query, limit};
-ghost use Rattle.boom_top.specs.Replies.{GivesUp, IsAnswerable, IsMadeClass, IsReply, IsReplyTo, Prints, site_line, text_of};
-ghost use Rattle.boom_top.specs.Requests.{Request, IsRequest, NoRequest};
+ghost use Rattle.boom_words.specs.Commands.{question_of, request_of};
+ghost use Rattle.boom_words.specs.Requests.{Request, IsRequest, NoRequest};
+ghost use Rattle.demo_text.specs.Demo.{demo_source};
+ghost use Rattle.report_text.specs.Lines.{text_of};
+ghost use Rattle.boom_top.specs.Parts.{IsGiven, Makes, Sends, status_of};
+ghost use Rattle.boom_top.specs.Queries.{Accepted, IsDemo, IsFit};
+ghost use Rattle.boom_top.specs.Replies.{GivesUp, IsReply, IsReplyTo, IsSourceReply};
+ghost use Rattle.boom_top.specs.Runs.{CoversAllRuns, IsAnswerable, ReadsNothing};
 
-use super::place::place_of;
-use super::query::{Reply, answer, refused};
-use super::reading::read_form;
-use super::request::{Command, read_words};
+use super::linked::text_reply;
+use super::query::{NoReply, Reply, refused};
+use super::reading::LIMIT;
 use super::status::Status;
 use boom_io::{ReadAll, Sink, Source, read_all, write_all};
+use boom_words::{Command, Query, read_words};
+use demo_text::demo_text;
 use jim_ast::NoMemory;
 use std::alloc::Global;
 
-/// The most bytes that are read.
-const LIMIT: usize = 16_777_216;
-
-// The reply to a command over bytes.
-fn reply_to(alloc: Global, command: &Command<'_>, bytes: &[u8]) -> Result<Reply, NoMemory>
-    requires { length bytes.now ≤ limit }
-    ensures reply { IfOk result (λ reply. (lines : List (List ℕ)) × IsReplyTo (request_of command.now) bytes.now reply.status lines
-        × (string_bytes reply.text ≡ text_of lines)) }
-    ensures only { IfOk result (λ reply. (status : Status) (lines : List (List ℕ)) → IsReplyTo (request_of command.now) bytes.now status lines
-        → status ≡ reply.status) }
-    ensures enough { (q : Query (request_of command.now) bytes.now) (size : ℕ) → IsDemandSize q.main.code (local_at command.now.index q.local) size
-        → size ≤ command.now.budget → IfOk result (λ reply. Status.Done ≡ reply.status) }
-    ensures sound { IfOk result (λ reply. reply.status ≡ Status.Done → (q : Query (request_of command.now) bytes.now)
-        → PrintsRuns (request_of command.now) q.program q.main q.local (string_bytes reply.text)) }
-{
-    let reading = match read_form(alloc, bytes, command.entry)? {
-        Ok(reading) => reading,
-        Err(status) => return refused(alloc, status),
-    };
-    match place_of(alloc, command, &reading.program, &reading.main)? {
-        Ok(local) => answer(alloc, command, &reading, local),
-        Err(which) => refused(alloc, Status::NoSuchPlace { which }),
-    }
-}
-
 // Writes a reply whole, and answers its status.
-fn send<K: Sink>(sink: &mut K, made: Result<Reply, NoMemory>) -> Status
-    ensures sent { IfOk made (λ reply. Sends reply.status (string_bytes reply.text) (K.written sink.old) (K.written sink.new)
+fn send<K: Sink>(sink: &mut K, made: Result<Reply, NoReply>) -> Status
+    ensures sent { IfOk made (λ reply. Sends reply.status reply.text.items (K.written sink.old) (K.written sink.new)
         (K.faults sink.old) (K.faults sink.new) result) }
-    ensures no_memory { OnErr made ((result ≡ Status.NoMemory) × (sink.new ≡ sink.old)) }
+    ensures unsent { IfErr made (λ none. (result ≡ status_of none) × (sink.new ≡ sink.old)) }
     ensures kept { result ≢ Status.WriteFault → K.faults sink.new ≡ K.faults sink.old }
 {
-    let Ok(reply) = made else {
-        return Status::NoMemory;
+    let reply = match made {
+        Ok(reply) => reply,
+        Err(NoReply::ReadFault) => return Status::ReadFault,
+        Err(NoReply::NoMemory) => return Status::NoMemory,
     };
-    match write_all(sink, reply.text.as_bytes()) {
+    match write_all(sink, &reply.text) {
         Ok(()) => reply.status,
         Err(_) => Status::WriteFault,
     }
 }
 
-/// Answers a command over the program that the source has left, and writes the reply to the sink.
+// The reply to the demo, which is about its own text.
+fn own_reply(alloc: Global, command: &Command<'_>, boxes: u32) -> Result<Reply, NoMemory>
+    requires { IsFit (question_of command.now.query) }
+    ensures { IfOk result (Makes (IsSourceReply (request_of command.now) (demo_source boxes))) }
+{
+    let text = demo_text(alloc, boxes)?;
+    text_reply(alloc, command, text.as_bytes())
+}
+
+// The reply to a command about what the source has left.
+fn read_reply<S: Source>(
+    alloc: Global,
+    command: &Command<'_>,
+    source: &mut S,
+) -> Result<Reply, NoReply>
+    requires { IsFit (question_of command.now.query) }
+    ensures reply { IfSome (S.left source.old) (λ bytes. IfOk result (Makes (IsSourceReply (request_of command.now) bytes))) }
+    ensures given { IfOk result (λ reply. IsGiven reply.status) }
+    ensures whole { IfOk result (λ reply. reply.status ≡ Status.Done → IsAtEnd (S.left source.new)) }
+    ensures fault { result ≡ Err NoReply.ReadFault → Rose (S.faults source.old) (S.faults source.new) }
+    ensures told { result ≢ Err NoReply.ReadFault → S.faults source.new ≡ S.faults source.old }
+{
+    match read_all(alloc, source, LIMIT) {
+        Ok(bytes) => Ok(text_reply(alloc, command, &bytes)?),
+        Err(ReadAll::ReadFault) => Err(NoReply::ReadFault),
+        Err(ReadAll::TooLong) => Ok(refused(alloc, Status::TooLong)?),
+        Err(ReadAll::NoMemory) => Err(NoReply::NoMemory),
+    }
+}
+
+// The reply to a command. The demo reads nothing.
+fn command_reply<S: Source>(
+    alloc: Global,
+    command: &Command<'_>,
+    source: &mut S,
+) -> Result<Reply, NoReply>
+    requires { IsFit (question_of command.now.query) }
+    ensures reply { IfSome (S.left source.old) (λ bytes. IfOk result (Makes (IsReplyTo (request_of command.now) bytes))) }
+    ensures given { IfOk result (λ reply. IsGiven reply.status) }
+    ensures unread { IsDemo (question_of command.now.query) → source.new ≡ source.old }
+    ensures whole { IfOk result (λ reply. reply.status ≡ Status.Done → IsDemo (question_of command.now.query) ⊎ IsAtEnd (S.left source.new)) }
+    ensures fault { result ≡ Err NoReply.ReadFault → Rose (S.faults source.old) (S.faults source.new) }
+    ensures told { result ≢ Err NoReply.ReadFault → S.faults source.new ≡ S.faults source.old }
+{
+    match command.query {
+        Query::Demo { boxes } => Ok(own_reply(alloc, command, boxes)?),
+        _ => read_reply(alloc, command, source),
+    }
+}
+
+// The reply to words.
+fn words_reply<S: Source>(alloc: Global, words: &[String], source: &mut S) -> Result<Reply, NoReply>
+    ensures reply { IfSome (S.left source.old) (λ bytes. IfOk result (Makes (IsReply (map string_bytes words.now) bytes))) }
+    // The words are at most one request.
+    ensures one { IsOk result → (a b : Request) → IsRequest (map string_bytes words.now) a → IsRequest (map string_bytes words.now) b → a ≡ b }
+    ensures usage { IfOk result (λ reply. reply.status ≡ Status.Usage → NoRequest (map string_bytes words.now)) }
+    ensures no_words { NoRequest (map string_bytes words.now) → IfOk result (λ reply. reply.status ≡ Status.Usage) × (result ≢ Err NoReply.ReadFault) }
+    ensures stands { IfOk result (λ reply. GivesUp reply.status → ⊥) }
+    ensures unread { ReadsNothing (map string_bytes words.now) → source.new ≡ source.old }
+    ensures whole { IfOk result (λ reply. reply.status ≡ Status.Done → ReadsNothing (map string_bytes words.now) ⊎ IsAtEnd (S.left source.new)) }
+    ensures fault { result ≡ Err NoReply.ReadFault → Rose (S.faults source.old) (S.faults source.new) }
+    ensures told { result ≢ Err NoReply.ReadFault → S.faults source.new ≡ S.faults source.old }
+{
+    match read_words(alloc, words)? {
+        Some(command) => command_reply(alloc, &command, source),
+        None => Ok(refused(alloc, Status::Usage)?),
+    }
+}
+
+/// Answers a command, over the program that the source has left where it is about one, and writes the reply to the sink.
 ///
-/// `words` are the words of the command line behind the program's name: `points-to ENTRY METHOD INDEX LOCAL BUDGET` asks for the sites whose objects
-/// LOCAL may hold just before the statement INDEX, from 0, of METHOD. The checks come in this order: words, length, tokens, grammar, form, place, budget. The first that
-/// fails is the status, and its line is the reply; else the status is `Done`. The reply is made whole before it is written.
+/// `words` are the words of the command line behind the program's name. INDEX counts the statements of METHOD from 0.
+///
+/// - `points-to ENTRY METHOD INDEX LOCAL BUDGET`: which sites may be those of the object that LOCAL holds just before the statement?
+/// - `alias ENTRY METHOD INDEX LOCAL LOCAL BUDGET`: which sites may be those of one object that both locals hold there?
+/// - `run ENTRY STEPS CHOICES`: how does the machine stand after so many steps of the run that the digits name?
+/// - `demo BOXES`: how large is a program of so many boxes, and what does a query of it demand? It reads nothing; its own text stands in the place of
+///   the bytes.
+///
+/// The program is linked, with the stand-ins for Java's own classes that are built in, from the `main` of the class ENTRY on. The checks come in this
+/// order: words, length, tokens, grammar, stand-ins, linking, place, budget. The first that fails is the status, and its line is the reply; else the
+/// status is `Done`. The reply is made whole before it is written.
 ///
 /// The clauses on replies speak of a source that tells the bytes it has left.
 pub fn boomer<S: Source, K: Sink>(
@@ -81,19 +137,20 @@ pub fn boomer<S: Source, K: Sink>(
     ensures exact { IfSome (S.left source.old) (λ bytes. (status : Status) (lines : List (List ℕ)) → IsReply (map string_bytes words.now) bytes status lines
         → (result ≡ status) ⊎ GivesUp result) }
 
-    // The headline: whatever the local holds at the end of any run, of any length, that stands at the place, its site is printed.
+    // The headline: whatever a local holds in any frame that stands at the place, at the end of any run of the machine, of any length, its site is
+    // printed; and two locals of a frame that hold one object are printed as aliases.
     ensures sound { IfSome (S.left source.old) (λ bytes. result ≡ Status.Done → (r : Request) → IsRequest (map string_bytes words.now) r
-        → (q : Query r bytes) (n : ℕ) (state : State) (site : ℕ) → Run q.main n state → state.place ≡ r.index → Holds state q.local site
-        → (class : List ℕ) × IsMadeClass q.program q.main site class × Prints (K.written sink.old) (K.written sink.new) (site_line r.method site class)) }
-    // A query with a budget of at least its demand's size is answered where no read and no write fails and memory is found.
+        → (a : Accepted r bytes) → CoversAllRuns a.linked r.question (K.written sink.old) (K.written sink.new)) }
+    // What is there, with a budget of at least its demand's size, is answered where no read and no write fails and memory is found.
     ensures complete { IfSome (S.left source.old) (λ bytes. IsAnswerable (map string_bytes words.now) bytes → ¬ Rose (S.faults source.old) (S.faults source.new)
         → ¬ Rose (K.faults sink.old) (K.faults sink.new) → (result ≡ Status.Done) ⊎ (result ≡ Status.NoMemory)) }
 
-    // Words that are no command are refused as such whatever the source tells, and nothing is read.
+    // Words that are no command are refused as such whatever the source tells. They read nothing, and nor does the demo; an answer to other words rests
+    // on all that was left.
     ensures usage { result ≡ Status.Usage → NoRequest (map string_bytes words.now) }
-    ensures unread { NoRequest (map string_bytes words.now)
-        → (source.new ≡ source.old) × ((result ≡ Status.Usage) ⊎ (result ≡ Status.WriteFault) ⊎ (result ≡ Status.NoMemory)) }
-    ensures read_whole { result ≡ Status.Done → IsAtEnd (S.left source.new) }
+    ensures no_words { NoRequest (map string_bytes words.now) → (result ≡ Status.Usage) ⊎ (result ≡ Status.WriteFault) ⊎ (result ≡ Status.NoMemory) }
+    ensures unread { ReadsNothing (map string_bytes words.now) → source.new ≡ source.old }
+    ensures read_whole { result ≡ Status.Done → ReadsNothing (map string_bytes words.now) ⊎ IsAtEnd (S.left source.new) }
     ensures read_fault { result ≡ Status.ReadFault → Rose (S.faults source.old) (S.faults source.new) × (sink.new ≡ sink.old) }
     ensures no_memory { result ≡ Status.NoMemory → sink.new ≡ sink.old }
     // A fault is told: with each other status no read, and no write, failed.
@@ -103,15 +160,6 @@ pub fn boomer<S: Source, K: Sink>(
     ensures prefix { IfSome (S.left source.old) (λ bytes. result ≡ Status.WriteFault → (status : Status) × (lines : List (List ℕ))
         × IsReply (map string_bytes words.now) bytes status lines × AppendsProperPrefix (K.written sink.old) (K.written sink.new) (text_of lines)) }
 {
-    let command = match read_words(alloc, words) {
-        Ok(Some(command)) => command,
-        Ok(None) => return send(sink, refused(alloc, Status::Usage)),
-        Err(_) => return Status::NoMemory,
-    };
-    match read_all(alloc, source, LIMIT) {
-        Ok(bytes) => send(sink, reply_to(alloc, &command, &bytes)),
-        Err(ReadAll::ReadFault) => Status::ReadFault,
-        Err(ReadAll::TooLong) => send(sink, refused(alloc, Status::TooLong)),
-        Err(ReadAll::NoMemory) => Status::NoMemory,
-    }
+    let made = words_reply(alloc, words, source);
+    send(sink, made)
 }

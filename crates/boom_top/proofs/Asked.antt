@@ -1,0 +1,193 @@
+-- What a request about a program that is linked is answered.
+use Rattle.std.proofs.Common.{◌≡◌, ℕ, zero, suc, List, [], ◌∷◌, ◌++◌, Option, codes, length, refl, subst, arith, inl, inr, slice_get, Some}
+use Rattle.std.specs.Io.KnownBytes.{Appends}
+use Rattle.jim_ast.specs.Lists.{Has}
+use Rattle.jim_ast.specs.declared.syntax.Program.{Program}
+use Rattle.jim_parse.proofs.ProgramLemmas.{spells_one}
+use Rattle.link_rules.specs.Conditions.{IsRead}
+use Rattle.link_rules.specs.Linked.{LinkedProgram}
+use Rattle.link_rules.specs.WellLinked.{IsWellLinked}
+use Rattle.link_laws.proofs.Lists.{each_left}
+use Rattle.link_laws.proofs.Whole.{links_well}
+use Rattle.link_once.proofs.OneLink.{link_one}
+use Rattle.read_laws.proofs.Programs.{derived_read}
+use Rattle.link_sites.specs.declared.site.Site.{Site}
+use Rattle.spds_rules.specs.declared.node.Node.{Node}
+use Rattle.demand_walk.proofs.Counts.{HasMore-not}
+use Rattle.run_covers.specs.Covers.{IsCovered}
+use Rattle.run_covers.proofs.Whole.{links_covered}
+use Rattle.query_core.specs.Answers.{IsAffordable}
+use Rattle.query_core.proofs.NamedPlaces.{place_one, place_there, places_one, places_there}
+use Rattle.query_core.proofs.Sound.{answer_sound, shared_sound}
+use Rattle.report_text.specs.Aliases.{IsSharedLine, verdict_lines}
+use Rattle.report_text.specs.Answers.{IsAnswerText, IsSiteLine, count_lines}
+use Rattle.report_text.specs.Lines.{text_of}
+use Rattle.boom_words.specs.Requests.{Alias, PointsTo, Question, Request, alias, demo, points_to, run}
+use Rattle.boom_top.specs.Demo.{IsDemoText, demo_asked}
+use Rattle.boom_top.specs.Queries.{Accepted, source_of}
+use Rattle.boom_top.specs.Replies.{AreAliased, IsAliasReply, IsAnswered, IsJoinedReply, IsLinkedReply, IsPlaceReply, IsProgramReply, IsReplyTo, IsTextReply}
+use Rattle.boom_top.specs.Runs.{CoversAllRuns, HasAnswer, IsWithin, PrintsAllAliases, PrintsAllRuns}
+use Rattle.boom_top.specs.declared.status.Status.{Status}
+use Rattle.boom_top.specs.declared.status.Status.TheVariants.{Done, OverBudget}
+use Rattle.boom_top.proofs.Once.{not_refused, prelude_one, spelled_read}
+
+has_middle : {X : Type 0} (first : X) (xs ys : List X) (x : X) → Has xs x → Has (first ∷ (xs ++ ys)) x
+has_middle {X} first xs ys x h = (suc h.0, left xs h.0 h.1)
+  where
+    left : (xs : List X) (i : ℕ) → slice_get xs i ≡ Some x → slice_get (xs ++ ys) i ≡ Some x
+    left [] i e = cc
+    left (z ∷ zs) zero e = e
+    left (z ∷ zs) (suc i) e = left zs i e
+
+-- where a site is shared, the locals are said to be aliases
+says_yes : (query : List ℕ) (lines : List (List ℕ)) (sites : List Site) (demanded : ℕ) (o : Site) → Has sites o
+    → Has (query ∷ (lines ++ verdict_lines (length sites) demanded)) (codes "aliases yes")
+says_yes query lines [] demanded o has = absurd (let e = has.1 in cc)
+says_yes query lines (site ∷ sites) demanded o has = (suc (length lines), behind lines)
+  where
+    behind : (lines : List (List ℕ)) → slice_get (lines ++ verdict_lines (suc (length sites)) demanded) (length lines) ≡ Some (codes "aliases yes")
+    behind [] = refl
+    behind (line ∷ lines) = behind lines
+
+-- what is asked of a linked program: whether it is answered
+module _ (p : LinkedProgram) (s : Status) (lines : List (List ℕ)) where
+  -- a budget of at least the demand's size is enough
+  place_enough : (asked : PointsTo) (Tells : Node → List Site → ℕ → List ℕ → Type 0) → IsWithin p asked → IsPlaceReply p asked Tells s lines → s ≡ Done
+  place_enough asked Tells (n, place, affordable) (inl a) = absurd (place_there p asked.method asked.index asked.local n place a.0 a.1)
+  place_enough asked Tells (n, place, affordable) (inr (m, here, inl over)) =
+      let same = place_one p asked.method asked.index asked.local n m place here in
+      absurd (HasMore-not asked.budget over.0 (subst (λ (n : Node). IsAffordable p (n ∷ []) asked.budget) same affordable))
+  place_enough asked Tells (n, place, affordable) (inr (m, here, inr a)) = a.1
+
+  alias_enough : (asked : Alias) → HasAnswer p (alias asked) → IsAliasReply p asked s lines → s ≡ Done
+  alias_enough asked (a, b, places, affordable) (inl x) = absurd (places_there p asked.method asked.index asked.first asked.second a b places x.0 x.1)
+  alias_enough asked (a, b, places, affordable) (inr (m, n, here, inl over)) =
+      let same = places_one p asked.method asked.index asked.first asked.second a b m n places here in
+      let left = subst (λ (m : Node). IsAffordable p (m ∷ b ∷ []) asked.budget) same.0 affordable in
+      absurd (HasMore-not asked.budget over.0 (subst (λ (n : Node). IsAffordable p (m ∷ n ∷ []) asked.budget) same.1 left))
+  alias_enough asked (a, b, places, affordable) (inr (m, n, here, inr x)) = x.1
+
+  pub linked_enough : (entry : List ℕ) (q : Question) → HasAnswer p q → IsLinkedReply p entry q s lines → s ≡ Done
+  linked_enough entry (points_to asked) has reply = place_enough asked (IsAnswerText p) has reply
+  linked_enough entry (alias asked) has reply = alias_enough asked has reply
+  linked_enough entry (run asked) has reply = reply.1
+  linked_enough entry (demo boxes) has reply = place_enough (demo_asked boxes) (λ n. IsDemoText p boxes) has reply
+
+-- what is done covers each run
+module _ (p : LinkedProgram) (well : IsWellLinked p) (covered : IsCovered p) (old new : Option (List ℕ)) (lines : List (List ℕ)) (wrote : Appends old new (text_of lines)) where
+  -- the answer about a node has the line of the site of each object that a run brings
+  node_covered : (budget : ℕ) (n : Node) → IsAnswered p (IsAnswerText p) budget n lines → PrintsAllRuns p n old new
+  node_covered budget n a = λ count state number frame x o run holds is.
+      let found = answer_sound p well covered n a.sites a.demanded a.answer count state number frame x o run holds is in
+      let line = each_left (IsSiteLine p) a.sites a.told.lines found.2.0 found.0.site a.told.lines_are found.2.1 in (
+        found.0,
+        found.1,
+        line.0,
+        line.2,
+        (
+          text_of lines,
+          wrote,
+          record {
+            lines = a.told.query ∷ (a.told.lines ++ count_lines (length a.sites) a.demanded);
+            text_is = a.told.text_is;
+            has = has_middle a.told.query a.told.lines (count_lines (length a.sites) a.demanded) line.0 (found.2.0, line.1);
+          },
+        ),
+      )
+
+  place_covered : (asked : PointsTo) → IsPlaceReply p asked (IsAnswerText p) Done lines → CoversAllRuns p (points_to asked) old new
+  place_covered asked (inl a) n place = absurd (place_there p asked.method asked.index asked.local n place a.0 a.1)
+  place_covered asked (inr (m, here, inl over)) n place = absurd (let no : Done ≡ OverBudget asked.budget = over.1.0 in cc)
+  place_covered asked (inr (m, here, inr a)) n place =
+      node_covered asked.budget n (subst (λ (n : Node). IsAnswered p (IsAnswerText p) asked.budget n lines)
+      (place_one p asked.method asked.index asked.local m n here place) a.0)
+
+  -- the answer about two nodes has the line of the site of each object that a run brings to both, and says that they are aliases
+  nodes_covered : (budget : ℕ) (a b : Node) → AreAliased p budget a b lines → PrintsAllAliases p a b old new
+  nodes_covered budget a b is = λ count state number frame x y o run holds holds_too at at_too.
+      let found = shared_sound p well covered a b is.sites is.demanded is.shared count state number frame x y o run holds holds_too at at_too in
+      let line = each_left (IsSharedLine p) is.sites is.told.lines found.2.0 found.0.site is.told.lines_are found.2.1 in
+      let all = is.told.query ∷ (is.told.lines ++ verdict_lines (length is.sites) is.demanded) in (
+        (
+          text_of lines,
+          wrote,
+          record {
+            lines = all;
+            text_is = is.told.text_is;
+            has = says_yes is.told.query is.told.lines is.sites is.demanded found.0.site found.2;
+          },
+        ),
+        (
+          found.0,
+          found.1,
+          line.0,
+          line.2,
+          (
+            text_of lines,
+            wrote,
+            record {
+              lines = all;
+              text_is = is.told.text_is;
+              has = has_middle is.told.query is.told.lines (verdict_lines (length is.sites) is.demanded) line.0 (found.2.0, line.1);
+            },
+          ),
+        ),
+      )
+
+  alias_covered : (asked : Alias) → IsAliasReply p asked Done lines → CoversAllRuns p (alias asked) old new
+  alias_covered asked (inl x) a b places = absurd (places_there p asked.method asked.index asked.first asked.second a b places x.0 x.1)
+  alias_covered asked (inr (m, n, here, inl over)) a b places = absurd (let no : Done ≡ OverBudget asked.budget = over.1.0 in cc)
+  alias_covered asked (inr (m, n, here, inr x)) a b places =
+      let same = places_one p asked.method asked.index asked.first asked.second m n a b here places in
+      let left = subst (λ (m : Node). AreAliased p asked.budget m n lines) same.0 x.0 in
+      nodes_covered asked.budget a b (subst (λ (n : Node). AreAliased p asked.budget a n lines) same.1 left)
+
+  pub linked_covered : (entry : List ℕ) (q : Question) → IsLinkedReply p entry q Done lines → CoversAllRuns p q old new
+  linked_covered entry (points_to asked) reply = place_covered asked reply
+  linked_covered entry (alias asked) reply = alias_covered asked reply
+  linked_covered entry (run asked) reply = tt
+  linked_covered entry (demo boxes) reply = tt
+
+module _ (r : Request) (bytes : List ℕ) (q : Accepted r bytes) where
+  input_read : IsRead q.input
+  input_read = derived_read (source_of r.question bytes) q.spelled.tokens q.input q.spelled.derived
+
+  prelude_read : IsRead q.links.prelude
+  prelude_read = let spelled = q.links.is_prelude.spelled in derived_read _ spelled.tokens q.links.prelude spelled.derived
+
+  well : IsWellLinked q.linked
+  well = links_well q.input q.links.prelude r.entry q.linked input_read prelude_read q.links.is_prelude.nine q.links.links
+
+  covered : IsCovered q.linked
+  covered = links_covered q.input q.links.prelude r.entry q.linked input_read prelude_read q.links.is_prelude.nine q.links.links
+
+  module _ (s : Status) (lines : List (List ℕ)) where
+    abbrev Reached : LinkedProgram → Type 0
+    Reached p = IsLinkedReply p r.entry r.question s lines
+
+    by_joined : IsJoinedReply r q.input q.links.prelude s lines → Reached q.linked
+    by_joined (inl a) = absurd (not_refused q.input q.links.prelude r.entry q.linked a.0 q.links.links a.1)
+    by_joined (inr a) = subst Reached (link_one q.input q.links.prelude r.entry a.0 q.linked a.1 q.links.links) a.2
+
+    by_program : IsProgramReply r q.input s lines → Reached q.linked
+    by_program (inl a) = absurd (a.0 q.links.prelude q.links.is_prelude)
+    by_program (inr a) =
+        by_joined (subst (λ (p : Program). IsJoinedReply r q.input p s lines) (prelude_one a.0 q.links.prelude a.1 q.links.is_prelude) a.2)
+
+    by_text : IsTextReply r (source_of r.question bytes) s lines → Reached q.linked
+    by_text (inl a) = absurd (spelled_read (source_of r.question bytes) q.input s q.spelled a.0)
+    by_text (inr a) = by_program (subst (λ (p : Program). IsProgramReply r p s lines) (spells_one (source_of r.question bytes) a.0 q.input a.1 q.spelled) a.2)
+
+    -- a reply to the bytes is one about the linked program
+    reaches : IsReplyTo r bytes s lines → Reached q.linked
+    reaches (inl a) = let long = a.0 in let short = q.short in absurd (omega (arith, long, short))
+    reaches (inr a) = by_text a.1
+
+    -- what can be answered is
+    pub enough : IsReplyTo r bytes s lines → HasAnswer q.linked r.question → s ≡ Done
+    enough reply has = linked_enough q.linked s lines r.entry r.question has (reaches reply)
+
+  -- what is done covers each run
+  pub covers : (old new : Option (List ℕ)) (lines : List (List ℕ)) → Appends old new (text_of lines) → IsReplyTo r bytes Done lines
+      → CoversAllRuns q.linked r.question old new
+  covers old new lines wrote reply = linked_covered q.linked well covered old new lines wrote r.entry r.question (reaches Done lines reply)

@@ -1,0 +1,47 @@
+use Rattle.std.proofs.Common.{◌≡◌, map, string_bytes, refl, sym, ◌∙◌, inl}
+use Rattle.boom_words.specs.Commands.{request_of}
+use Rattle.boom_words.specs.Requests.{IsRequest, NoRequest, Request}
+use Rattle.boom_top.specs.Replies.{IsReply}
+use Rattle.boom_top.specs.declared.status.Status.TheVariants as status
+use Rattle.boom_top.proofs.Replied.{told_one}
+use Rattle.boom_top.proofs.Sent.{IfSome-any}
+use Rattle.boom_top.proofs.top.words_reply.Given as given
+use Rattle.boom_top.proofs.top.words_reply.Goals as goal
+use Rattle.boom_top.proofs.top.words_reply.Goals.{In-None, In-Some}
+
+requested : (g : given.Over) (c : In-Some g) → IsRequest (map string_bytes c.args.words.now) (request_of c.in-Some.command)
+requested g c = rw c.in-Some.is at c.in_ok-command.ensures.some
+
+only : (g : given.Over) (c : In-Some g) (r : Request) → IsRequest (map string_bytes c.args.words.now) r → request_of c.in-Some.command ≡ r
+only g c r h = rw c.in-Some.is at (c.in_ok-command.ensures.only r h)
+
+none : (g : given.Over) (c : In-None g) → NoRequest (map string_bytes c.args.words.now)
+none g c r h = rw c.in-None.is at (c.in_ok-command.ensures.only r h)
+
+pub returns-in-Some-clause-one : goal.returns-in-Some-clause-one
+returns-in-Some-clause-one g c' =
+    let c = (goal.at.returns-in-Some-clause-one g c').In-Some in
+    λ ok a b x y. sym (only g c a x) ∙ only g c b y
+
+pub returns-in-Some-clause-no_words : goal.returns-in-Some-clause-no_words
+returns-in-Some-clause-no_words g c = λ no. absurd (no _ (requested g (goal.at.returns-in-Some-clause-no_words g c).In-Some))
+
+pub returns-in-Some-clause-unread : goal.returns-in-Some-clause-unread
+returns-in-Some-clause-unread g c = λ nothing. c.command_reply.ensures.unread (nothing _ (requested g (goal.at.returns-in-Some-clause-unread g c).In-Some))
+
+pub returns-in_ok-refused-in-None-clause-reply : goal.returns-in_ok-refused-in-None-clause-reply
+returns-in_ok-refused-in-None-clause-reply g c =
+    let no = none g (goal.at.returns-in_ok-refused-in-None-clause-reply g c).In-None in
+    IfSome-any _ _ (λ bytes.
+    told_one (IsReply (map string_bytes c.args.words.now) bytes) c.in_ok-refused-in-None.field-0 status.Usage c.in_ok-refused-in-None.ensures
+    (inl (no, (refl, refl))))
+
+pub returns-in_ok-refused-in-None-clause-one : goal.returns-in_ok-refused-in-None-clause-one
+returns-in_ok-refused-in-None-clause-one g c =
+    let no = none g (goal.at.returns-in_ok-refused-in-None-clause-one g c).In-None in
+    λ ok a b x y. absurd (no a x)
+
+pub returns-in_ok-refused-in-None-clause-usage : goal.returns-in_ok-refused-in-None-clause-usage
+returns-in_ok-refused-in-None-clause-usage g c =
+    let no = none g (goal.at.returns-in_ok-refused-in-None-clause-usage g c).In-None in
+    λ usage. no

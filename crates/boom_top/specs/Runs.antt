@@ -1,0 +1,77 @@
+-- What a reply says of the runs of the machine, and when a request is answered.
+use Rattle.std.specs.Prelude.{◌≡◌, ℕ, List, [], ◌∷◌, Some, codes, slice_get}
+use Rattle.std.specs.declared.option.Option.{Option}
+use Rattle.std.specs.Io.KnownBytes.{Appends}
+use Rattle.jim_ast.specs.Lists.{Has}
+use Rattle.link_rules.specs.Linked.{LinkedProgram}
+use Rattle.spds_rules.specs.declared.node.Node.{Node}
+use Rattle.spds_rules.specs.declared.node.Var.TheVariants.{Local}
+use Rattle.spds_rules.specs.Nodes.{at}
+use Rattle.step_rules.specs.Runs.{Run}
+use Rattle.step_rules.specs.States.{Frame, HeapObject, State, place_of}
+use Rattle.run_sound.specs.Simulated.{Holds}
+use Rattle.query_core.specs.Answers.{IsAffordable}
+use Rattle.query_core.specs.Places.{ArePlacesOf, IsPlaceOf}
+use Rattle.report_text.specs.Aliases.{IsSharedLine}
+use Rattle.report_text.specs.Answers.{IsSiteLine}
+use Rattle.report_text.specs.Lines.{text_of}
+use Rattle.boom_words.specs.Requests.{PointsTo, Question, Request, IsRequest, alias, demo, points_to, run}
+use Rattle.boom_top.specs.Demo.{demo_asked}
+use Rattle.boom_top.specs.Queries.{Accepted, IsDemo}
+
+-- one of the lines of a text
+pub record HasLine (text line : List ℕ) : Type 0 where
+  pub lines : List (List ℕ)
+  pub text_is : text ≡ text_of lines
+  pub has : Has lines line
+
+-- a text with this line was written
+abbrev pub Prints : Option (List ℕ) → Option (List ℕ) → List ℕ → Type 0
+Prints before now line = (text : List ℕ) × Appends before now text × HasLine text line
+
+-- In each run, of any length: where a frame, the top one or one that waits, stands at the node's place and its local holds an object, the line of the
+-- object's site is among those that were written.
+abbrev pub PrintsAllRuns : LinkedProgram → Node → Option (List ℕ) → Option (List ℕ) → Type 0
+PrintsAllRuns p n old new = (count : ℕ) (s : State) (number : ℕ) (frame : Frame) (x o : ℕ) → Run p count s → Holds s number frame x o
+    → n ≡ at (place_of frame) (Local x)
+    → (object : HeapObject) × (slice_get s.heap o ≡ Some object) × (line : List ℕ) × IsSiteLine p object.site line × Prints old new line
+
+-- In each run, of any length: where a frame, the top one or one that waits, stands at the nodes' place and both its locals hold one object, the line that
+-- says that they share the object's site is among those that were written, and so is that which says that they are aliases.
+abbrev pub PrintsAllAliases : LinkedProgram → Node → Node → Option (List ℕ) → Option (List ℕ) → Type 0
+PrintsAllAliases p a b old new = (count : ℕ) (s : State) (number : ℕ) (frame : Frame) (x y o : ℕ) → Run p count s → Holds s number frame x o
+    → Holds s number frame y o → a ≡ at (place_of frame) (Local x) → b ≡ at (place_of frame) (Local y)
+    → Prints old new (codes "aliases yes")
+    × ((object : HeapObject) × (slice_get s.heap o ≡ Some object) × (line : List ℕ) × IsSharedLine p object.site line × Prints old new line)
+
+-- The headline of the top call, by what was asked: the site of each object that a run brings to the local is printed, and locals that hold one object
+-- are printed as aliases. What is said of a run is exact, and what is said of the demo tells no sites.
+abbrev pub CoversAllRuns : LinkedProgram → Question → Option (List ℕ) → Option (List ℕ) → Type 0
+CoversAllRuns p (points_to asked) old new = (n : Node) → IsPlaceOf p asked.method asked.index asked.local n → PrintsAllRuns p n old new
+CoversAllRuns p (alias asked) old new = (a b : Node) → ArePlacesOf p asked.method asked.index asked.first asked.second a b
+    → PrintsAllAliases p a b old new
+CoversAllRuns p (run asked) old new = Unit {0}
+CoversAllRuns p (demo boxes) old new = Unit {0}
+
+-- the place is there, and the budget is at least the size of its demand
+abbrev pub IsWithin : LinkedProgram → PointsTo → Type 0
+IsWithin p asked = (n : Node) × IsPlaceOf p asked.method asked.index asked.local n × IsAffordable p (n ∷ []) asked.budget
+
+-- what is asked of a linked program can be answered
+abbrev pub HasAnswer : LinkedProgram → Question → Type 0
+HasAnswer p (points_to asked) = IsWithin p asked
+HasAnswer p (alias asked) = (a : Node) × (b : Node) × ArePlacesOf p asked.method asked.index asked.first asked.second a b
+    × IsAffordable p (a ∷ b ∷ []) asked.budget
+HasAnswer p (run asked) = Unit {0}
+HasAnswer p (demo boxes) = IsWithin p (demo_asked boxes)
+
+-- the words ask for what can be answered, of a program that the bytes spell and that is linked
+pub record IsAnswerable (words : List (List ℕ)) (bytes : List ℕ) : Type 0 where
+  pub request : Request
+  pub requested : IsRequest words request
+  pub accepted : Accepted request bytes
+  pub answer : HasAnswer accepted.linked request.question
+
+-- the words ask nothing that is read: they are no command, or the demo's
+abbrev pub ReadsNothing : List (List ℕ) → Type 0
+ReadsNothing words = (r : Request) → IsRequest words r → IsDemo r.question

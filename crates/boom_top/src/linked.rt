@@ -1,0 +1,117 @@
+//! The reply to a command about a program that is read: it is linked with the stand-ins for Java's own classes.
+ghost use Rattle.std.specs.Prelude.{◌≡◌, ◌≢◌, ◌≤◌, length, IfOk};
+ghost use Rattle.jim_parse.specs.Derives.{Spells};
+ghost use Rattle.jim_prelude.specs.declared.TheConstants.{PRELUDE as text_of_prelude};
+ghost use Rattle.link_rules.specs.Conditions.{DeclaresNine, IsRead};
+ghost use Rattle.boom_words.specs.Commands.{question_of, request_of};
+ghost use Rattle.boom_top.specs.Parts.{Makes, Tells};
+ghost use Rattle.boom_top.specs.Queries.{IsFit, limit};
+ghost use Rattle.boom_top.specs.Replies.{IsJoinedReply, IsProgramReply, IsSourceReply, IsTextReply};
+ghost use Rattle.boom_top.specs.declared.status.Status.TheVariants as status;
+
+use super::query::{Reply, linked_reply, refused};
+use super::reading::{LIMIT, Unread, read};
+use super::status::Status;
+use boom_words::Command;
+use jim_ast::{NoMemory, Program};
+use jim_link::{declares_named, link};
+use jim_prelude::{PRELUDE, prelude_is_whole};
+use link_rules::LinkError;
+use read_laws::spelled_programs_are_read;
+use std::alloc::{AllocError, Global};
+
+// The refusal of a program that isn't linked.
+fn not_linked(alloc: Global, error: LinkError) -> Result<Reply, NoMemory>
+    ensures tells { IfOk result (Tells (status.NotLinked error)) }
+    ensures refused { IfOk result (λ reply. error ≢ LinkError.NoMemory) }
+{
+    if matches!(&error, LinkError::NoMemory) {
+        return Err(AllocError);
+    }
+    refused(alloc, Status::NotLinked(error))
+}
+
+// The reply to a command about a program and the stand-ins.
+fn joined_reply(
+    alloc: Global,
+    command: &Command<'_>,
+    input: &Program,
+    prelude: &Program,
+) -> Result<Reply, NoMemory>
+    requires input { IsRead input.now }
+    requires prelude { IsRead prelude.now }
+    requires nine { DeclaresNine prelude.now }
+    requires fit { IsFit (question_of command.now.query) }
+    ensures { IfOk result (Makes (IsJoinedReply (request_of command.now) input.now prelude.now)) }
+{
+    match link(alloc, input, prelude, command.entry) {
+        Ok(linked) => linked_reply(alloc, command, &linked),
+        Err(error) => not_linked(alloc, error),
+    }
+}
+
+// The same, where the stand-ins may lack some of the classes that linking needs.
+fn checked_reply(
+    alloc: Global,
+    command: &Command<'_>,
+    input: &Program,
+    prelude: &Program,
+) -> Result<Reply, NoMemory>
+    requires input { IsRead input.now }
+    requires prelude { Spells text_of_prelude.now prelude.now }
+    requires fit { IsFit (question_of command.now.query) }
+    ensures { IfOk result (Makes (IsProgramReply (request_of command.now) input.now)) }
+{
+    spelled_programs_are_read();
+    if declares_named(prelude) {
+        joined_reply(alloc, command, input, prelude)
+    } else {
+        refused(alloc, Status::BadPrelude)
+    }
+}
+
+// The reply to a command about a program.
+fn program_reply(alloc: Global, command: &Command<'_>, input: &Program) -> Result<Reply, NoMemory>
+    requires input { IsRead input.now }
+    requires fit { IsFit (question_of command.now.query) }
+    ensures { IfOk result (Makes (IsProgramReply (request_of command.now) input.now)) }
+{
+    prelude_is_whole();
+    match read(alloc, PRELUDE.as_bytes()) {
+        Ok(prelude) => checked_reply(alloc, command, input, &prelude),
+        Err(Unread::NoMemory) => Err(AllocError),
+        Err(Unread::NotText { .. }) => refused(alloc, Status::BadPrelude),
+        Err(Unread::NotJimple { .. }) => refused(alloc, Status::BadPrelude),
+    }
+}
+
+// The reply to a command about a text within the limit.
+fn short_reply(alloc: Global, command: &Command<'_>, bytes: &[u8]) -> Result<Reply, NoMemory>
+    requires short { length bytes.now ≤ limit }
+    requires fit { IsFit (question_of command.now.query) }
+    ensures { IfOk result (Makes (IsTextReply (request_of command.now) bytes.now)) }
+{
+    spelled_programs_are_read();
+    match read(alloc, bytes) {
+        Ok(input) => program_reply(alloc, command, &input),
+        Err(Unread::NotText { at }) => refused(alloc, Status::NotText { at }),
+        Err(Unread::NotJimple { at }) => refused(alloc, Status::NotJimple { at }),
+        Err(Unread::NoMemory) => Err(AllocError),
+    }
+}
+
+/// The reply to a command about a text.
+pub(crate) fn text_reply(
+    alloc: Global,
+    command: &Command<'_>,
+    bytes: &[u8],
+) -> Result<Reply, NoMemory>
+    requires { IsFit (question_of command.now.query) }
+    ensures { IfOk result (Makes (IsSourceReply (request_of command.now) bytes.now)) }
+{
+    if bytes.len() > LIMIT {
+        refused(alloc, Status::TooLong)
+    } else {
+        short_reply(alloc, command, bytes)
+    }
+}

@@ -1,0 +1,253 @@
+//! Questions about small programs, with the replies found by hand.
+//!
+//! A row has the words of a command, with `;` between them, and behind ` | ` the lines of the reply, with `~` behind each. `@` stands for the text of `main`
+//! of the class `Main`. The status of a reply that is no refusal is 0.
+use super::boomer;
+use boom_io::{MemSink, MemSource};
+use std::alloc::{AllocError, Global};
+use std::process::Abort;
+use std::test::Fail;
+
+const METHOD: &str = "<Main: void main(java.lang.String[])>";
+
+// Two callers of one method: what one passes isn't given to the other.
+const CALLS: (&str, &str) = (
+    "class A { } class B { } class Main {
+static java.lang.Object id(java.lang.Object) { java.lang.Object p; p := @parameter0: java.lang.Object; return p; }
+static void main(java.lang.String[]) { java.lang.Object a, b, x, y; a = new A; b = new B;
+x = staticinvoke <Main: java.lang.Object id(java.lang.Object)>(a);
+y = staticinvoke <Main: java.lang.Object id(java.lang.Object)>(b); return; } }",
+    "points-to;Main;@;4;x;10 | points-to @ 4 x~site @ 0 new A~sites 1~demanded 10~
+points-to;Main;@;4;y;9 | points-to @ 4 y~site @ 1 new B~sites 1~demanded 9~
+points-to;Main;@;4;x;9 | refused OverBudget 9~
+alias;Main;@;4;a;x;100 | alias @ 4 a x~shared @ 0 new A~aliases yes~demanded 12~
+alias;Main;@;4;x;y;100 | alias @ 4 x y~aliases no~demanded 11~",
+);
+
+// Two boxes that are filled and read by the same methods.
+const BOXES: (&str, &str) = (
+    "class A { } class B { } class Box { java.lang.Object v;
+void set(java.lang.Object) { Box r; java.lang.Object p; r := @this: Box; p := @parameter0: java.lang.Object; r.<Box: java.lang.Object v> = p; return; }
+java.lang.Object get() { Box r; java.lang.Object q; r := @this: Box; q = r.<Box: java.lang.Object v>; return q; } }
+class Main { static void main(java.lang.String[]) { Box a, b; java.lang.Object o, p, x, y; a = new Box; b = new Box; o = new A; p = new B;
+virtualinvoke a.<Box: void set(java.lang.Object)>(o); virtualinvoke b.<Box: void set(java.lang.Object)>(p);
+x = virtualinvoke a.<Box: java.lang.Object get()>(); y = virtualinvoke b.<Box: java.lang.Object get()>(); return; } }",
+    "points-to;Main;@;8;x;100 | points-to @ 8 x~site @ 2 new A~sites 1~demanded 31~
+points-to;Main;@;8;x;30 | refused OverBudget 30~
+points-to;Main;@;8;y;100 | points-to @ 8 y~site @ 3 new B~sites 1~demanded 30~",
+);
+
+// A box that is filled through another name.
+const NAMES: (&str, &str) = (
+    "class Box { java.lang.Object v; } class A { } class Main {
+static void put(Box) { Box p, r; A o; p := @parameter0: Box; r = p; p = new Box; o = new A; r.<Box: java.lang.Object v> = o; return; }
+static void main(java.lang.String[]) { Box a, b; java.lang.Object x; a = new Box; b = a; staticinvoke <Main: void put(Box)>(a);
+x = b.<Box: java.lang.Object v>; return; } }",
+    "points-to;Main;@;4;x;100 | points-to @ 4 x~site <Main: void put(Box)> 3 new A~sites 1~demanded 13~",
+);
+
+// Fields of fields, and a static field.
+const STATICS: (&str, &str) = (
+    "class Box { Box n; java.lang.Object v; } class A { } class Main { static Box s;
+static void main(java.lang.String[]) { Box a, b, c, d; java.lang.Object o, x; a = new Box; b = new Box; o = new A; a.<Box: Box n> = b;
+b.<Box: java.lang.Object v> = o; <Main: Box s> = a; c = <Main: Box s>; d = c.<Box: Box n>; x = d.<Box: java.lang.Object v>; return; } }",
+    "points-to;Main;@;9;x;100 | points-to @ 9 x~site @ 2 new A~sites 1~demanded 16~",
+);
+
+// A recursion of any depth, and a store of null.
+const RECURSION: (&str, &str) = (
+    "class N { N next; } class Main {
+static N make(N) { N p, q; p := @parameter0: N; q = new N; q.<N: N next> = p; if 0 == 1 goto label1; q = staticinvoke <Main: N make(N)>(q);
+label1: return q; }
+static void main(java.lang.String[]) { N x; x = staticinvoke <Main: N make(N)>(null); return; } }",
+    "points-to;Main;@;1;x;100 | points-to @ 1 x~site <Main: N make(N)> 1 new N~sites 1~demanded 5~",
+);
+
+// An exception that passes through a method, and those that a store and a throw raise.
+const THROWN: (&str, &str) = (
+    "class A { } class E extends java.lang.Exception { java.lang.Object v; } class Main {
+static void inner() { E e; A a; e = new E; a = new A; e.<E: java.lang.Object v> = a; throw e; }
+static void outer() { staticinvoke <Main: void inner()>(); return; }
+static void main(java.lang.String[]) { java.lang.Throwable t; java.lang.Object x; label1: staticinvoke <Main: void outer()>(); label2: return;
+label3: t := @caughtexception; x = t.<E: java.lang.Object v>; return; catch java.lang.Throwable from label1 to label2 with label3; } }",
+    "points-to;Main;@;4;x;100 | points-to @ 4 x~site <Main: void inner()> 1 new A~sites 1~demanded 15~
+points-to;Main;@;3;t;100 | points-to @ 3 t~site <Main: void inner()> 0 new E~site <Main: void inner()> 2 raise java.lang.NullPointerException~site <Main: void inner()> 3 raise java.lang.NullPointerException~sites 3~demanded 12~",
+);
+
+// A call on null: a query, and two runs.
+const NULL: (&str, &str) = (
+    "class Main { static void main(java.lang.String[]) { java.lang.Object a; java.lang.Throwable t; label1: a = null;
+virtualinvoke a.<java.lang.Object: int hashCode()>(); label2: return; label3: t := @caughtexception; return;
+catch java.lang.NullPointerException from label1 to label2 with label3; } }",
+    "points-to;Main;@;4;t;100 | points-to @ 4 t~site @ 1 raise java.lang.NullPointerException~sites 1~demanded 4~
+run;Main;8;- | run Main~steps 8~end running~at @ 4~local a null~local t @ 1 raise java.lang.NullPointerException~
+run;Main;100;- | run Main~steps 10~end ended~",
+);
+
+// Texts, which are one object wherever they stand.
+const TEXTS: (&str, &str) = (
+    "class Main { static java.lang.Object f() { return \"k\"; }
+static void main(java.lang.String[]) { java.lang.Object x, y, z; x = \"k\"; y = staticinvoke <Main: java.lang.Object f()>(); z = \"j\"; return; } }",
+    "alias;Main;@;3;x;y;100 | alias @ 3 x y~shared text \"k\"~aliases yes~demanded 7~
+alias;Main;@;3;x;y;6 | refused OverBudget 6~
+alias;Main;@;3;x;z;100 | alias @ 3 x z~aliases no~demanded 6~
+alias;Main;@;3;x;w;100 | refused NoSuchPlace second~
+alias;Main;@;3;w;x;100 | refused NoSuchPlace local~
+alias;Main;@;3;w;v;100 | refused NoSuchPlace local~
+alias;Main;@;4;w;v;100 | refused NoSuchPlace index~
+alias;Main;main;4;w;v;100 | refused NoSuchPlace method~",
+);
+
+// A call on an interface: by class hierarchy analysis it may run the methods of both classes that implement it, and of no other.
+const DISPATCH: (&str, &str) = (
+    "interface I { java.lang.Object m(); } class A { } class B { } class Z { java.lang.Object m() { java.lang.Object o; o = new A; return o; } }
+class C extends Z implements I { } class D implements I { java.lang.Object m() { java.lang.Object o; o = new B; return o; } }
+class U { java.lang.Object m() { return null; } } class Main { static void main(java.lang.String[]) { I r; java.lang.Object x; r = new C;
+x = interfaceinvoke r.<I: java.lang.Object m()>(); return; } }",
+    "points-to;Main;@;2;x;100 | points-to @ 2 x~site <Z: java.lang.Object m()> 0 new A~site <D: java.lang.Object m()> 0 new B~sites 2~demanded 5~
+points-to;Main;<U: java.lang.Object m()>;0;o;100 | refused NoSuchPlace method~",
+);
+
+// A class as a compiler lays it out, over the stand-ins for Java's own classes.
+const HELLO: (&str, &str) = (
+    "public class Main extends java.lang.Object
+{
+    public void <init>()
+    {
+        Main r0;
+        r0 := @this: Main;
+        specialinvoke r0.<java.lang.Object: void <init>()>();
+        return;
+    }
+    public static void main(java.lang.String[])
+    {
+        java.lang.String[] r0;
+        java.io.PrintStream $r1;
+        java.lang.StringBuilder $r2, $r3;
+        java.lang.String $r4;
+        r0 := @parameter0: java.lang.String[];
+        $r1 = <java.lang.System: java.io.PrintStream out>;
+        $r2 = new java.lang.StringBuilder;
+        specialinvoke $r2.<java.lang.StringBuilder: void <init>()>();
+        $r3 = virtualinvoke $r2.<java.lang.StringBuilder: java.lang.StringBuilder append(java.lang.String)>(\"a\\n\");
+        $r4 = virtualinvoke $r3.<java.lang.StringBuilder: java.lang.String toString()>();
+        virtualinvoke $r1.<java.io.PrintStream: void println(java.lang.String)>($r4);
+        return;
+    }
+}
+",
+    "points-to;Main;@;6;$r1;100 | points-to @ 6 $r1~site <java.lang.System: void <clinit>()> 0 new java.io.PrintStream~sites 1~demanded 7~",
+);
+
+// Each kind of value, and the exceptions of a number that is divided and of an array that is stored into.
+const RUNS: (&str, &str) = (
+    "class A { } class Main { static void main(java.lang.String[]) { A x; int n; java.lang.Object t, c, o; A[] y; A unset; x = new A; n = 3 / 2; t = \"a b\";
+c = class \"LA;\"; y = newarray (A)[1]; o = null; if n == 0 goto bad; return; bad: o = unset; return; } }",
+    "run;Main;0;- | run Main~steps 0~end running~at root 0~
+run;Main;3;- | run Main~steps 3~end running~at root 3~local text root 0 new java.lang.String~local args root 1 new java.lang.String[]~
+run;Main;10;- | run Main~steps 10~end running~at @ 6~local x @ 0 new A~local n number~local t text \"a b\"~local c class \"LA;\"~local o null~local y @ 4 new A[]~
+run;Main;6;007 | run Main~steps 6~end running~at @ 1 raised @ 1 raise java.lang.ArithmeticException~local x @ 0 new A~
+run;Main;13;0000 | run Main~steps 13~end ended~
+run;Main;1000000;- | run Main~steps 13~end ended~
+run;Main;12;000019 | run Main~steps 12~end ill-typed~
+run;Main;4;03 | run Main~steps 4~end uncaught root 2 raise java.lang.ArrayStoreException~
+run;Main;50;001 | run Main~steps 8~end uncaught @ 1 raise java.lang.ArithmeticException~
+run;Other;50;001 | refused NotLinked NoEntry~",
+);
+
+// The demo, which reads nothing: no program stands in these bytes.
+const DEMO: (&str, &str) = (
+    "#",
+    "demo;40 | demo 40~statements 168~sites 1~demanded 250~
+demo;40 | demo 40~statements 168~sites 1~demanded 250~
+demo;1 | demo 1~statements 12~sites 1~demanded 16~
+demo;0 | refused Usage~
+demo;401 | refused Usage~
+demo;040 | refused Usage~
+demo;40;1 | refused Usage~",
+);
+
+// The words of a row.
+fn words(alloc: Global, row: &str) -> Result<Vec<String>, AllocError> {
+    let mut words = Vec::new(alloc);
+    for word in row.split(';') {
+        let word = if word == "@" { METHOD } else { word };
+        words.push(String::from_str(alloc, word)?)?;
+    }
+    Ok(words)
+}
+
+// The reply of a row.
+fn reply(alloc: Global, row: &str) -> Result<String, AllocError> {
+    let mut text = String::new(alloc);
+    for c in row.chars() {
+        match c {
+            '@' => text.push_str(METHOD)?,
+            '~' => text.push('\n')?,
+            _ => text.push(c)?,
+        }
+    }
+    Ok(text)
+}
+
+// Whether a command over a program gets the reply.
+fn check(
+    rt: &(impl Abort + AllocGlobal),
+    program: &str,
+    asked: &str,
+    told: &str,
+) -> Result<(), Fail> {
+    let alloc = rt.alloc();
+    let words = words(alloc, asked)?;
+    let bytes = Vec::from_slice(alloc, program.as_bytes())?;
+    let mut source = MemSource::new(bytes, Vec::new(alloc), 64);
+    let mut sink = MemSink::new(alloc, 1000, Vec::new(alloc), 64)?;
+    let status = boomer(alloc, &words, &mut source, &mut sink);
+    let reply = reply(alloc, told)?;
+    assert_eq!(rt; sink.bytes(), reply.as_bytes(), "{asked}");
+    assert_eq!(rt;
+        status.number() == 0,
+        !told.starts_with("refused"),
+        "{asked}"
+    );
+    Ok(())
+}
+
+// Whether each row of a program gets its reply.
+fn check_rows(rt: &(impl Abort + AllocGlobal), rows: (&str, &str)) -> Result<(), Fail> {
+    let (program, rows) = rows;
+    for row in rows.lines() {
+        let (asked, told) = row.split_once(" | ").expect(rt, "a row has two parts");
+        check(rt, program, asked, told)?;
+    }
+    Ok(())
+}
+
+#[test]
+fn answers_calls_and_fields(rt: HostRuntime) -> Result<(), Fail> {
+    for rows in [CALLS, BOXES, NAMES, STATICS, RECURSION, DISPATCH, HELLO] {
+        check_rows(&rt, rows)?;
+    }
+    Ok(())
+}
+
+#[test]
+fn answers_exceptions(rt: HostRuntime) -> Result<(), Fail> {
+    check_rows(&rt, THROWN)
+}
+
+#[test]
+fn answers_aliases(rt: HostRuntime) -> Result<(), Fail> {
+    check_rows(&rt, TEXTS)
+}
+
+#[test]
+fn runs(rt: HostRuntime) -> Result<(), Fail> {
+    check_rows(&rt, NULL)?;
+    check_rows(&rt, RUNS)
+}
+
+#[test]
+fn shows_the_demo(rt: HostRuntime) -> Result<(), Fail> {
+    check_rows(&rt, DEMO)
+}

@@ -1,0 +1,83 @@
+-- What the words of a command line ask for.
+use Rattle.std.specs.Prelude.{◌≡◌, ℕ, ◌^◌, ◌<◌, ◌≤◌, ◌⊎◌, List, [], ◌∷◌, All, codes, length}
+use Rattle.std.specs.Fmt.{decimal}
+use Rattle.boom_words.specs.Named.{IsDigit}
+
+-- what may a local hold: a method, an index, a local of it, and how many nodes may be demanded
+pub record PointsTo : Type 0 where
+  pub method : List ℕ
+  pub index : ℕ
+  pub local : List ℕ
+  pub budget : ℕ
+
+-- what may two locals of one method both hold: the method, an index, the locals, and how many nodes may be demanded
+pub record Alias : Type 0 where
+  pub method : List ℕ
+  pub index : ℕ
+  pub first : List ℕ
+  pub second : List ℕ
+  pub budget : ℕ
+
+-- how a run stands after so many steps, of which these characters name the choices
+pub record RunFor : Type 0 where
+  pub steps : ℕ
+  pub choices : List ℕ
+
+-- what is asked of a linked program. The demo, of so many boxes, is asked of a program of its own
+pub data Question : Type 0 where
+  points_to : PointsTo → Question
+  alias : Alias → Question
+  run : RunFor → Question
+  demo : ℕ → Question
+
+-- a question, and the class from which the program is linked
+pub record Request : Type 0 where
+  pub entry : List ℕ
+  pub question : Question
+
+-- the words of a `points-to` command, by position: the two numbers are decimal digits without a leading zero, below 2^32
+pub record IsPointsTo (words : List (List ℕ)) (entry : List ℕ) (asked : PointsTo) : Type 0 where
+  pub in_order : words ≡ codes "points-to" ∷ entry ∷ asked.method ∷ decimal asked.index ∷ asked.local ∷ decimal asked.budget ∷ []
+  pub small_index : asked.index < 2 ^ 32
+  pub small_budget : asked.budget < 2 ^ 32
+
+-- the words of an `alias` command, by position: the two numbers are as those of a `points-to` command
+pub record IsAlias (words : List (List ℕ)) (entry : List ℕ) (asked : Alias) : Type 0 where
+  pub in_order : words
+      ≡ codes "alias" ∷ entry ∷ asked.method ∷ decimal asked.index ∷ asked.first ∷ asked.second ∷ decimal asked.budget ∷ []
+  pub small_index : asked.index < 2 ^ 32
+  pub small_budget : asked.budget < 2 ^ 32
+
+-- the word for choices: a dash for none, or decimal digits, at most a thousand
+abbrev pub AreChoices : List ℕ → List ℕ → Type 0
+AreChoices word choices = ((word ≡ codes "-") × (choices ≡ []))
+    ⊎ ((word ≡ choices) × (0 < length choices) × (length choices ≤ 1000) × All IsDigit choices)
+
+-- the words of a `run` command, by position: the number of steps is decimal digits without a leading zero, at most a million
+pub record IsRun (words : List (List ℕ)) (entry : List ℕ) (asked : RunFor) : Type 0 where
+  pub word : List ℕ
+  pub in_order : words ≡ codes "run" ∷ entry ∷ decimal asked.steps ∷ word ∷ []
+  pub few_steps : asked.steps ≤ 1000000
+  pub are_choices : AreChoices word asked.choices
+
+-- the words of a `demo` command: the number of boxes is decimal digits without a leading zero, from 1 to 400. Its program begins in its class Demo
+pub record IsDemo (words : List (List ℕ)) (entry : List ℕ) (boxes : ℕ) : Type 0 where
+  pub in_order : words ≡ codes "demo" ∷ decimal boxes ∷ []
+  pub some : 0 < boxes
+  pub few : boxes ≤ 400
+  pub is_entry : entry ≡ codes "Demo"
+
+-- the words of a command
+abbrev pub IsQuestion : List (List ℕ) → List ℕ → Question → Type 0
+IsQuestion words entry (points_to asked) = IsPointsTo words entry asked
+IsQuestion words entry (alias asked) = IsAlias words entry asked
+IsQuestion words entry (run asked) = IsRun words entry asked
+IsQuestion words entry (demo boxes) = IsDemo words entry boxes
+
+-- the words are this request
+abbrev pub IsRequest : List (List ℕ) → Request → Type 0
+IsRequest words r = IsQuestion words r.entry r.question
+
+-- the words are no command
+abbrev pub NoRequest : List (List ℕ) → Type 0
+NoRequest words = (r : Request) → ¬ IsRequest words r

@@ -1,0 +1,8 @@
+//! The words of a command line: which command they are, and what it asks for.
+#![tactic(auto)]
+
+mod request;
+#[cfg(test)]
+mod tests;
+
+pub use request::{Asked, AskedBoth, Command, Query, Running, read_words};
