@@ -1,7 +1,13 @@
 #!/usr/bin/env bash
 # How long a query takes on straight-line programs of 10,000, 20,000, 40,000 and 80,000 statements, and how that grows. It prints figures, and judges nothing.
+# The program is that of ./boomer, which builds it first; BOOMER names another one.
 set -euo pipefail
-top=$(cd "$(dirname "$0")/.." && pwd)
+top=$(cd "$(dirname "${BASH_SOURCE[0]}")/.." && pwd)
+boomer=${BOOMER:-}
+if [ -z "$boomer" ]; then
+  "$top/boomer" < /dev/null > /dev/null || [ $? -eq 1 ]
+  boomer=$top/crates/boomer/out/boomer
+fi
 folder=$(mktemp -d)
 trap 'rm -rf "$folder"' EXIT
 
@@ -17,7 +23,7 @@ program() {
 seconds() {
   local index=$(($1 - 1))
   TIMEFORMAT=%R
-  { time "$top/boomer" points-to Main '<Main: void main(java.lang.String[])>' "$index" first_of_all 4294967295 < "$folder/program" > "$folder/reply"; } 2>&1
+  { time "$boomer" points-to Main '<Main: void main(java.lang.String[])>' "$index" first_of_all 4294967295 < "$folder/program" > "$folder/reply"; } 2>&1
 }
 
 program 2 > "$folder/program"

@@ -1,0 +1,267 @@
+"""How long the demand of a query takes, how much memory, and how both grow with the size of a program: over a chain of copies, a clique of methods that
+call each other, wide dispatch, a list that is built and read through a field, and objects that wait long to be stored. The first and the last of these
+reach a million nodes.
+
+usage: bench/demand.sh
+
+It builds a small program over the crates below in a temporary folder, which proves them there (some minutes, unless a check on this machine did it
+before), and removes the folder at the end. The time is that of the call of `demand` alone, the program being linked before. So is the memory: by how
+much the most that is resident during the call is above what is resident before it, for each node. It is read from the files of Linux about the process.
+What the reading of the program left free is used again, so that the figure is a little low where the text is long: over copies.
+"""
+import os
+import shutil
+import subprocess
+import sys
+import tempfile
+
+CRATES = [
+    'jim_ast', 'jim_text', 'jim_signs', 'jim_grammar', 'jim_stmts', 'jim_build', 'jim_parse', 'jim_prelude', 'class_tree', 'link_rules', 'link_classes', 'link_bodies',
+    'link_calls', 'link_faults', 'link_reach', 'link_codes', 'link_indexes', 'link_program', 'link_laws', 'jim_link', 'read_laws', 'link_sites', 'spds_rules', 'spds_nodes',
+    'demand_walk', 'demand_set',
+]
+
+USES = ('jim_ast jim_text jim_parse jim_prelude class_tree link_rules link_indexes link_program jim_link read_laws link_sites spds_rules spds_nodes demand_walk demand_set '
+        'indexmap anyhow')
+
+PROGRAM = r'''//! Links a program from standard input with the prelude, and tells how long the demand of the local `x` at the end of `main` takes, and what Linux
+//! says of the process before and after it.
+#![tactic(auto)]
+
+ghost use Rattle.std.specs.Prelude.{IfSome};
+ghost use Rattle.link_rules.specs.Conditions.{IsRead};
+ghost use Rattle.spds_rules.specs.Nodes.{IsNode};
+
+use anyhow::Result;
+use demand_set::{Demand, demand};
+use jim_ast::Program;
+use jim_link::{declares_named, link};
+use jim_parse::parse;
+use jim_prelude::PRELUDE;
+use jim_text::lex;
+use link_program::Linked;
+use link_sites::Place;
+use read_laws::derived_programs_are_read;
+use spds_nodes::is_node;
+use spds_rules::{Node, Var};
+use std::alloc::{AllocError, Global};
+use std::fs;
+use std::io::Read;
+use std::time::Instant;
+
+// The program of a text.
+fn read(alloc: Global, bytes: &[u8]) -> Option<Program>
+    ensures { IfSome result IsRead }
+{
+    derived_programs_are_read();
+    if bytes.len() > 16_777_216 {
+        return None;
+    }
+    let tokens = lex(alloc, bytes).ok()?;
+    parse(alloc, bytes, &tokens).ok()
+}
+
+// The local `x` at the last statement of `main`.
+fn asked(linked: &Linked) -> Option<Node> {
+    let method = linked.find_method("<Main: void main(java.lang.String[])>")?;
+    if method >= linked.methods() {
+        return None;
+    }
+    let number = linked.find_local(method, "x")?;
+    let index = u32::try_from(linked.code(method).len()).ok()?.checked_sub(1)?;
+    let place = Place {
+        method,
+        index,
+        raised: false,
+    };
+    Some(Node {
+        place,
+        var: Var::Local(number),
+    })
+}
+
+fn sizes(alloc: Global, found: &Demand, took: u64) -> Result<String, AllocError> {
+    let nodes = found.nodes().len();
+    let edges = found.edges().len();
+    let stores = found.stores().len();
+    let sites = found.sites().len();
+    format!(in alloc; "{took} {nodes} {edges} {stores} {sites}")
+}
+
+// How long the demand takes, in microseconds, its sizes, and what is said of the process before and after it. The most memory that was resident counts
+// from just before it on.
+fn told(rt: &HostRuntime, linked: &Linked, node: Node) -> Result<String>
+    requires { IsNode linked.now node }
+{
+    fs::write(rt, "/proc/self/clear_refs", "5")?;
+    let before = fs::read_to_string(rt, "/proc/self/status")?;
+    let start = Instant::now(rt)?;
+    let found = demand(rt.alloc(), linked, &[node], u32::MAX);
+    let took = u64::try_from(start.elapsed(rt)?.as_micros()).unwrap_or(u64::MAX);
+    let after = fs::read_to_string(rt, "/proc/self/status")?;
+    match found {
+        Ok(found) => {
+            let sizes = sizes(rt.alloc(), &found, took)?;
+            Ok(format!(in rt.alloc(); "{sizes}\n{before}{after}")?)
+        }
+        Err(_) => Ok(String::from_str(rt.alloc(), "no demand")?),
+    }
+}
+
+fn measured(rt: &HostRuntime, linked: &Linked) -> Result<String> {
+    match asked(linked) {
+        Some(node) if is_node(linked, node) => told(rt, linked, node),
+        _ => Ok(String::from_str(rt.alloc(), "no such place")?),
+    }
+}
+
+fn linked_with(rt: &HostRuntime, input: &Program, prelude: &Program) -> Result<String>
+    requires input { IsRead input.now }
+    requires prelude { IsRead prelude.now }
+{
+    if !declares_named(prelude) {
+        return Ok(String::from_str(rt.alloc(), "no prelude")?);
+    }
+    match link(rt.alloc(), input, prelude, "Main") {
+        Ok(linked) => measured(rt, &linked),
+        Err(_) => Ok(String::from_str(rt.alloc(), "refused")?),
+    }
+}
+
+fn answer(rt: &HostRuntime, bytes: &[u8]) -> Result<String> {
+    match (read(rt.alloc(), bytes), read(rt.alloc(), PRELUDE.as_bytes())) {
+        (Some(input), Some(prelude)) => linked_with(rt, &input, &prelude),
+        _ => Ok(String::from_str(rt.alloc(), "no program")?),
+    }
+}
+
+fn main(rt: HostRuntime) -> Result<()> {
+    let mut bytes = Vec::new(rt.alloc());
+    rt.stdin().read_to_end(&mut bytes)?;
+    let line = answer(&rt, &bytes)?;
+    println!(rt; "{line}")?;
+    Ok(())
+}
+'''
+
+LINKS = '''use Rattle.demand_speed.proofs.linked_with.Goals as goal
+
+pub link-requires-clause-nine : goal.link-requires-clause-nine
+link-requires-clause-nine c = c.declares_named.ensures.0 c.if-not-declares_named.false
+'''
+
+ASKS = '''use Rattle.demand_walk.proofs.Appended.{Has-one}
+use Rattle.demand_speed.proofs.told.Goals as goal
+
+pub demand-found-requires : goal.demand-found-requires
+demand-found-requires c = record { nodes = λ n has. rw (Has-one _ n has) c.requires }
+'''
+
+OBJECT = 'java.lang.Object'
+
+INIT = '  void <init>() { return; }\n'
+
+
+def main_class(locals, body, fields=''):
+    return f'class Main extends java.lang.Object {{\n{fields}  public static void main(java.lang.String[]) {{\n    {OBJECT} {locals};\n{body}    return;\n  }}\n}}\n'
+
+
+def copies(n):
+    """n copies, one after the other."""
+    return main_class('x, y, z', '    x = null;\n' + '    y = x;\n    z = y;\n    x = z;\n' * (n // 3))
+
+
+def clique(n):
+    """n methods, each of which calls each, itself too, with what it was passed, and gives back what came of it."""
+    def method(i):
+        calls = ''.join(f'    p = staticinvoke <Many: {OBJECT} f{k}({OBJECT})>(p);\n' for k in range(n))
+        return f'  static {OBJECT} f{i}({OBJECT}) {{\n    {OBJECT} p;\n    p := @parameter0: {OBJECT};\n    if 1 > 0 goto end;\n{calls}    end:\n    return p;\n  }}\n'
+    return main_class('x', f'    x = null;\n    x = staticinvoke <Many: {OBJECT} f0({OBJECT})>(x);\n') + 'class Many {\n' + ''.join(method(i) for i in range(n)) + '}\n'
+
+
+def dispatch(n):
+    """n classes below an interface, each of which gives back what it is passed, and n calls of it."""
+    def one(i):
+        return f'class C{i} implements I {{\n{INIT}  {OBJECT} m({OBJECT}) {{\n    {OBJECT} p;\n    p := @parameter0: {OBJECT};\n    return p;\n  }}\n}}\n'
+    made = ''.join(f'    r = new C{i};\n    specialinvoke r.<C{i}: void <init>()>();\n' for i in range(n))
+    calls = f'    x = interfaceinvoke r.<I: {OBJECT} m({OBJECT})>(x);\n' * n
+    return main_class('r, x', '    x = null;\n' + made + calls) + f'interface I {{\n  abstract {OBJECT} m({OBJECT});\n}}\n' + ''.join(one(i) for i in range(n))
+
+
+def cells(n):
+    """A list of n cells that is built and then read to its end."""
+    built = '    c = new Cell;\n    specialinvoke c.<Cell: void <init>()>();\n    c.<Cell: java.lang.Object next> = x;\n    x = c;\n' * n
+    read = '    x = x.<Cell: java.lang.Object next>;\n' * n
+    return main_class('c, x', '    x = null;\n' + built + read) + f'class Cell {{\n  {OBJECT} next;\n{INIT}}}\n'
+
+
+def held(n):
+    """n objects, each in a local of its own from where it is made to where it is stored, n statements later."""
+    locals = ', '.join(['c', 'x'] + [f'o{i}' for i in range(n)])
+    made = ''.join(f'    o{i} = new Cell;\n' for i in range(n))
+    stored = ''.join(f'    c.<Cell: java.lang.Object next> = o{i};\n' for i in range(n))
+    return main_class(locals, '    c = new Cell;\n' + made + stored + '    x = c.<Cell: java.lang.Object next>;\n') + f'class Cell {{\n  {OBJECT} next;\n}}\n'
+
+
+def build(folder):
+    """Builds the program, and gives its path."""
+    top = os.path.join(os.path.dirname(os.path.abspath(__file__)), '..')
+    with open(os.path.join(top, 'crates.txt')) as lines:
+        listed = [line for line in lines if line.split(':')[0] in CRATES]
+    with open(os.path.join(folder, 'crates.txt'), 'w') as out:
+        out.write(''.join(listed) + f'demand_speed: {USES}\n')
+    for crate in CRATES:
+        shutil.copytree(os.path.join(top, 'crates', crate), os.path.join(folder, 'crates', crate), ignore=shutil.ignore_patterns('out', 'must-fail'))
+    crate = os.path.join(folder, 'crates', 'demand_speed')
+    os.makedirs(os.path.join(crate, 'src'))
+    with open(os.path.join(crate, 'src', 'main.rt'), 'w') as out:
+        out.write(PROGRAM)
+    for function, proof in [('linked_with', LINKS), ('told', ASKS)]:
+        os.makedirs(os.path.join(crate, 'proofs', function))
+        with open(os.path.join(crate, 'proofs', function, 'Answers.antt'), 'w') as out:
+            out.write(proof)
+    done = subprocess.run(['rt', 'run'], cwd=crate, stdin=subprocess.DEVNULL, capture_output=True, text=True)
+    if done.returncode:
+        sys.exit('the program does not build:\n' + (done.stdout + done.stderr)[-4000:])
+    return os.path.join(crate, 'out', 'demand_speed')
+
+
+def kilobytes(status, name):
+    return int(next(line for line in status if line.startswith(name + ':')).split()[1])
+
+
+def measured(path, text):
+    """The program's answer: microseconds, nodes, edges, stores, sites, and bytes. The least time and the least memory of three runs."""
+    runs = []
+    for _ in range(3):
+        lines = subprocess.run([path], input=text.encode(), capture_output=True).stdout.decode().splitlines()
+        words = lines[0].split() if lines else []
+        if len(words) != 5 or not words[0].isdigit():
+            sys.exit(f'the program answers: {lines[:1]}')
+        half = (len(lines) + 1) // 2
+        taken = kilobytes(lines[half:], 'VmHWM') - kilobytes(lines[1:half], 'VmRSS')
+        runs.append([int(word) for word in words] + [1024 * taken])
+    return [min(column) for column in zip(*runs)]
+
+
+SHAPES = [('copies', copies, 1_000_000), ('clique', clique, 160), ('dispatch', dispatch, 600), ('cells', cells, 400), ('held', held, 1_000)]
+
+
+def main():
+    with tempfile.TemporaryDirectory() as folder:
+        path = build(folder)
+        print(f'{"shape":>9} {"size":>8} {"nodes":>8} {"edges":>8} {"stores":>7} {"sites":>7} {"time":>10} {"nodes/s":>11} {"edges/s":>11} {"edges":>7} {"time":>7} '
+              f'{"bytes/node":>11}')
+        for name, shape, size in SHAPES:
+            before = None
+            for part in [8, 4, 2, 1]:
+                took, nodes, edges, stores, sites, taken = measured(path, shape(size // part))
+                more = f'{edges / before[1]:.2f}' if before else '-'
+                longer = f'{took / before[0]:.2f}' if before else '-'
+                before = (max(took, 1), max(edges, 1))
+                seconds = max(took, 1) / 1e6
+                print(f'{name:>9} {size // part:8} {nodes:8} {edges:8} {stores:7} {sites:7} {took / 1000:7.1f} ms {nodes / seconds:11.0f} {edges / seconds:11.0f} {more:>7} {longer:>7} '
+                      f'{taken / max(nodes, 1):11.0f}', flush=True)
+
+
+main()
