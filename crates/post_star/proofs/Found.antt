@@ -7,9 +7,9 @@ use Rattle.auto_table.proofs.Places.{slice_get-pushed}
 use Rattle.post_star.specs.declared.bases.BaseStep.{BaseStep}
 use Rattle.post_star.specs.declared.index.Index.{Index}
 use Rattle.post_star.specs.declared.key.Key.{Key}
-use Rattle.post_star.specs.declared.key.Key.TheVariants.{Node, Marked}
+use Rattle.post_star.specs.declared.key.Key.TheVariants.{Node, Mark, Marked}
 use Rattle.post_star.specs.Groups.{Groups, found_at, IsAdded}
-use Rattle.post_star.specs.Index.{AreUnder, Stays, Pops, PopsMark, StepsFrom, IsIndex}
+use Rattle.post_star.specs.Index.{AreUnder, Stays, Pops, PopsMark, PopsAnywhere, StepsFrom, IsIndex}
 use Rattle.post_star.proofs.Groups.{one_key}
 use Rattle.post_star.proofs.Scopes.{has_left, has_last}
 
@@ -66,6 +66,7 @@ module _ {W : Type 0} (x : Index W) where
     stays = i.stays;
     pops = i.pops;
     marked = i.marked;
+    by_mark = i.by_mark;
     below = under_more StepsFrom steps x.below below (Marked step.base step.mark) step (λ k h. h) a i.below;
   }
 
@@ -76,6 +77,7 @@ module _ {W : Type 0} (x : Index W) where
     stays = under_more Stays rules x.stays stays (Node from) rule (λ k h. subst (λ (z : Rule W). Stays z k) q h) (subst (λ (z : Rule W). IsAdded x.stays stays (Node from) z) (sym q) a) i.stays;
     pops = under_without Pops rules x.pops rule (λ k h. subst (λ (z : Rule W). Pops z k) q h) i.pops;
     marked = under_without PopsMark rules x.marked rule (λ k h. subst (λ (z : Rule W). PopsMark z k) q h) i.marked;
+    by_mark = under_without PopsAnywhere rules x.by_mark rule (λ k h. subst (λ (z : Rule W). PopsAnywhere z k) q h) i.by_mark;
     below = i.below;
   }
 
@@ -85,14 +87,16 @@ module _ {W : Type 0} (x : Index W) where
     stays = under_more Stays rules x.stays stays (Node from) rule (λ k h. subst (λ (z : Rule W). Stays z k) q h) (subst (λ (z : Rule W). IsAdded x.stays stays (Node from) z) (sym q) a) i.stays;
     pops = under_without Pops rules x.pops rule (λ k h. subst (λ (z : Rule W). Pops z k) q h) i.pops;
     marked = under_without PopsMark rules x.marked rule (λ k h. subst (λ (z : Rule W). PopsMark z k) q h) i.marked;
+    by_mark = under_without PopsAnywhere rules x.by_mark rule (λ k h. subst (λ (z : Rule W). PopsAnywhere z k) q h) i.by_mark;
     below = i.below;
   }
 
-  pub index_pop : (pops marked : Groups (Rule W)) (from mark to : ℕ) (v : W) (rule : Rule W) → rule ≡ Pop from mark to v → IsAdded x.pops pops (Node from) (Pop from mark to v) → IsAdded x.marked marked (Marked from mark) (Pop from mark to v)
-      → (rules : List (Rule W)) (steps : List BaseStep) → IsIndex rules steps x → IsIndex (rules ++ rule ∷ []) steps (record x { pops = pops; marked = marked })
-  index_pop pops marked from mark to v rule q a b rules steps i = record {
+  pub index_pop : (pops marked by_mark : Groups (Rule W)) (from mark to : ℕ) (v : W) (rule : Rule W) → rule ≡ Pop from mark to v → IsAdded x.pops pops (Node from) (Pop from mark to v) → IsAdded x.marked marked (Marked from mark) (Pop from mark to v)
+      → IsAdded x.by_mark by_mark (Mark mark) (Pop from mark to v) → (rules : List (Rule W)) (steps : List BaseStep) → IsIndex rules steps x → IsIndex (rules ++ rule ∷ []) steps (record x { pops = pops; marked = marked; by_mark = by_mark })
+  index_pop pops marked by_mark from mark to v rule q a b o rules steps i = record {
     stays = under_without Stays rules x.stays rule (λ k h. subst (λ (z : Rule W). Stays z k) q h) i.stays;
     pops = under_more Pops rules x.pops pops (Node from) rule (λ k h. subst (λ (z : Rule W). Pops z k) q h) (subst (λ (z : Rule W). IsAdded x.pops pops (Node from) z) (sym q) a) i.pops;
     marked = under_more PopsMark rules x.marked marked (Marked from mark) rule (λ k h. subst (λ (z : Rule W). PopsMark z k) q h) (subst (λ (z : Rule W). IsAdded x.marked marked (Marked from mark) z) (sym q) b) i.marked;
+    by_mark = under_more PopsAnywhere rules x.by_mark by_mark (Mark mark) rule (λ k h. subst (λ (z : Rule W). PopsAnywhere z k) q h) (subst (λ (z : Rule W). IsAdded x.by_mark by_mark (Mark mark) z) (sym q) o) i.by_mark;
     below = i.below;
   }

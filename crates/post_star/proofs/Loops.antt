@@ -13,11 +13,11 @@ use Rattle.post_star.specs.declared.bases.BaseStep.{BaseStep}
 use Rattle.post_star.specs.declared.rise.Item.{Item}
 use Rattle.post_star.specs.declared.rise.Item.TheVariants.{At, Between}
 use Rattle.post_star.specs.declared.index.Index.{Index}
-use Rattle.post_star.specs.Index.{from_of, Stays, Pops, PopsMark, AreUnder, IsIndex}
+use Rattle.post_star.specs.Index.{from_of, Stays, Pops, PopsMark, PopsAnywhere, AreUnder, IsIndex}
 use Rattle.post_star.specs.Groups.{Groups, found_at}
 use Rattle.post_star.specs.Works.{IsTold, IsSound, IsDone, Waits, IsRisen, IsKept, IsApplied, IsProgress, GoesBetween, IsOpen, IsClosed, IsSettling, IsClosedTo, IsBegun, AreTaken, IsAppliedBetween, EntryRuns}
 use Rattle.post_star.specs.declared.key.Key.{Key}
-use Rattle.post_star.specs.declared.key.Key.TheVariants.{Node, Marked}
+use Rattle.post_star.specs.declared.key.Key.TheVariants.{Node, Mark, Marked}
 use Rattle.post_star.proofs.Applies.{below_or_last, progress_none, progress_more, risen_reached}
 use Rattle.post_star.specs.Derivations.{Combines}
 use Rattle.post_star.proofs.Rises.{sound_risen, risen_kept, applied_kept}
@@ -36,10 +36,10 @@ pub record IsWorkedBetween {W : Type 0} (d : Domain W) (rules : List (Rule W)) (
   pub progress : IsProgress d rules starts steps start now u w parent
   pub applied : (i : ℕ) (rule : Rule W) → i < t → slice_get group i ≡ Some rule → IsAppliedBetween d steps now w rule child parent
 
--- the rules from the first nodes of a row are applied at the link
-pub record IsWorkedRow {W : Type 0} (d : Domain W) (rules : List (Rule W)) (starts : List (Start W)) (steps : List BaseStep) (row : List (Reached W)) (start now : Cells W) (u w : List Item) (child parent : Entry) (t : ℕ) : Type 0 where
+-- those of a part of the rules that lead from the first nodes of a row are applied at the link
+pub record IsWorkedRow {W : Type 0} (d : Domain W) (rules : List (Rule W)) (starts : List (Start W)) (steps : List BaseStep) (part : List (Rule W)) (row : List (Reached W)) (start now : Cells W) (u w : List Item) (child parent : Entry) (t : ℕ) : Type 0 where
   pub progress : IsProgress d rules starts steps start now u w parent
-  pub applied : (i : ℕ) (x : Reached W) → i < t → slice_get row i ≡ Some x → (rule : Rule W) → Has rules rule → from_of rule ≡ x.node → IsAppliedBetween d steps now w rule child parent
+  pub applied : (i : ℕ) (x : Reached W) → i < t → slice_get row i ≡ Some x → (rule : Rule W) → Has part rule → from_of rule ≡ x.node → IsAppliedBetween d steps now w rule child parent
 
 module _ {W : Type 0} {d : Domain W} {rules : List (Rule W)} {starts : List (Start W)} (l : IsLawful W d) (steps : List BaseStep) (told : IsTold d rules starts) {start : Cells W} (s : IsSound d rules starts steps start) where
   module _ (group : List (Rule W)) (listed : (rule : Rule W) → Has group rule → Has rules rule) where
@@ -89,26 +89,36 @@ module _ {W : Type 0} {d : Domain W} {rules : List (Rule W)} {starts : List (Sta
       (sym (ap (λ (x : W). d.extend (d.extend (link_at d start (Pushed node top) e') x) v) z ∙ ap (λ (x : W). d.extend x v) (l.extend_zero _ (link_meant_at l steps told s (Pushed node top) e')) ∙ l.zero_extend v (told.rule _ h)))
       (zero_leq l _ (weight_meant l steps told s e' to))
 
-  pub row_begins : (row : List (Reached W)) (u : List Item) (child parent : Entry) → IsWorkedRow d rules starts steps row start start u u child parent 0
-  row_begins row u child parent = record { progress = progress_none l steps told start u s; applied = λ i x k. absurd (omega arith) }
+  -- over a link a pop from a node at which the child has no weight adds nothing
+  pub nothing_between : (rule : Rule W) → Has rules rule → (child parent : Entry) (from mark to : ℕ) (v first none : W) → rule ≡ Pop from mark to v → first ≡ weight_at d start child from → none ≡ d.zero → (d.IsMeant first → d.IsMeant none → first ≡ none)
+      → IsDone d steps start rule child parent
+  nothing_between rule h child parent from mark to v first none is at z same =
+      let here : weight_at d start child (from_of rule) ≡ first = ap (λ (r : Rule W). weight_at d start child (from_of r)) is ∙ sym at in
+      let meant : d.IsMeant first = subst (λ (x : W). d.IsMeant x) (sym at) (weight_meant l steps told s child from) in
+      let meant_none : d.IsMeant none = subst (λ (x : W). d.IsMeant x) (sym z) l.zero_meant in
+      zero_done rule h child parent (here ∙ same meant meant_none ∙ z)
 
-  pub row_goes : {row : List (Reached W)} {now new : Cells W} {u w z : List Item} {child parent : Entry} (t : ℕ) (x : Reached W) → slice_get row t ≡ Some x → IsWorkedRow d rules starts steps row start now u w child parent t
-      → IsProgress d rules starts steps now new w z parent → ((rule : Rule W) → Has rules rule → from_of rule ≡ x.node → IsAppliedBetween d steps new z rule child parent) → IsWorkedRow d rules starts steps row start new u z child parent (t + 1)
-  row_goes {row} {now} {new} {u} {w} {z} {child} {parent} t x at g p a = record {
-    progress = progress_more l steps told s g.progress p;
-    applied = λ i y k q rule h n c. elim (below_or_last i t k) [
-      | inl b ↦ applied_kept l rule child parent (told.rule rule h) p.kept (g.applied i y b q rule h n c)
-      | inr e ↦ let same : y ≡ x = cc (at, q, ap (slice_get row) e) in a rule h (n ∙ ap (λ (o : Reached W). o.node) same) c
-    ];
-  }
+  module _ (part : List (Rule W)) (listed : (rule : Rule W) → Has part rule → Has rules rule) where
+    pub row_begins : (row : List (Reached W)) (u : List Item) (child parent : Entry) → IsWorkedRow d rules starts steps part row start start u u child parent 0
+    row_begins row u child parent = record { progress = progress_none l steps told start u s; applied = λ i x k. absurd (omega arith) }
 
-  pub row_ends : {row : List (Reached W)} {now : Cells W} {u w : List Item} {child parent : Entry} (t : ℕ) → length row ≤ t → IsRow d start child row → ((a b : W) → d.IsMeant a → d.IsMeant b → (a ≡ b) ⊎ (a ≡ b → ⊥))
-      → IsWorkedRow d rules starts steps row start now u w child parent t → (rule : Rule W) → Has rules rule → IsAppliedBetween d steps now w rule child parent
-  row_ends {row} {now} {u} {w} {child} {parent} t all is decide g rule h c = by (decide (weight_at d start child (from_of rule)) d.zero (weight_meant l steps told s _ _) l.zero_meant)
-    where
-      by : (weight_at d start child (from_of rule) ≡ d.zero) ⊎ (weight_at d start child (from_of rule) ≡ d.zero → ⊥) → Waits w rule child parent ⊎ IsDone d steps now rule child parent
-      by (inl z) = g.progress.kept.done rule (told.rule rule h) child parent (zero_done rule h child parent z)
-      by (inr n) = let p = is.all (from_of rule) n in g.applied p.0 _ (omega (arith, slice_get-below row p.0 _ p.1)) p.1 rule h refl c
+    pub row_goes : {row : List (Reached W)} {now new : Cells W} {u w z : List Item} {child parent : Entry} (t : ℕ) (x : Reached W) → slice_get row t ≡ Some x → IsWorkedRow d rules starts steps part row start now u w child parent t
+        → IsProgress d rules starts steps now new w z parent → ((rule : Rule W) → Has part rule → from_of rule ≡ x.node → IsAppliedBetween d steps new z rule child parent) → IsWorkedRow d rules starts steps part row start new u z child parent (t + 1)
+    row_goes {row} {now} {new} {u} {w} {z} {child} {parent} t x at g p a = record {
+      progress = progress_more l steps told s g.progress p;
+      applied = λ i y k q rule h n c. elim (below_or_last i t k) [
+        | inl b ↦ applied_kept l rule child parent (told.rule rule (listed rule h)) p.kept (g.applied i y b q rule h n c)
+        | inr e ↦ let same : y ≡ x = cc (at, q, ap (slice_get row) e) in a rule h (n ∙ ap (λ (o : Reached W). o.node) same) c
+      ];
+    }
+
+    pub row_ends : {row : List (Reached W)} {now : Cells W} {u w : List Item} {child parent : Entry} (t : ℕ) → length row ≤ t → IsRow d start child row → ((a b : W) → d.IsMeant a → d.IsMeant b → (a ≡ b) ⊎ (a ≡ b → ⊥))
+        → IsWorkedRow d rules starts steps part row start now u w child parent t → (rule : Rule W) → Has part rule → IsAppliedBetween d steps now w rule child parent
+    row_ends {row} {now} {u} {w} {child} {parent} t all is decide g rule h c = by (decide (weight_at d start child (from_of rule)) d.zero (weight_meant l steps told s _ _) l.zero_meant)
+      where
+        by : (weight_at d start child (from_of rule) ≡ d.zero) ⊎ (weight_at d start child (from_of rule) ≡ d.zero → ⊥) → Waits w rule child parent ⊎ IsDone d steps now rule child parent
+        by (inl z) = g.progress.kept.done rule (told.rule rule (listed rule h)) child parent (zero_done rule (listed rule h) child parent z)
+        by (inr n) = let p = is.all (from_of rule) n in g.applied p.0 _ (omega (arith, slice_get-below row p.0 _ p.1)) p.1 rule h refl c
 
   -- the rules from a number on wait, and those before it are done
   pub begun_taken : (items : List Item) (taken begun : ℕ) → IsClosedTo d rules taken starts begun steps start → AreTaken d rules taken start items → ((a b : W) → d.IsMeant a → d.IsMeant b → (a ≡ b) ⊎ (a ≡ b → ⊥)) → IsBegun d rules starts steps start items begun
@@ -268,6 +278,18 @@ applied_over d rules steps now w node in_marked n top parent g (Pop from mark to
   where
     by : (top ≡ mark) ⊎ (top ≡ mark → ⊥) → Waits w (Pop from mark to v) (Pushed n top) parent ⊎ IsDone d steps now (Pop from mark to v) (Pushed n top) parent
     by (inl q) = g _ (in_marked.all (Marked node top) _ h (ap (λ (m : ℕ). Marked m mark) e ∙ ap (Marked node) (sym q))) k
+    by (inr q) = inr (λ o. absurd (q o))
+
+-- and all pops of its mark are in one group
+pub applied_anywhere : {W : Type 0} (d : Domain W) (rules : List (Rule W)) (steps : List BaseStep) (now : Cells W) (w : List Item) {by_mark : Groups (Rule W)} (in_by_mark : AreUnder rules PopsAnywhere by_mark) (n top : ℕ) (parent : Entry)
+    → ((rule : Rule W) → Has (found_at by_mark (Mark top)) rule → IsAppliedBetween d steps now w rule (Pushed n top) parent)
+    → (rule : Rule W) → Has rules rule → IsAppliedBetween d steps now w rule (Pushed n top) parent
+applied_anywhere d rules steps now w in_by_mark n top parent g (Flow from to v) h k = absurd k
+applied_anywhere d rules steps now w in_by_mark n top parent g (Push from to mark v) h k = absurd k
+applied_anywhere d rules steps now w in_by_mark n top parent g (Pop from mark to v) h k = by (one_number top mark)
+  where
+    by : (top ≡ mark) ⊎ (top ≡ mark → ⊥) → Waits w (Pop from mark to v) (Pushed n top) parent ⊎ IsDone d steps now (Pop from mark to v) (Pushed n top) parent
+    by (inl q) = g _ (in_by_mark.all (Mark top) _ h (ap Mark (sym q))) k
     by (inr q) = inr (λ o. absurd (q o))
 
 module _ {W : Type 0} {d : Domain W} {rules : List (Rule W)} {starts : List (Start W)} (l : IsLawful W d) (steps : List BaseStep) (told : IsTold d rules starts) (x : Index W) {its : List BaseStep} (index : IsIndex rules its x) (node : ℕ) where

@@ -42,20 +42,20 @@ pub told_part : {W : Type 0} {d : Domain W} {rules : List (Rule W)} {starts : Li
 told_part part told listed = record { rule = λ r h. told.rule r (listed r h); start = told.start }
 
 module _ {W : Type 0} {d : Domain W} (common own : List (Rule W)) {starts : List (Start W)} (l : IsLawful W d) (steps : List BaseStep) (told : IsTold d (common ++ own) starts)
-    {mid new : Cells W} {v w : List Item} (kept : IsKept d steps mid new v w) (node : ℕ) where
+    {mid new : Cells W} {v w : List Item} (kept : IsKept d steps mid new v w) where
   -- first those in common were applied, and then its own
-  pub parted_applied : (entry : Entry) → ((rule : Rule W) → Has common rule → from_of rule ≡ node → IsApplied d steps mid v rule entry)
+  pub parted_applied : (node : ℕ) (entry : Entry) → ((rule : Rule W) → Has common rule → from_of rule ≡ node → IsApplied d steps mid v rule entry)
       → ((rule : Rule W) → Has own rule → from_of rule ≡ node → IsApplied d steps new w rule entry)
       → (rule : Rule W) → Has (common ++ own) rule → from_of rule ≡ node → IsApplied d steps new w rule entry
-  parted_applied entry f g rule h e = elim (has_either common own rule h) [
+  parted_applied node entry f g rule h e = elim (has_either common own rule h) [
     | inl a ↦ applied_on l steps told rule entry h kept (f rule a e)
     | inr b ↦ g rule b e
   ]
 
-  pub parted_between : (child parent : Entry) → ((rule : Rule W) → Has common rule → from_of rule ≡ node → IsAppliedBetween d steps mid v rule child parent)
-      → ((rule : Rule W) → Has own rule → from_of rule ≡ node → IsAppliedBetween d steps new w rule child parent)
-      → (rule : Rule W) → Has (common ++ own) rule → from_of rule ≡ node → IsAppliedBetween d steps new w rule child parent
-  parted_between child parent f g rule h e goes = elim (has_either common own rule h) [
-    | inl a ↦ applied_kept l rule child parent (told.rule rule h) kept (f rule a e goes)
-    | inr b ↦ g rule b e goes
+  pub parted_between : (child parent : Entry) → ((rule : Rule W) → Has common rule → IsAppliedBetween d steps mid v rule child parent)
+      → ((rule : Rule W) → Has own rule → IsAppliedBetween d steps new w rule child parent)
+      → (rule : Rule W) → Has (common ++ own) rule → IsAppliedBetween d steps new w rule child parent
+  parted_between child parent f g rule h goes = elim (has_either common own rule h) [
+    | inl a ↦ applied_kept l rule child parent (told.rule rule h) kept (f rule a goes)
+    | inr b ↦ g rule b goes
   ]

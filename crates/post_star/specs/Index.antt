@@ -6,7 +6,7 @@ use Rattle.auto_table.specs.Lists.{Has}
 use Rattle.post_star.specs.declared.bases.BaseStep.{BaseStep}
 use Rattle.post_star.specs.declared.index.Index.{Index}
 use Rattle.post_star.specs.declared.key.Key.{Key}
-use Rattle.post_star.specs.declared.key.Key.TheVariants.{Node, Marked}
+use Rattle.post_star.specs.declared.key.Key.TheVariants.{Node, Mark, Marked}
 use Rattle.post_star.specs.Groups.{Groups, found_at}
 
 -- the groups have elements of the list alone, and each of these under its keys
@@ -38,6 +38,12 @@ PopsMark (Flow from to weight) key = ⊥
 PopsMark (Push from to mark weight) key = ⊥
 PopsMark (Pop from mark to weight) key = Marked from mark ≡ key
 
+-- a pop with the mark of the key, from any node
+abbrev pub PopsAnywhere : {W : Type 0} → Rule W → Key → Type 0
+PopsAnywhere (Flow from to weight) key = ⊥
+PopsAnywhere (Push from to mark weight) key = ⊥
+PopsAnywhere (Pop from mark to weight) key = Mark mark ≡ key
+
 -- a base step with the base and the mark of the key
 abbrev pub StepsFrom : BaseStep → Key → Type 0
 StepsFrom s key = Marked s.base s.mark ≡ key
@@ -47,4 +53,5 @@ pub record IsIndex {W : Type 0} (rules : List (Rule W)) (steps : List BaseStep) 
   pub stays : AreUnder rules Stays x.stays
   pub pops : AreUnder rules Pops x.pops
   pub marked : AreUnder rules PopsMark x.marked
+  pub by_mark : AreUnder rules PopsAnywhere x.by_mark
   pub below : AreUnder steps StepsFrom x.below

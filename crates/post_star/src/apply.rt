@@ -158,7 +158,7 @@ pub fn apply_at<W: Weight>(
     }
 }
 
-/// Does all that the rule says of a link.
+/// Does all that the rule says of a link: nothing where the child has no weight at the rule's node.
 pub fn apply_between<W: Weight>(
     system: &System<'_, W>,
     table: &mut Table<W>,
@@ -182,10 +182,11 @@ pub fn apply_between<W: Weight>(
     {
         if let Entry::Pushed { node: _, mark: top } = child {
             if top == mark {
-                let reached = table
-                    .link_at(child, parent)
-                    .extend(table.at(child, from))
-                    .extend(weight);
+                let first = table.at(child, from);
+                if first == W::zero() {
+                    return Ok(());
+                }
+                let reached = table.link_at(child, parent).extend(first).extend(weight);
                 rise(table, items, parent, to, reached)?;
             }
         }

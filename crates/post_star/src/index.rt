@@ -32,6 +32,8 @@ pub struct Index<W: Copy> {
     pub pops: ByKey<Rule<W>>,
     /// Pops by their node and their mark.
     pub marked: ByKey<Rule<W>>,
+    /// Pops by their mark.
+    pub by_mark: ByKey<Rule<W>>,
     /// Base steps by their base and their mark.
     pub below: ByKey<BaseStep>,
 }
@@ -45,6 +47,7 @@ impl<W: Copy> Index<W> {
             stays: ByKey::new(alloc),
             pops: ByKey::new(alloc),
             marked: ByKey::new(alloc),
+            by_mark: ByKey::new(alloc),
             below: ByKey::new(alloc),
         }
     }
@@ -82,6 +85,7 @@ impl<W: Copy> Index<W> {
             Rule::Pop { from, mark, .. } => {
                 self.pops.add(Key::Node(from), rule)?;
                 self.marked.add(Key::Marked { node: from, mark }, rule)?;
+                self.by_mark.add(Key::Mark(mark), rule)?;
             }
         }
         Ok(())

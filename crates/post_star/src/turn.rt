@@ -140,31 +140,72 @@ fn work_pops<W: Weight>(
     Ok(())
 }
 
-/// Does the pops from the node at the link of a pushed entry.
-fn work_between_at<W: Weight>(
+/// Does the pops of an index at the link of a pushed entry, over the nodes of the entry.
+fn work_row<W: Weight>(
+    alloc: Global,
     system: &System<'_, W>,
     table: &mut Table<W>,
     items: &mut VecDeque<Item>,
+    index: &Index<W>,
+    rules: &[Rule<W>],
     pushed: u32,
     mark: u32,
     parent: Entry,
-    node: u32,
 ) -> Result<(), NoMemory>
     requires told { IsTold W.domain (rules_of system.now) system.now.starts.now }
-    requires index { IsIndexed system.now }
     requires sound { IsSound W.domain (rules_of system.now) system.now.starts.now system.now.steps.now table.old }
+    requires own { (steps : List AStep) × IsIndex rules.now steps index.now }
+    requires listed { (rule : ARule W) → Has rules.now rule → Has (rules_of system.now) rule }
     ensures progress { OnOk result (IsProgress W.domain (rules_of system.now) system.now.starts.now system.now.steps.now table.old table.new items.old.items items.new.items parent) }
-    ensures applied { OnOk result ((rule : ARule W) → Has (rules_of system.now) rule → from_of rule ≡ node → IsAppliedBetween W.domain system.now.steps.now table.new items.new.items rule (Pushed pushed mark) parent) }
+    ensures applied { OnOk result ((rule : ARule W) → Has rules.now rule → IsAppliedBetween W.domain system.now.steps.now table.new items.new.items rule (Pushed pushed mark) parent) }
 {
+    let _rules = rules;
     let child = Entry::Pushed { node: pushed, mark };
-    let common = system.index.marked.at(Key::Marked { node, mark });
-    work_pops(system, table, items, common, child, parent)?;
-    let own = system.own_index.marked.at(Key::Marked { node, mark });
-    work_pops(system, table, items, own, child, parent)?;
+    // A node that the child reaches later waits as an item of its own.
+    let row = copied(alloc, table.row(child))?;
+    for reached in &row {
+        let pops = index.marked.at(Key::Marked {
+            node: reached.node,
+            mark,
+        });
+        work_pops(system, table, items, pops, child, parent)?;
+    }
     Ok(())
 }
 
-/// Does the pops at the link of a pushed entry, over the nodes of the entry.
+/// Does the pops of an index at the link of a pushed entry: over all pops of the mark, or over the nodes of the entry where
+/// these are fewer. Where methods all call each other there are many nodes and few pops; where many statements load one
+/// field it may be the other way round.
+fn work_index_between<W: Weight>(
+    alloc: Global,
+    system: &System<'_, W>,
+    table: &mut Table<W>,
+    items: &mut VecDeque<Item>,
+    index: &Index<W>,
+    rules: &[Rule<W>],
+    pushed: u32,
+    mark: u32,
+    parent: Entry,
+) -> Result<(), NoMemory>
+    requires told { IsTold W.domain (rules_of system.now) system.now.starts.now }
+    requires sound { IsSound W.domain (rules_of system.now) system.now.starts.now system.now.steps.now table.old }
+    requires own { (steps : List AStep) × IsIndex rules.now steps index.now }
+    requires listed { (rule : ARule W) → Has rules.now rule → Has (rules_of system.now) rule }
+    ensures progress { OnOk result (IsProgress W.domain (rules_of system.now) system.now.starts.now system.now.steps.now table.old table.new items.old.items items.new.items parent) }
+    ensures applied { OnOk result ((rule : ARule W) → Has rules.now rule → IsAppliedBetween W.domain system.now.steps.now table.new items.new.items rule (Pushed pushed mark) parent) }
+{
+    let _rules = rules;
+    let child = Entry::Pushed { node: pushed, mark };
+    let pops = index.by_mark.at(Key::Mark(mark));
+    if pops.len() <= table.row(child).len() {
+        return work_pops(system, table, items, pops, child, parent);
+    }
+    work_row(
+        alloc, system, table, items, index, rules, pushed, mark, parent,
+    )
+}
+
+/// Does the pops at the link of a pushed entry.
 fn work_between<W: Weight>(
     alloc: Global,
     system: &System<'_, W>,
@@ -180,11 +221,28 @@ fn work_between<W: Weight>(
     ensures progress { OnOk result (IsProgress W.domain (rules_of system.now) system.now.starts.now system.now.steps.now table.old table.new items.old.items items.new.items parent) }
     ensures applied { OnOk result ((rule : ARule W) → Has (rules_of system.now) rule → IsAppliedBetween W.domain system.now.steps.now table.new items.new.items rule (Pushed pushed mark) parent) }
 {
-    // A node that the child reaches later waits as an item of its own.
-    let row = copied(alloc, table.row(Entry::Pushed { node: pushed, mark }))?;
-    for reached in &row {
-        work_between_at(system, table, items, pushed, mark, parent, reached.node)?;
-    }
+    work_index_between(
+        alloc,
+        system,
+        table,
+        items,
+        system.index,
+        system.rules,
+        pushed,
+        mark,
+        parent,
+    )?;
+    work_index_between(
+        alloc,
+        system,
+        table,
+        items,
+        system.own_index,
+        system.own,
+        pushed,
+        mark,
+        parent,
+    )?;
     Ok(())
 }
 

@@ -1,18 +1,24 @@
-use Rattle.std.proofs.Common.{ap, sym, ◌∙◌, Some, subst}
 use Rattle.auto_table.specs.declared.entry.Entry.TheVariants.{Pushed}
-use Rattle.auto_table.specs.Cells.{IsRow}
-use Rattle.std.proofs.lemmas.Option.{slice_get-get_or}
-use Rattle.post_star.proofs.Applies.{decide_by}
-use Rattle.post_star.proofs.Loops.{row_begins, row_goes, row_ends}
+use Rattle.post_star.proofs.Applies.{progress_more}
+use Rattle.post_star.proofs.Parted.{parted_between}
+use Rattle.post_star.proofs.Scopes.{has_left, has_right}
 use Rattle.post_star.proofs.turn.work_between.Goals as goal
 
-pub loop-reached-init : goal.loop-reached-init
-loop-reached-init g c = row_begins g.met.W.Weight.laws _ c.requires.told c.requires.sound c.deref-reached-items.result.now c.args.items.now.items (Pushed c.args.pushed c.args.mark) c.args.parent
+pub work_index_between-requires-clause-own : goal.work_index_between-requires-clause-own
+work_index_between-requires-clause-own g c = (_, c.requires.index.common)
 
-pub loop-reached-preserved : goal.loop-reached-preserved
-loop-reached-preserved g c = row_goes g.met.W.Weight.laws _ c.requires.told c.requires.sound c.loop-reached.reached-index c.reached-item.result
-    (slice_get-get_or c.deref-reached-items.result.now c.loop-reached.reached-index c.reached-item.result c.loop-reached-test.true ∙ ap Some (sym c.reached-item.is))
-    c.loop-reached.invariant c.in_ok-work_between_at.ensures.progress c.in_ok-work_between_at.ensures.applied
+pub work_index_between-requires-clause-listed : goal.work_index_between-requires-clause-listed
+work_index_between-requires-clause-listed g c = has_left c.args.system.now.rules.now c.args.system.now.own.now
+
+pub work_index_between-requires-2-clause-own : goal.work_index_between-requires-2-clause-own
+work_index_between-requires-2-clause-own g c = (_, c.requires.index.own)
+
+pub work_index_between-requires-2-clause-listed : goal.work_index_between-requires-2-clause-listed
+work_index_between-requires-2-clause-listed g c = has_right c.args.system.now.rules.now c.args.system.now.own.now
+
+pub returns-clause-progress : goal.returns-clause-progress
+returns-clause-progress g c = progress_more g.met.W.Weight.laws _ c.requires.told c.requires.sound c.in_ok-work_index_between.ensures.progress c.in_ok-work_index_between-2.ensures.progress
 
 pub returns-clause-applied : goal.returns-clause-applied
-returns-clause-applied g c = row_ends g.met.W.Weight.laws _ c.requires.told c.requires.sound c.loop-reached.reached-index c.loop-reached-test.false (subst (λ xs. IsRow g.W.Weight.domain c.args.table.now (Pushed c.args.pushed c.args.mark) xs) (sym (c.deref-reached-items.ensures.value ∙ c.in_ok-row.ensures)) c.row.ensures.each) (decide_by g.W.Weight.domain g.W.PartialEq.eq g.met.W.Weight.same g.met.W.Eq.laws.refl) c.loop-reached.invariant
+returns-clause-applied g c = parted_between c.args.system.now.rules.now c.args.system.now.own.now g.met.W.Weight.laws _ c.requires.told c.in_ok-work_index_between-2.ensures.progress.kept (Pushed c.args.pushed c.args.mark) c.args.parent
+    c.in_ok-work_index_between.ensures.applied c.in_ok-work_index_between-2.ensures.applied

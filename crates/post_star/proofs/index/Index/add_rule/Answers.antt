@@ -7,5 +7,5 @@ returns-in_ok-add-in-Flow g c = index_flow c.args.self.now c.add.new.self _ _ _ 
 pub returns-in_ok-add-in-Push : goal.returns-in_ok-add-in-Push
 returns-in_ok-add-in-Push g c = index_push c.args.self.now c.add-in-Push.new.self _ _ _ _ c.args.rule c.in-Push.is c.in_ok-add-in-Push.ensures
 
-pub returns-in_ok-add-in-Pop-2 : goal.returns-in_ok-add-in-Pop-2
-returns-in_ok-add-in-Pop-2 g c = index_pop c.args.self.now c.add-in-Pop.new.self c.add-in-Pop-2.new.self _ _ _ _ c.args.rule c.in-Pop.is c.in_ok-add-in-Pop.ensures c.in_ok-add-in-Pop-2.ensures
+pub returns-in_ok-add-in-Pop-3 : goal.returns-in_ok-add-in-Pop-3
+returns-in_ok-add-in-Pop-3 g c = index_pop c.args.self.now c.add-in-Pop.new.self c.add-in-Pop-2.new.self c.add-in-Pop-3.new.self _ _ _ _ c.args.rule c.in-Pop.is c.in_ok-add-in-Pop.ensures c.in_ok-add-in-Pop-2.ensures c.in_ok-add-in-Pop-3.ensures
