@@ -12,7 +12,7 @@ use Rattle.spds_laws.proofs.More.{calls_more, fields_more}
 use Rattle.spds_laws.proofs.Rounds.{meets_closed, meets_stored, round_met}
 
 -- the call strings of base are ones of o where o has those of the start nodes of base and meets what base meets
-calls_within : (p : LinkedProgram) (q : Asked) (Few More : Site → Site → StoreAt → Type 0) (o base : Site)
+pub calls_within : (p : LinkedProgram) (q : Asked) (Few More : Site → Site → StoreAt → Type 0) (o base : Site)
     → ((n : Node) (string : List Place) → StartIn p q base n → IsString p n.place.method string → InCalls p q More o n string)
     → ((further : Site) (later : StoreAt) → Few base further later → More o further later)
     → {n : Node} {string : List Place} → InCalls p q Few base n string → InCalls p q More o n string

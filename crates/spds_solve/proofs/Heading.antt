@@ -1,18 +1,17 @@
 -- Entries that fit no common word.
-use Rattle.std.proofs.Common.{◌≡◌, ◌↔◌, ◌⊎◌, ℕ, zero, suc, ◌+◌, ◌<◌, List, [], ◌∷◌, ◌++◌, length, map, get_or, Some, slice_get, Vec, Global, refl, sym, ap, ◌∙◌, subst, inl, inr, arith}
+use Rattle.std.proofs.Common.{◌≡◌, ℕ, zero, suc, ◌+◌, ◌<◌, List, [], ◌∷◌, ◌++◌, length, map, get_or, Some, slice_get, Vec, Global, refl, sym, ap, ◌∙◌, subst, arith}
 use Rattle.auto_table.specs.declared.entry.Entry.{Entry}
 use Rattle.auto_table.specs.declared.entry.Entry.TheVariants.{Base, Pushed}
 use Rattle.auto_table.specs.Cells.{Cells}
 use Rattle.call_side.specs.Words.{AreAt, Spells}
 use Rattle.call_side.proofs.Spelled.{SpellsFrom-holds}
-use Rattle.jim_ast.specs.Lists.{Has}
 use Rattle.post_star.specs.declared.bases.BaseStep.{BaseStep}
 use Rattle.post_star.specs.Jobs.{Job}
 use Rattle.post_star.specs.Readings.{IsSaturated}
 use Rattle.link_indexes.specs.Rows.{row}
 use Rattle.spds_solve.specs.Heads.{Begins, BeginsOne}
 use Rattle.spds_solve.specs.Searches.{HaveShared}
-use Rattle.spds_tables.specs.declared.numbered.Met.{Met}
+use Rattle.spds_tables.specs.declared.numbered.Met.{Met as Numbers}
 use Rattle.spds_tables.specs.declared.parts.Parts.{Parts}
 use Rattle.spds_tables.specs.declared.tables.SiteTables.{SiteTables}
 use Rattle.spds_tables.specs.Parts.{store_at}
@@ -65,15 +64,13 @@ row_last [] x = refl
 row_last (y ∷ xs) x = row_last xs x
 
 -- where no word fits, none is common
-pub no_shared : (parts : Parts) (tables : List SiteTables) (m : Met) (heads base : List Entry)
+pub no_shared : (parts : Parts) (tables : List SiteTables) (m : Numbers) (heads base : List Entry)
     → ((t : SiteTables) → slice_get tables m.object ≡ Some t → (word : List ℕ) → Reaches t.calls (store_at parts m.store).arg word → Begins heads word)
     → ((t : SiteTables) → slice_get tables m.base ≡ Some t → (word : List ℕ) → Reaches t.calls (store_at parts m.store).base word → Begins base word)
     → ((word : List ℕ) → Begins heads word → Begins base word → ⊥) → HaveShared parts tables m → ⊥
-no_shared parts tables m heads base a b none h = none h.shared.0 (a h.object h.object_is h.shared.0 h.shared.1) (b h.base h.base_is h.shared.0 h.shared.2)
-
--- a meet without a common string isn't put in
-pub met_refused : (old : List Met) (met : Met) (Shared : Met → Type 0) → (Shared met → ⊥) → (m : Met) → Has old m ↔ (Has old m ⊎ ((m ≡ met) × Shared m))
-met_refused old met Shared never m = ((λ h. inl h), (λ h. elim h [ inl a ↦ a | inr b ↦ absurd (never (subst Shared b.0 b.1)) ]))
+no_shared parts tables m heads base a b none h =
+    let s = h.1 in
+    none s.word (a s.object s.object_is s.word s.at_arg) (b s.base s.base_is s.word s.at_base)
 
 -- one more entry fits not
 pub fits_more : (first : Entry) (seconds : List Entry) (i : ℕ) (d : Entry) → i < length seconds → FitsNot first (get_or seconds i d)

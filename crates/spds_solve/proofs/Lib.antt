@@ -1,5 +1,9 @@
 pub mod SameKey
+pub mod Numbering
 pub mod Scanning
+pub mod Resting
+pub mod Opening
+pub mod Composing
 pub mod Whole
 pub mod Turns
 pub mod Answering

@@ -1,52 +1,58 @@
 -- Meets that are looked for one by one.
-use Rattle.std.proofs.Common.{◌≡◌, ◌+◌, ◌<◌, ◌↔◌, ◌⊎◌, ◌++◌, ◌∷◌, [], ℕ, Bool, true, false, true≢false, IsTrue, MatchBool, List, Some, slice_get, inl, inr, sym, ap, ◌∙◌, subst, append_assoc, arith}
+use Rattle.std.proofs.Common.{◌≡◌, ◌+◌, ◌<◌, ◌↔◌, ◌++◌, ◌∷◌, [], ℕ, zero, suc, Bool, true, false, true≢false, IsTrue, List, Some, slice_get, inl, inr, refl, sym, ap, ◌∙◌, subst, append_assoc, arith}
 use Rattle.std.proofs.lemmas.Bool.{cases_lt}
+use Rattle.std.proofs.lemmas.List.{append-nil}
 use Rattle.jim_ast.specs.Lists.{Has}
-use Rattle.link_indexes.proofs.Grown.{Has-push}
 use Rattle.link_rules.specs.Linked.{LinkedProgram}
 use Rattle.link_sites.specs.declared.site.Site.{Site}
 use Rattle.link_sites.specs.Sites.{HasField}
-use Rattle.spds_solve.specs.Searches.{HaveShared, IsBaseOf}
-use Rattle.spds_tables.specs.declared.numbered.Met.{Met}
+use Rattle.spds_solve.specs.declared.met.Met.{Met}
+use Rattle.spds_solve.specs.Mets.{numbers, numbers_of}
+use Rattle.spds_solve.specs.Searches.{HaveShared, IsBaseOf, IsFound, IsGrown}
+use Rattle.spds_solve.proofs.Numbering.{has_numbers, numbered_within}
+use Rattle.spds_tables.proofs.Lists.{Has-append, Has-left, Has-right}
+use Rattle.spds_tables.specs.declared.numbered.Met.{Met as Numbers}
 use Rattle.spds_tables.specs.declared.parts.Parts.{Parts}
 use Rattle.spds_tables.specs.declared.tables.SiteTables.{SiteTables}
 use Rattle.spds_tables.specs.Parts.{store_at}
 use Rattle.spds_tables.specs.Systems.{Reaches}
 
--- a meet by its numbers
-pub is_met : (x y : Met) → x.object ≡ y.object → x.base ≡ y.base → x.store ≡ y.store → x ≡ y
+-- numbers that are the same
+pub is_met : (x y : Numbers) → x.object ≡ y.object → x.base ≡ y.base → x.store ≡ y.store → x ≡ y
 is_met x y a b c =
     ap (λ (n : ℕ). record { object = n; base = x.base; store = x.store }) a ∙ ap (λ (n : ℕ). record { object = y.object; base = n; store = x.store }) b
     ∙ ap (λ (n : ℕ). record { object = y.object; base = y.base; store = n }) c
 
--- one more number was looked at
-pub bounded_more : {Now Was First Here Rest : Type 0} (i n : ℕ) → (Now ↔ (Was ⊎ Here)) → (Was ↔ (First ⊎ ((n < i) × Rest))) → (Here ↔ ((n ≡ i) × Rest))
-    → Now ↔ (First ⊎ ((n < i + 1) × Rest))
-bounded_more i n now was here = (
-  (λ h. elim (now.0 h) [
-    | inl o ↦ elim (was.0 o) [ inl f ↦ inl f | inr r ↦ inr ((let lt = r.0 in omega arith), r.1) ]
-    | inr x ↦ let r = here.0 x in inr ((let e = r.0 in omega arith), r.1)
-  ]),
-  (λ h. elim h [
-    | inl f ↦ now.1 (inl (was.1 (inl f)))
-    | inr r ↦ elim (cases_lt n i) [
-      | inl less ↦ now.1 (inl (was.1 (inr (less, r.1))))
-      | inr more ↦ now.1 (inr (here.1 ((let below = r.0 in omega arith), r.1)))
-    ]
-  ]),
-)
-
--- all that there are were looked at
-pub bounded_all : {Now First Rest : Type 0} (i n : ℕ) → (Now ↔ (First ⊎ ((n < i) × Rest))) → (Rest → n < i) → Now ↔ (First ⊎ Rest)
-bounded_all i n now below = (
-  (λ h. elim (now.0 h) [ inl f ↦ inl f | inr r ↦ inr r.1 ]),
-  (λ h. elim h [ inl f ↦ now.1 (inl f) | inr r ↦ now.1 (inr (below r, r)) ]),
-)
-
 -- lists that grow at their end
-pub behind_more : (first mid last : List Met) → (behind : List Met) × (mid ≡ first ++ behind) → (behind : List Met) × (last ≡ mid ++ behind)
-    → (behind : List Met) × (last ≡ first ++ behind)
-behind_more first mid last a b = (a.0 ++ b.0, b.1 ∙ ap (λ (xs : List Met). xs ++ b.0) a.1 ∙ append_assoc first a.0 b.0)
+module _ (p : LinkedProgram) (sites : List Site) (parts : Parts) (tables : List SiteTables) where
+  pub grown_none : (mets : List Met) → IsGrown p sites parts tables mets mets
+  grown_none mets = record { behind = []; are = sym (append-nil mets); each = λ met has. cc has.1 }
+
+  pub grown_one : (old new : List Met) (met : Met) → new ≡ old ++ met ∷ [] → IsFound p sites parts tables met → IsGrown p sites parts tables old new
+  grown_one old new met e found = record { behind = met ∷ []; are = e; each = λ x has. by x has.0 has.1 }
+    where
+      by : (x : Met) (i : ℕ) → slice_get (met ∷ []) i ≡ Some x → IsFound p sites parts tables x
+      by x zero at = let same : met ≡ x = cc in subst (IsFound p sites parts tables) same found
+      by x (suc i) at = cc
+
+  pub grown_more : (first mid last : List Met) → IsGrown p sites parts tables first mid → IsGrown p sites parts tables mid last → IsGrown p sites parts tables first last
+  grown_more first mid last a b = record {
+    behind = a.behind ++ b.behind;
+    are = b.are ∙ ap (λ (xs : List Met). xs ++ b.behind) a.are ∙ append_assoc first a.behind b.behind;
+    each = λ met has. elim (Has-append a.behind b.behind met has) [ inl x ↦ a.each met x | inr y ↦ b.each met y ];
+  }
+
+  -- what was there is there
+  pub grown_keeps : (old new : List Met) → IsGrown p sites parts tables old new → (m : Numbers) → Has (numbers_of old) m → Has (numbers_of new) m
+  grown_keeps old new g = numbered_within old new (λ met has. subst (λ (xs : List Met). Has xs met) (sym g.are) (Has-left old g.behind met has))
+
+-- what was put last is there
+pub last_there : (old new : List Met) (met : Met) → new ≡ old ++ met ∷ [] → Has (numbers_of new) (numbers met)
+last_there old new met e = has_numbers new met (subst (λ (xs : List Met). Has xs met) (sym e) (Has-right old (met ∷ []) met (0, refl)))
+
+-- a number below the next one is below the last one or is it
+pub below_more : {P : Type 0} (i n : ℕ) → n < i + 1 → (n < i → P) → (n ≡ i → P) → P
+below_more i n low below last = elim (cases_lt n i) [ inl less ↦ below less | inr more ↦ last (omega arith) ]
 
 -- what tables say of a base and of a store, as they are read
 module _ (p : LinkedProgram) (sites : List Site) (parts : Parts) (tables : List SiteTables) (base store : ℕ) (table : SiteTables)
@@ -64,29 +70,20 @@ module _ (p : LinkedProgram) (sites : List Site) (parts : Parts) (tables : List 
     (λ h. fields.1 (let same : h.table ≡ table = cc (h.table_is, table_is) in subst (λ (x : SiteTables). Reaches x.fields (store_at parts store).base []) same h.itself)),
   )
 
-pub shared_read : (parts : Parts) (tables : List SiteTables) (m : Met) (one two : SiteTables) → slice_get tables m.object ≡ Some one → slice_get tables m.base ≡ Some two
-    → (yes : Bool) → (IsTrue yes ↔ ((word : List ℕ) × Reaches one.calls (store_at parts m.store).arg word × Reaches two.calls (store_at parts m.store).base word))
-    → IsTrue yes ↔ HaveShared parts tables m
-shared_read parts tables m one two one_is two_is b same = (
-  (λ h. record { object = one; object_is = one_is; base = two; base_is = two_is; shared = same.0 h }),
-  (λ h. same.1 (
-      let x : h.object ≡ one = cc (h.object_is, one_is) in
-      let y : h.base ≡ two = cc (h.base_is, two_is) in (
-        h.shared.0,
-        subst (λ (z : SiteTables). Reaches z.calls (store_at parts m.store).arg h.shared.0) x h.shared.1,
-        subst (λ (z : SiteTables). Reaches z.calls (store_at parts m.store).base h.shared.0) y h.shared.2,
-      ))),
-)
+-- a base by numbers that are the same
+pub base_moved : (p : LinkedProgram) (sites : List Site) (parts : Parts) (tables : List SiteTables) (b base s store : ℕ) → b ≡ base → s ≡ store
+    → IsBaseOf p sites parts tables b s → IsBaseOf p sites parts tables base store
+base_moved p sites parts tables b base s store x y h =
+    subst (λ (n : ℕ). IsBaseOf p sites parts tables n store) x (subst (λ (n : ℕ). IsBaseOf p sites parts tables b n) y h)
 
--- a meet with a common string was put in
-pub met_added : (old new : List Met) (met : Met) (is_new : Bool) (Shared : Met → Type 0) → Shared met
-    → MatchBool is_new ((new ≡ old ++ met ∷ []) × (Has old met → ⊥)) ((new ≡ old) × Has old met) → (m : Met) → Has new m ↔ (Has old m ⊎ ((m ≡ met) × Shared m))
-met_added old new met true Shared shared put m =
-    let pushed = Has-push old met m in (
-      (λ has. elim (pushed.0 (subst (λ (xs : List Met). Has xs m) put.0 has)) [ inl a ↦ inl a | inr e ↦ inr (e, subst Shared (sym e) shared) ]),
-      (λ h. subst (λ (xs : List Met). Has xs m) (sym put.0) (elim h [ inl a ↦ pushed.1 (inl a) | inr b ↦ pushed.1 (inr b.0) ])),
-    )
-met_added old new met false Shared shared put m = (
-  (λ has. inl (subst (λ (xs : List Met). Has xs m) put.0 has)),
-  (λ h. subst (λ (xs : List Met). Has xs m) (sym put.0) (elim h [ inl a ↦ a | inr b ↦ subst (Has old) (sym b.0) put.1 ])),
-)
+module _ (parts : Parts) (tables : List SiteTables) (m : Numbers) (one two : SiteTables) (one_is : slice_get tables m.object ≡ Some one)
+    (two_is : slice_get tables m.base ≡ Some two) where
+  -- where no word is common, no string is
+  pub none_shared : ((word : List ℕ) → Reaches one.calls (store_at parts m.store).arg word → Reaches two.calls (store_at parts m.store).base word → ⊥)
+      → HaveShared parts tables m → ⊥
+  none_shared none h =
+      let s = h.1 in
+      let x : s.object ≡ one = cc (s.object_is, one_is) in
+      let y : s.base ≡ two = cc (s.base_is, two_is) in
+      none s.word (subst (λ (z : SiteTables). Reaches z.calls (store_at parts m.store).arg s.word) x s.at_arg)
+      (subst (λ (z : SiteTables). Reaches z.calls (store_at parts m.store).base s.word) y s.at_base)

@@ -1,10 +1,14 @@
 -- The search for meets, over settled tables.
-use Rattle.std.specs.Prelude.{◌≡◌, ◌<◌, ◌≤◌, ◌⊎◌, ◌++◌, ℕ, List, [], Some, length, slice_get}
+use Rattle.std.specs.Prelude.{◌≡◌, ◌<◌, ◌≤◌, ◌++◌, ℕ, List, [], Some, length, slice_get}
 use Rattle.jim_ast.specs.Lists.{Has}
 use Rattle.link_rules.specs.Linked.{LinkedProgram}
+use Rattle.link_sites.specs.declared.place.Place.{Place}
 use Rattle.link_sites.specs.declared.site.Site.{Site}
 use Rattle.link_sites.specs.Sites.{HasField}
-use Rattle.spds_tables.specs.declared.numbered.Met.{Met}
+use Rattle.spds_solve.specs.declared.met.Met.{Met}
+use Rattle.spds_solve.specs.Composing.{AreJoined}
+use Rattle.spds_solve.specs.Mets.{numbers, numbers_of, string_of}
+use Rattle.spds_tables.specs.declared.numbered.Met.{Met as Numbers}
 use Rattle.spds_tables.specs.declared.parts.Parts.{Parts}
 use Rattle.spds_tables.specs.declared.tables.SiteTables.{SiteTables}
 use Rattle.spds_tables.specs.Parts.{store_at}
@@ -20,46 +24,65 @@ pub record IsBaseOf (p : LinkedProgram) (sites : List Site) (parts : Parts) (tab
   pub itself : Reaches table.fields (store_at parts store).base []
   pub has : HasField p site (store_at parts store).field
 
--- one call string is at the argument and at the base
-pub record HaveShared (parts : Parts) (tables : List SiteTables) (m : Met) : Type 0 where
+-- the call string is at the argument and at the base
+pub record IsShared (parts : Parts) (tables : List SiteTables) (m : Numbers) (string : List Place) : Type 0 where
   pub object : SiteTables
   pub object_is : slice_get tables m.object ≡ Some object
   pub base : SiteTables
   pub base_is : slice_get tables m.base ≡ Some base
-  pub shared : (word : List ℕ) × Reaches object.calls (store_at parts m.store).arg word × Reaches base.calls (store_at parts m.store).base word
+  pub word : List ℕ
+  pub at_arg : Reaches object.calls (store_at parts m.store).arg word
+  pub at_base : Reaches base.calls (store_at parts m.store).base word
+  pub string_is : string ≡ string_of parts.places word
+
+-- one call string is
+abbrev pub HaveShared : Parts → List SiteTables → Numbers → Type 0
+HaveShared parts tables m = (string : List Place) × IsShared parts tables m string
 
 -- what the tables say may be stored
-abbrev pub IsCandidate : LinkedProgram → List Site → Parts → List SiteTables → Met → Type 0
+abbrev pub IsCandidate : LinkedProgram → List Site → Parts → List SiteTables → Numbers → Type 0
 IsCandidate p sites parts tables m = IsBaseOf p sites parts tables m.base m.store × HaveShared parts tables m
 
+-- what they say may be stored under the string
+pub record IsFound (p : LinkedProgram) (sites : List Site) (parts : Parts) (tables : List SiteTables) (met : Met) : Type 0 where
+  pub store : met.store < length parts.stores.items
+  pub base : IsBaseOf p sites parts tables met.base met.store
+  pub shared : IsShared parts tables (numbers met) met.string
+
+-- meets that they say may be stored were put last
+pub record IsGrown (p : LinkedProgram) (sites : List Site) (parts : Parts) (tables : List SiteTables) (old new : List Met) : Type 0 where
+  pub behind : List Met
+  pub are : new ≡ old ++ behind
+  pub each : (met : Met) → Has behind met → IsFound p sites parts tables met
+
 -- the tables of all sites over these meets
-pub record AllBuilt (parts : Parts) (mets : List Met) (tables : List SiteTables) : Type 0 where
+pub record AllBuilt (parts : Parts) (mets : List Numbers) (tables : List SiteTables) : Type 0 where
   pub count : length tables ≡ length parts.starts.items
   pub each : (site : ℕ) (t : SiteTables) → slice_get tables site ≡ Some t → AreBuilt parts site mets t
 
 -- and they have come to the end
-pub record AllSettled (parts : Parts) (mets : List Met) (tables : List SiteTables) : Type 0 where
+pub record AllSettled (parts : Parts) (mets : List Numbers) (tables : List SiteTables) : Type 0 where
   pub count : length tables ≡ length parts.starts.items
   pub each : (site : ℕ) (t : SiteTables) → slice_get tables site ≡ Some t → AreSettled parts site mets t
 
 -- the tables of the sites before one are settled over the meets, the others have some of these
-pub record AreRefreshed (parts : Parts) (old mets : List Met) (done : ℕ) (tables : List SiteTables) : Type 0 where
+pub record AreRefreshed (parts : Parts) (old mets : List Numbers) (done : ℕ) (tables : List SiteTables) : Type 0 where
   pub count : length tables ≡ length parts.starts.items
   pub settled : (site : ℕ) (t : SiteTables) → site < done → slice_get tables site ≡ Some t → AreSettled parts site mets t
   pub waiting : (site : ℕ) (t : SiteTables) → done ≤ site → slice_get tables site ≡ Some t → AreBuilt parts site old t
 
--- meets that were found in turns: those of a turn over tables that are settled over those before
+-- meets that were found in turns: those of a turn over tables that are settled over those before, and those that others give
 pub data AreFoundBy (p : LinkedProgram) (sites : List Site) (parts : Parts) : List Met → Type 0 where
   none : AreFoundBy p sites parts []
-  more : {mets : List Met} (first behind : List Met) (tables : List SiteTables) → AreFoundBy p sites parts first → AllSettled parts first tables
-      → ((m : Met) → Has behind m → Has first m ⊎ ((m.store < length parts.stores.items) × IsCandidate p sites parts tables m)) → mets ≡ first ++ behind
-      → AreFoundBy p sites parts mets
+  more : {mets : List Met} (first : List Met) (tables : List SiteTables) → AreFoundBy p sites parts first → AllSettled parts (numbers_of first) tables
+      → IsGrown p sites parts tables first mets → AreFoundBy p sites parts mets
+  composed : {mets : List Met} (first : List Met) → AreFoundBy p sites parts first → AreJoined first mets → AreFoundBy p sites parts mets
 
 -- tables over all meets, which no further turn adds to
 pub record IsComplete (p : LinkedProgram) (sites : List Site) (parts : Parts) (tables : List SiteTables) (mets : List Met) : Type 0 where
-  pub settled : AllSettled parts mets tables
+  pub settled : AllSettled parts (numbers_of mets) tables
   pub found : AreFoundBy p sites parts mets
-  pub closed : (m : Met) → m.store < length parts.stores.items → IsCandidate p sites parts tables m → Has mets m
+  pub closed : (m : Numbers) → m.store < length parts.stores.items → IsCandidate p sites parts tables m → Has (numbers_of mets) m
 
 -- the tables say that the node may hold an object of their site
 abbrev pub IsHeldOf : SiteTables → ℕ → Type 0

@@ -1,19 +1,22 @@
 -- What was solved: the meets, the answers, and the call systems of the sites.
-use Rattle.std.specs.Prelude.{◌≡◌, ◌↔◌, ℕ, List, Some, slice_get, true}
+use Rattle.std.specs.Prelude.{◌≡◌, ◌↔◌, ℕ, List, [], Some, slice_get, take, true}
 use Rattle.call_side.specs.Indexed.{BaseList}
 use Rattle.demand_set.specs.Demands.{DemandParts}
-use Rattle.jim_ast.specs.Lists.{Has}
+use Rattle.jim_ast.specs.Lists.{Has, IsApart}
 use Rattle.link_rules.specs.Linked.{LinkedProgram}
 use Rattle.link_sites.specs.declared.place.Place.{Place}
 use Rattle.link_sites.specs.declared.site.Site.{Site}
+use Rattle.link_sites.specs.Sites.{HasField}
 use Rattle.post_star.specs.Jobs.{Job}
 use Rattle.spds_rules.specs.declared.node.Node.{Node}
 use Rattle.spds_rules.specs.declared.store.StoreAt.{StoreAt}
 use Rattle.spds_rules.specs.Answers.{IsAnswered}
-use Rattle.spds_rules.specs.Demand.{Asked}
-use Rattle.spds_rules.specs.Systems.{Calls, Meets}
+use Rattle.spds_rules.specs.Demand.{Asked, StoreIn}
+use Rattle.spds_rules.specs.Systems.{Calls, InCalls, InFields, Meets}
 use Rattle.spds_solve.specs.declared.answers.Held.{Held}
-use Rattle.spds_tables.specs.declared.numbered.Met.{Met}
+use Rattle.spds_solve.specs.declared.met.Met.{Met}
+use Rattle.spds_solve.specs.Mets.{numbers_of}
+use Rattle.spds_tables.specs.declared.numbered.Met.{Met as Numbers}
 use Rattle.spds_tables.specs.declared.tables.SiteTables.{SiteTables}
 use Rattle.spds_tables.specs.Systems.{Reaches}
 use Rattle.weight_laws.specs.declared.reach.Reach.{Reach}
@@ -38,10 +41,44 @@ AreOfBases bases tables = (t : SiteTables) → Has tables t → IsOfBases bases 
 abbrev pub GivesBoth : Job Reach → ℕ → ℕ → Type 0
 GivesBoth job a b = (word : List ℕ) × Reaches job a word × Reaches job b word
 
+-- over meets, an object of one site may be stored into one of another under the call string: both may be there under it, the base as itself, and it
+-- has the field
+pub record StoresUnder (p : LinkedProgram) (q : Asked) (Meet : Site → Site → StoreAt → Type 0) (o base : Site) (s : StoreAt) (string : List Place) : Type 0 where
+  pub store : StoreIn p q s
+  pub at_arg : InCalls p q Meet o s.arg string
+  pub at_base : InCalls p q Meet base s.base string
+  pub is_base : InFields p q Meet base s.base []
+  pub has : HasField p base s.field
+
+-- the numbers of a meet stand for these sites and this store of the demand
+pub record StandsForMeet (d : DemandParts) (met : Met) (o base : Site) (s : StoreAt) : Type 0 where
+  pub object_is : slice_get d.sites met.object ≡ Some o
+  pub base_is : slice_get d.sites met.base ≡ Some base
+  pub store_is : slice_get d.stores met.store ≡ Some s
+
+-- some meet of the list stands for them
+abbrev pub IsListed : DemandParts → List Met → Site → Site → StoreAt → Type 0
+IsListed d mets o base s = (met : Met) × Has mets met × StandsForMeet d met o base s
+
+-- the meet may be stored under its string over those before it
+pub record RestsOn (p : LinkedProgram) (q : Asked) (d : DemandParts) (before : List Met) (met : Met) : Type 0 where
+  pub object : Site
+  pub base : Site
+  pub store : StoreAt
+  pub stands : StandsForMeet d met object base store
+  pub stores : StoresUnder p q (IsListed d before) object base store met.string
+
+-- the meets of the demand, each once, and each resting on those before it
+pub record AreMeets (p : LinkedProgram) (q : Asked) (d : DemandParts) (mets : List Met) : Type 0 where
+  pub exact : (o base : Site) (s : StoreAt) → IsListed d mets o base s ↔ Meets p q o base s
+  pub once : IsApart (numbers_of mets)
+  pub rests : (i : ℕ) (met : Met) → slice_get mets i ≡ Some met → RestsOn p q d (take i mets) met
+
 -- these are the meets of the demand, its answers, and the call systems of its sites
 pub record IsSolved (p : LinkedProgram) (q : Asked) (d : DemandParts) (s : SolvedParts) : Type 0 where
-  pub mets : (m : Met) (o base : Site) (store : StoreAt) → slice_get d.sites m.object ≡ Some o → slice_get d.sites m.base ≡ Some base
-      → slice_get d.stores m.store ≡ Some store → Has s.mets m ↔ Meets p q o base store
+  pub mets : AreMeets p q d s.mets
+  pub numbered : (m : Numbers) (o base : Site) (store : StoreAt) → slice_get d.sites m.object ≡ Some o → slice_get d.sites m.base ≡ Some base
+      → slice_get d.stores m.store ≡ Some store → Has (numbers_of s.mets) m ↔ Meets p q o base store
   pub held : (h : Held) (o : Site) (n : Node) → slice_get d.sites h.site ≡ Some o → slice_get d.nodes h.node ≡ Some n → Has s.held h ↔ IsAnswered p q n o
   pub calls : (site : ℕ) (o : Site) → slice_get d.sites site ≡ Some o → (job : Job Reach) × (slice_get s.calls site ≡ Some job)
       × ((a b : ℕ) (n m : Node) → slice_get d.nodes a ≡ Some n → slice_get d.nodes b ≡ Some m

@@ -2,12 +2,15 @@
 #![tactic(auto)]
 
 mod answers;
+mod compose;
 mod heads;
+mod met;
 mod mets;
 mod refresh;
 mod scan;
 mod solved;
 mod solver;
 
+pub use met::Met;
 pub use solved::Solved;
 pub use solver::solve;

@@ -1,29 +1,34 @@
 //! The meets that were found.
-ghost use Rattle.std.specs.Prelude.{◌≡◌, ◌↔◌, [], ◌++◌, ◌∷◌, IfOk, IsTrue, MatchBool};
+ghost use Rattle.std.specs.Prelude.{◌≡◌, ◌↔◌, [], ◌++◌, ◌∷◌, IsTrue, OnOk};
 ghost use Rattle.jim_ast.specs.Lists.{Has, IsApart};
+ghost use Rattle.spds_solve.specs.Mets.{numbers, numbers_of};
 
+use super::met::Met;
 use auto_table::NoMemory;
 use indexmap::IndexSet;
-use spds_tables::Met;
+use spds_tables::Met as Numbers;
 use std::alloc::Global;
 use std::marker::Model;
 
 /// Meets in the order in which they were found, each once.
 #[derive(Drop)]
 pub struct Mets {
-    keys: IndexSet<Met>,
+    /// Their numbers.
+    keys: IndexSet<Numbers>,
+    found: Vec<Met>,
 }
 
 impl Model for Mets {
-    ghost use Rattle.std.specs.Prelude.{List};
+    ghost use Rattle.std.specs.Prelude.{◌≡◌, List};
     ghost use Rattle.jim_ast.specs.Lists.{IsApart};
-    ghost use Rattle.spds_tables.specs.declared.numbered.Met.{Met};
+    ghost use Rattle.spds_solve.specs.Mets.{numbers_of};
+    ghost use Rattle.spds_solve.specs.declared.met.Met.{Met};
 
     ghost Value = { List Met };
 
-    ghost view = { λ s. s.keys.keys };
+    ghost view = { λ s. s.found.items };
 
-    ghost invariant = { λ s. IsApart s.keys.keys };
+    ghost invariant = { λ s. (s.keys.keys ≡ numbers_of s.found.items) × IsApart s.keys.keys };
 }
 
 impl Mets {
@@ -33,30 +38,41 @@ impl Mets {
     {
         Mets {
             keys: IndexSet::new(alloc),
+            found: Vec::new(alloc),
         }
     }
 
     /// The meets.
     pub fn as_slice(&self) -> &[Met]
         ensures value { result.now ≡ self.now }
-        ensures apart { IsApart self.now }
+        ensures apart { IsApart (numbers_of self.now) }
+    {
+        self.found.as_slice()
+    }
+
+    /// Their numbers.
+    pub fn numbers(&self) -> &[Numbers]
+        ensures { result.now ≡ numbers_of self.now }
     {
         self.keys.as_slice()
     }
 
-    /// Whether the meet is there. Takes no memory.
-    pub fn contains(&self, met: Met) -> bool
-        ensures { IsTrue result ↔ Has self.now met }
+    /// Whether the meet with these numbers is there. Takes no memory.
+    pub fn contains(&self, met: Numbers) -> bool
+        ensures { IsTrue result ↔ Has (numbers_of self.now) met }
     {
         self.keys.contains(&met)
     }
 
-    /// Puts a meet last, unless it is there already, and says whether it was new.
-    pub fn add(&mut self, met: Met) -> Result<bool, NoMemory>
-        ensures { IfOk result (λ is_new. MatchBool is_new
-            ((self.new ≡ self.old ++ met ∷ []) × (Has self.old met → ⊥))
-            ((self.new ≡ self.old) × Has self.old met)) }
+    /// Puts a meet last.
+    pub fn add(&mut self, met: Met) -> Result<(), NoMemory>
+        requires { Has (numbers_of self.old) (numbers met) → ⊥ }
+        ensures { OnOk result (self.new ≡ self.old ++ met ∷ []) }
     {
-        Ok(self.keys.insert(met)?)
+        let numbers = met.numbers();
+        self.keys.reserve(1)?;
+        self.found.push(met)?;
+        self.keys.insert(numbers)?;
+        Ok(())
     }
 }

@@ -1,8 +1,8 @@
 //! The tables of all sites.
-ghost use Rattle.std.specs.Prelude.{◌≡◌, ◌<◌, ◌≤◌, All, [], length, drop, take, IfOk, OnOk};
+ghost use Rattle.std.specs.Prelude.{◌≡◌, ◌<◌, ◌≤◌, ℕ, All, [], length, drop, take, IfOk, OnOk};
 ghost use Rattle.spds_solve.specs.Searches.{AllBuilt, AllSettled};
 ghost use Rattle.spds_tables.specs.Parts.{AreLedIn, IsInParts};
-ghost use Rattle.spds_tables.specs.Tables.{AreBuilt, AreSettled};
+ghost use Rattle.spds_tables.specs.Tables.{AreBuilt, AreOpenFor, AreSettled};
 
 use auto_table::NoMemory;
 use spds_tables::{Met, Parts, SiteTables};
@@ -33,6 +33,7 @@ fn bring(
     requires led { AreLedIn parts.now }
     requires mets { All (IsInParts parts.now) mets.now }
     requires taken { taken ≤ length mets.now }
+    requires opens { AreOpenFor parts.now site mets.now mets.now }
     requires built { AreBuilt parts.now site (take taken mets.now) tables.old }
     ensures { OnOk result (AreSettled parts.now site mets.now tables.new) }
 {
@@ -54,6 +55,7 @@ pub fn refresh(
     requires mets { All (IsInParts parts.now) mets.now }
     requires count { count ≡ length tables.old }
     requires taken { taken ≤ length mets.now }
+    requires opens { (site : ℕ) → AreOpenFor parts.now site mets.now mets.now }
     requires built { AllBuilt parts.now (take taken mets.now) tables.old }
     ensures { OnOk result (AllSettled parts.now mets.now tables.new) }
 {

@@ -1,21 +1,24 @@
 //! The search for further meets over settled tables.
-ghost use Rattle.std.specs.Prelude.{◌≡◌, ◌<◌, ◌≤◌, ◌↔◌, ◌⊎◌, ◌++◌, ℕ, List, Some, length, map, slice_get, IfOk, IsTrue, OnOk};
+ghost use Rattle.std.specs.Prelude.{◌≡◌, ◌<◌, ◌↔◌, ℕ, List, Some, length, map, slice_get, IfNone, IfOk, IfSome, IsTrue, OnOk};
 ghost use Rattle.jim_ast.specs.Lists.{Has};
 ghost use Rattle.link_indexes.specs.Rows.{row};
 ghost use Rattle.spds_solve.specs.Heads.{Begins, HaveHeads};
-ghost use Rattle.spds_solve.specs.Searches.{AllSettled, HaveShared, IsBaseOf, IsCandidate};
+ghost use Rattle.spds_solve.specs.Mets.{numbers_of};
+ghost use Rattle.spds_solve.specs.Searches.{AllSettled, HaveShared, IsBaseOf, IsCandidate, IsGrown, IsShared};
 ghost use Rattle.spds_tables.specs.declared.numbered.Met.{Met as AMet};
 ghost use Rattle.spds_tables.specs.declared.tables.SiteTables.{SiteTables as ATables};
 ghost use Rattle.spds_tables.specs.Parts.{store_at};
 ghost use Rattle.spds_tables.specs.Systems.{Reaches};
 
 use super::heads::{all_heads, heads_at, may_share};
+use super::met::{Met, call_string};
 use super::mets::Mets;
 use auto_table::{Entry, NoMemory};
+use jim_ast::List;
 use link_program::Linked;
-use link_sites::Site;
+use link_sites::{Place, Site};
 use spds_nodes::has_field;
-use spds_tables::{Met, Parts, SiteTables, share};
+use spds_tables::{Met as Numbers, Parts, SiteTables, shared_word};
 use std::alloc::Global;
 
 /// What the search looks at.
@@ -40,18 +43,23 @@ fn is_base(view: &View<'_>, base: u32, store: u32) -> bool
         && has_field(view.linked, view.sites[base as usize], stored.field)
 }
 
-/// Whether one call string is at the argument and at the base of the store.
-fn have_shared(alloc: Global, view: &View<'_>, met: Met) -> Result<bool, NoMemory>
+/// A call string that is at the argument and at the base of the store; `None` where there is none.
+fn shared_string(
+    alloc: Global,
+    view: &View<'_>,
+    met: Numbers,
+) -> Result<Option<List<Place>>, NoMemory>
     requires settled { (mets : List AMet) × AllSettled view.now.parts.now mets view.now.tables.now }
     requires object { met.object < length view.now.tables.now }
     requires base { met.base < length view.now.tables.now }
     requires store { met.store < length view.now.parts.now.stores.items }
-    ensures { IfOk result (λ yes. IsTrue yes ↔ HaveShared view.now.parts.now view.now.tables.now met) }
+    ensures some { IfOk result (λ r. IfSome r (IsShared view.now.parts.now view.now.tables.now met)) }
+    ensures none { IfOk result (λ r. IfNone r (HaveShared view.now.parts.now view.now.tables.now met → ⊥)) }
 {
     let stored = view.parts.stored(met.store);
     let object = &view.tables[met.object as usize];
     let base = &view.tables[met.base as usize];
-    let shared = share(
+    let shared = shared_word(
         alloc,
         &view.parts.bases,
         object,
@@ -59,7 +67,10 @@ fn have_shared(alloc: Global, view: &View<'_>, met: Met) -> Result<bool, NoMemor
         base,
         stored.base,
     )?;
-    Ok(shared)
+    match shared {
+        Some(word) => Ok(Some(call_string(alloc, &view.parts.places, &word)?)),
+        None => Ok(None),
+    }
 }
 
 /// What the call strings of a store's argument and of its base may begin with.
@@ -86,7 +97,7 @@ fn try_object(
     alloc: Global,
     view: &View<'_>,
     ends: &Ends<'_>,
-    met: Met,
+    met: Numbers,
     mets: &mut Mets,
 ) -> Result<(), NoMemory>
     requires settled { (mets : List AMet) × AllSettled view.now.parts.now mets view.now.tables.now }
@@ -96,8 +107,9 @@ fn try_object(
     requires args { HaveHeads view.now.tables.now (store_at view.now.parts.now met.store).arg (map (λ v. v.items) ends.now.args.now) }
     requires arg_count { length ends.now.args.now ≡ length view.now.tables.now }
     requires ends { (t : ATables) → slice_get view.now.tables.now met.base ≡ Some t → (word : List ℕ) → Reaches t.calls (store_at view.now.parts.now met.store).base word → Begins ends.now.base.now word }
-    ensures mets { OnOk result ((m : AMet) → Has mets.new m ↔ (Has mets.old m ⊎ ((m ≡ met) × HaveShared view.now.parts.now view.now.tables.now m))) }
-    ensures behind { OnOk result ((behind : List AMet) × (mets.new ≡ mets.old ++ behind)) }
+    requires itself { IsBaseOf view.now.linked.now view.now.sites.now view.now.parts.now view.now.tables.now met.base met.store }
+    ensures all { OnOk result (HaveShared view.now.parts.now view.now.tables.now met → Has (numbers_of mets.new) met) }
+    ensures grown { OnOk result (IsGrown view.now.linked.now view.now.sites.now view.now.parts.now view.now.tables.now mets.old mets.new) }
 {
     if !may_share(ends.args_at(met.object), ends.base) {
         return Ok(());
@@ -105,8 +117,13 @@ fn try_object(
     if mets.contains(met) {
         return Ok(());
     }
-    if have_shared(alloc, view, met)? {
-        mets.add(met)?;
+    if let Some(string) = shared_string(alloc, view, met)? {
+        mets.add(Met {
+            object: met.object,
+            base: met.base,
+            store: met.store,
+            string,
+        })?;
     }
     Ok(())
 }
@@ -128,12 +145,12 @@ fn try_objects(
     requires args { HaveHeads view.now.tables.now (store_at view.now.parts.now store).arg (map (λ v. v.items) ends.now.args.now) }
     requires arg_count { length ends.now.args.now ≡ length view.now.tables.now }
     requires ends { (t : ATables) → slice_get view.now.tables.now base ≡ Some t → (word : List ℕ) → Reaches t.calls (store_at view.now.parts.now store).base word → Begins ends.now.base.now word }
-    ensures mets { OnOk result ((m : AMet) → Has mets.new m
-        ↔ (Has mets.old m ⊎ ((m.base ≡ base) × (m.store ≡ store) × HaveShared view.now.parts.now view.now.tables.now m))) }
-    ensures behind { OnOk result ((behind : List AMet) × (mets.new ≡ mets.old ++ behind)) }
+    requires itself { IsBaseOf view.now.linked.now view.now.sites.now view.now.parts.now view.now.tables.now base store }
+    ensures all { OnOk result ((m : AMet) → m.base ≡ base → m.store ≡ store → HaveShared view.now.parts.now view.now.tables.now m → Has (numbers_of mets.new) m) }
+    ensures grown { OnOk result (IsGrown view.now.linked.now view.now.sites.now view.now.parts.now view.now.tables.now mets.old mets.new) }
 {
     for object in 0..count {
-        let met = Met {
+        let met = Numbers {
             object,
             base,
             store,
@@ -160,9 +177,9 @@ fn try_base(
     requires store { store < length view.now.parts.now.stores.items }
     requires args { HaveHeads view.now.tables.now (store_at view.now.parts.now store).arg (map (λ v. v.items) args.now) }
     requires arg_count { length args.now ≡ length view.now.tables.now }
-    ensures mets { OnOk result ((m : AMet) → Has mets.new m ↔ (Has mets.old m ⊎ ((m.base ≡ base) × (m.store ≡ store)
-        × IsCandidate view.now.linked.now view.now.sites.now view.now.parts.now view.now.tables.now m))) }
-    ensures behind { OnOk result ((behind : List AMet) × (mets.new ≡ mets.old ++ behind)) }
+    ensures all { OnOk result ((m : AMet) → m.base ≡ base → m.store ≡ store
+        → IsCandidate view.now.linked.now view.now.sites.now view.now.parts.now view.now.tables.now m → Has (numbers_of mets.new) m) }
+    ensures grown { OnOk result (IsGrown view.now.linked.now view.now.sites.now view.now.parts.now view.now.tables.now mets.old mets.new) }
 {
     if !is_base(view, base, store) {
         return Ok(());
@@ -186,9 +203,8 @@ fn try_bases(
     requires count { count ≡ length view.now.tables.now }
     requires sites { count ≡ length view.now.sites.now }
     requires store { store < length view.now.parts.now.stores.items }
-    ensures mets { OnOk result ((m : AMet) → Has mets.new m ↔ (Has mets.old m ⊎ ((m.store ≡ store)
-        × IsCandidate view.now.linked.now view.now.sites.now view.now.parts.now view.now.tables.now m))) }
-    ensures behind { OnOk result ((behind : List AMet) × (mets.new ≡ mets.old ++ behind)) }
+    ensures all { OnOk result ((m : AMet) → m.store ≡ store → IsCandidate view.now.linked.now view.now.sites.now view.now.parts.now view.now.tables.now m → Has (numbers_of mets.new) m) }
+    ensures grown { OnOk result (IsGrown view.now.linked.now view.now.sites.now view.now.parts.now view.now.tables.now mets.old mets.new) }
 {
     let args = all_heads(alloc, view.tables, count, view.parts.stored(store).arg)?;
     for base in 0..count {
@@ -209,9 +225,8 @@ pub fn try_stores(
     requires count { count ≡ length view.now.tables.now }
     requires sites { count ≡ length view.now.sites.now }
     requires stores { stores ≡ length view.now.parts.now.stores.items }
-    ensures mets { OnOk result ((m : AMet) → Has mets.new m ↔ (Has mets.old m ⊎ ((m.store < stores)
-        × IsCandidate view.now.linked.now view.now.sites.now view.now.parts.now view.now.tables.now m))) }
-    ensures behind { OnOk result ((behind : List AMet) × (mets.new ≡ mets.old ++ behind)) }
+    ensures all { OnOk result ((m : AMet) → m.store < stores → IsCandidate view.now.linked.now view.now.sites.now view.now.parts.now view.now.tables.now m → Has (numbers_of mets.new) m) }
+    ensures grown { OnOk result (IsGrown view.now.linked.now view.now.sites.now view.now.parts.now view.now.tables.now mets.old mets.new) }
 {
     for store in 0..stores {
         try_bases(alloc, view, count, store, mets)?;

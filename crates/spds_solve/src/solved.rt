@@ -9,12 +9,13 @@ ghost use Rattle.spds_rules.specs.declared.store.StoreAt.{StoreAt};
 ghost use Rattle.spds_rules.specs.Answers.{IsAnswered};
 ghost use Rattle.spds_rules.specs.Demand.{Asked};
 ghost use Rattle.spds_rules.specs.Systems.{Calls, Meets};
-ghost use Rattle.spds_solve.specs.Solved.{AreOfBases, IsSolved};
+ghost use Rattle.spds_solve.specs.Solved.{AreMeets, AreOfBases, IsSolved};
 
 use super::answers::{Answers, Held};
+use super::met::Met;
 use super::mets::Mets;
 use auto_table::NoMemory;
-use spds_tables::{Met, Parts, SiteTables, share};
+use spds_tables::{Met as Numbers, Parts, SiteTables, Size, share};
 use std::alloc::Global;
 use std::marker::Model;
 
@@ -25,6 +26,7 @@ pub struct Solved {
     tables: Vec<SiteTables>,
     mets: Mets,
     answers: Answers,
+    size: Size,
 }
 
 impl Model for Solved {
@@ -46,7 +48,13 @@ impl Model for Solved {
 
 impl Solved {
     /// What the search ended with.
-    pub fn of(parts: Parts, tables: Vec<SiteTables>, mets: Mets, answers: Answers) -> Self
+    pub fn of(
+        parts: Parts,
+        tables: Vec<SiteTables>,
+        mets: Mets,
+        answers: Answers,
+        size: Size,
+    ) -> Self
         requires { AreOfBases parts.bases tables.items }
         ensures { result ≡ record { calls = map (λ t. t.calls) tables.items; mets = mets; held = answers } }
     {
@@ -55,6 +63,7 @@ impl Solved {
             tables,
             mets,
             answers,
+            size,
         }
     }
 
@@ -71,11 +80,23 @@ impl Solved {
         ensures { (p : LinkedProgram) (q : Asked) (d : DemandParts) (o b : Site) (s : StoreAt) → IsSolved p q d self.now
             → slice_get d.sites object ≡ Some o → slice_get d.sites base ≡ Some b → slice_get d.stores store ≡ Some s → IsTrue result ↔ Meets p q o b s }
     {
-        self.mets.contains(Met {
+        self.mets.contains(Numbers {
             object,
             base,
             store,
         })
+    }
+
+    /// The meets, each with a call string, in an order in which each rests on those before it. Takes no memory.
+    pub fn meets(&self) -> &[Met]
+        ensures { (p : LinkedProgram) (q : Asked) (d : DemandParts) → IsSolved p q d self.now → AreMeets p q d result.now }
+    {
+        self.mets.as_slice()
+    }
+
+    /// How much the tables of all sites hold: a measure of the work that was done. No contract says how much it is.
+    pub fn size(&self) -> Size {
+        self.size
     }
 
     /// Whether an object of the site may be at both nodes under one call string.

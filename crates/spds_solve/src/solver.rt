@@ -5,13 +5,15 @@ ghost use Rattle.jim_ast.specs.Lists.{Has, IsApart};
 ghost use Rattle.link_rules.specs.WellLinked.{IsWellLinked};
 ghost use Rattle.spds_rules.specs.Demand.{Asked};
 ghost use Rattle.spds_solve.specs.declared.answers.Held.{Held as AHeld};
+ghost use Rattle.spds_solve.specs.Mets.{numbers_of};
 ghost use Rattle.spds_solve.specs.Searches.{AllBuilt, AllSettled, AreFoundBy, IsComplete, IsHeldOf};
 ghost use Rattle.spds_solve.specs.Solved.{IsSolved};
-ghost use Rattle.spds_tables.specs.declared.numbered.Met.{Met as AMet};
+ghost use Rattle.spds_solve.specs.declared.met.Met.{Met as AMet};
 ghost use Rattle.spds_tables.specs.declared.tables.SiteTables.{SiteTables as ATables};
 ghost use Rattle.spds_tables.specs.Parts.{AreLedIn, IsInParts};
 
 use super::answers::{Answers, Held};
+use super::compose::{Ways, compose};
 use super::mets::Mets;
 use super::refresh::{all_tables, refresh};
 use super::scan::{View, try_stores};
@@ -20,7 +22,7 @@ use auto_table::NoMemory;
 use demand_set::Demand;
 use link_program::Linked;
 use link_sites::Site;
-use spds_tables::{Parts, SiteTables, count_of};
+use spds_tables::{Parts, SiteTables, Size, count_of};
 use std::alloc::Global;
 
 /// Brings the tables to the end for all meets but those taken before, and looks for further meets; `false` says that there are none.
@@ -34,22 +36,23 @@ fn turn(
     taken: usize,
 ) -> Result<bool, NoMemory>
     requires led { AreLedIn parts.now }
-    requires mets { All (IsInParts parts.now) mets.old }
+    requires mets { All (IsInParts parts.now) (numbers_of mets.old) }
     requires taken { taken ≤ length mets.old }
     requires sites { length sites.now ≡ length parts.now.starts.items }
-    requires built { AllBuilt parts.now (take taken mets.old) tables.old.items }
-    ensures settled { OnOk result (AllSettled parts.now mets.old tables.new.items) }
-    ensures mets { OnOk result (All (IsInParts parts.now) mets.new) }
-    ensures apart { OnOk result (IsApart mets.new) }
+    requires found { AreFoundBy linked.now sites.now parts.now mets.old }
+    requires built { AllBuilt parts.now (take taken (numbers_of mets.old)) tables.old.items }
+    ensures settled { OnOk result (AllSettled parts.now (numbers_of mets.old) tables.new.items) }
+    ensures mets { OnOk result (All (IsInParts parts.now) (numbers_of mets.new)) }
+    ensures apart { OnOk result (IsApart (numbers_of mets.new)) }
     ensures behind { OnOk result ((behind : List AMet) × (mets.new ≡ mets.old ++ behind)) }
-    ensures found { OnOk result (AreFoundBy linked.now sites.now parts.now mets.old → AreFoundBy linked.now sites.now parts.now mets.new) }
+    ensures found { OnOk result (AreFoundBy linked.now sites.now parts.now mets.new) }
     ensures more { result ≡ Ok true → length mets.old < length mets.new }
-    ensures done { result ≡ Ok false → AreFoundBy linked.now sites.now parts.now mets.old → IsComplete linked.now sites.now parts.now tables.new.items mets.new }
+    ensures done { result ≡ Ok false → IsComplete linked.now sites.now parts.now tables.new.items mets.new }
 {
     let count = count_of(tables.len())?;
     let stores = count_of(parts.stores.len())?;
     let before = mets.as_slice().len();
-    refresh(alloc, parts, tables, count, taken, mets.as_slice())?;
+    refresh(alloc, parts, tables, count, taken, mets.numbers())?;
     let view = View {
         linked,
         sites,
@@ -60,7 +63,7 @@ fn turn(
     Ok(mets.as_slice().len() > before)
 }
 
-/// Goes on in turns until no further meet is found.
+/// Goes on in turns until no further meet is found. Before each turn what the meets give by themselves is put in.
 fn search(
     alloc: Global,
     linked: &Linked,
@@ -73,11 +76,14 @@ fn search(
     requires sites { length sites.now ≡ length parts.now.starts.items }
     requires built { AllBuilt parts.now [] tables.old.items }
     requires none { mets.old ≡ [] }
-    ensures { OnOk result (IsComplete linked.now sites.now parts.now tables.new.items mets.new) }
+    ensures complete { OnOk result (IsComplete linked.now sites.now parts.now tables.new.items mets.new) }
+    ensures apart { OnOk result (IsApart (numbers_of mets.new)) }
 {
     let mut taken = 0;
+    let mut ways = Ways::new(alloc);
     let mut goes_on = true;
     while goes_on {
+        compose(alloc, &mut ways, mets)?;
         let before = mets.as_slice().len();
         goes_on = turn(alloc, linked, sites, parts, tables, mets, taken)?;
         taken = before;
@@ -117,6 +123,17 @@ fn all_answers(alloc: Global, tables: &[SiteTables], answers: &mut Answers) -> R
     Ok(())
 }
 
+/// How much the tables of all sites hold.
+fn whole_size(tables: &[SiteTables]) -> Size
+    requires { (t : ATables) → Has tables.now t → (t.fields.settled ≡ true) × (t.fields.last ≡ 0) × (t.calls.settled ≡ true) }
+{
+    let mut size = Size::none();
+    for site in tables {
+        size = size.plus(site.size());
+    }
+    size
+}
+
 /// The meets of the demand and the two systems of its sites, exactly. Want of memory is the only refusal.
 pub fn solve(alloc: Global, linked: &Linked, demand: &Demand) -> Result<Solved, NoMemory>
     requires well { IsWellLinked linked.now }
@@ -136,5 +153,6 @@ pub fn solve(alloc: Global, linked: &Linked, demand: &Demand) -> Result<Solved, 
     )?;
     let mut answers = Answers::new(alloc);
     all_answers(alloc, &tables, &mut answers)?;
-    Ok(Solved::of(parts, tables, mets, answers))
+    let size = whole_size(&tables);
+    Ok(Solved::of(parts, tables, mets, answers, size))
 }

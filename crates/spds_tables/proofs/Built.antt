@@ -1,12 +1,11 @@
 -- What is put into the tables of a site.
-use Rattle.std.proofs.Common.{◌≡◌, ℕ, zero, suc, ◌<◌, Bool, true, false, true≢false, ◌↔◌, ◌⊎◌, List, [], ◌∷◌, ◌++◌, length, get_or, map, refl, sym, ap, ◌∙◌, subst, inl, inr, ◌≤◌, eq-eqb, length-append, if◌then◌else◌, arith, IsTrue, Vec, Global}
+use Rattle.std.proofs.Common.{◌≡◌, ℕ, zero, suc, ◌<◌, Bool, true, false, true≢false, ◌↔◌, ◌⊎◌, List, [], ◌∷◌, ◌++◌, length, get_or, map, take, refl, sym, ap, ◌+◌, ◌∙◌, subst, inl, inr, ◌≤◌, append_assoc, eq-eqb, length-append, if◌then◌else◌, arith, IsTrue, Vec, Global}
 use Rattle.std.specs.List.{flat_map, list_any}
 use Rattle.std.proofs.lemmas.Bool.Decides.{eqb_tells}
-use Rattle.std.proofs.lemmas.List.{append-nil, flat_map_more}
+use Rattle.std.proofs.lemmas.List.{append-nil, flat_map_more, take_more}
 use Rattle.demand_walk.proofs.Counts.{length-IsApart}
 use Rattle.link_indexes.proofs.Grown.{Has-push}
-use Rattle.link_laws.proofs.Lists.{all_at, at_all, map_at}
-use Rattle.std.specs.List.{All}
+use Rattle.link_laws.proofs.Lists.{map_at}
 use Rattle.spds_tables.specs.declared.numbered.Jump.{Jump}
 use Rattle.auto_table.specs.declared.rule.Rule.{Rule}
 use Rattle.jim_ast.specs.Lists.{Has, IsApart}
@@ -18,8 +17,9 @@ use Rattle.spds_tables.specs.declared.numbered.StartAt.{StartAt}
 use Rattle.spds_tables.specs.declared.parts.Parts.{Parts}
 use Rattle.spds_tables.specs.declared.tables.SiteTables.{SiteTables}
 use Rattle.spds_tables.specs.Parts.{AreLedIn, call_start, candidates, field_start, pushes_for, pushes_of, pushes_over, start_rows, starts_at}
-use Rattle.spds_tables.specs.Tables.{AreAdded, AreBuilt, AreSettled, IsAskedOf, IsCallJob, IsFieldJob, Opens, settled_of, settled_tables}
-use Rattle.spds_tables.proofs.Lists.{Has-left, Has-right}
+use Rattle.spds_tables.specs.Tables.{AreAdded, AreBuilt, AreBuiltWithin, AreOpenFor, AreSettled, IsAskedOf, IsCallJob, IsFieldJob, IsStoredTo, Opens, settled_of, settled_tables}
+use Rattle.spds_tables.proofs.Lists.{Has-left, Has-right, has-read}
+use Rattle.spds_tables.proofs.Questions.{has_one}
 use Rattle.auto_table.proofs.Keys.{Has-list_any}
 use Rattle.spds_tables.specs.contracts.numbered.StartAtPartialEq.TheImpl.{eq-value}
 use Rattle.spds_tables.proofs.SameStart.{same, self}
@@ -129,10 +129,27 @@ module _ (parts : Parts) (site : ℕ) where
   pub undone : {P : Type 0} (b : Bool) → b ≡ false → IsTrue b → P
   undone b e h = absurd (true≢false (sym h ∙ e))
 
-  pub met_taken : (mets : List Met) (m : Met) (t : SiteTables) (job : Job Reach) (own : Vec Met Global) → own.items ≡ t.mets.items ++ m ∷ [] → m.object ≡ site
-      → AreAdded (pushes_of parts m) [] t.fields job → AreBuilt parts site mets t
-      → AreBuilt parts site (mets ++ m ∷ []) (record t { fields = job; mets = own; done = false })
-  met_taken mets m t job own is e a b = record {
+  -- start nodes that open over some meets open over more
+  pub within_more : (mets few more : List Met) (t : SiteTables) → ((m : Met) → Has few m → Has more m) → AreBuiltWithin parts site mets few t → AreBuiltWithin parts site mets more t
+  within_more mets few more t f b = record {
+    fields = b.fields;
+    calls = b.calls;
+    opened = λ s has. opens_more few more f (b.opened s has);
+    own = b.own;
+    stored = b.stored;
+    apart = b.apart;
+    own_mets = b.own_mets;
+    done = b.done;
+  }
+
+  -- the bases of a front are among those of the whole
+  pub open_front : (few more all : List Met) → ((m : Met) → Has few m → Has more m) → AreOpenFor parts site more all → AreOpenFor parts site few all
+  open_front few more all f opens m has = opens m (f m has)
+
+  pub met_taken : (mets all : List Met) (m : Met) (t : SiteTables) (job : Job Reach) (own : Vec Met Global) → own.items ≡ t.mets.items ++ m ∷ [] → m.object ≡ site
+      → AreAdded (pushes_of parts m) [] t.fields job → t.done ≡ false → ((s : StartAt) → Has (starts_at parts m.base) s → Has t.begun s)
+      → AreBuiltWithin parts site mets all t → AreBuiltWithin parts site (mets ++ m ∷ []) all (record t { fields = job; mets = own })
+  met_taken mets all m t job own is e a undone_yet begun b = record {
     fields = record {
       steps = a.steps ∙ b.fields.steps;
       last = a.last ∙ b.fields.last;
@@ -140,15 +157,20 @@ module _ (parts : Parts) (site : ℕ) where
       starts = a.starts_are ∙ append-nil t.fields.starts ∙ b.fields.starts;
     };
     calls = b.calls;
-    opened = λ s has. opens_more mets (mets ++ m ∷ []) (λ x. Has-left mets (m ∷ []) x) (b.opened s has);
+    opened = b.opened;
     own = b.own;
+    stored = λ x has s among. elim ((Has-push t.mets.items m x).0 (subst (λ (xs : List Met). Has xs x) is has)) [
+      | inl old ↦ b.stored x old s among
+      | inr new ↦ begun s (subst (λ (y : Met). Has (starts_at parts y.base) s) new among)
+    ];
     apart = b.apart;
     own_mets = own_taken mets t.mets.items own.items m e is b.own_mets;
-    done = undone false refl;
+    done = undone t.done undone_yet;
   }
 
-  pub met_passed : (mets : List Met) (m : Met) (t : SiteTables) → (m.object ≡ site → ⊥) → AreBuilt parts site mets t → AreBuilt parts site (mets ++ m ∷ []) t
-  met_passed mets m t n b = record {
+  pub met_passed : (mets all : List Met) (m : Met) (t : SiteTables) → (m.object ≡ site → ⊥) → AreBuiltWithin parts site mets all t
+      → AreBuiltWithin parts site (mets ++ m ∷ []) all t
+  met_passed mets all m t n b = record {
     fields = record {
       steps = b.fields.steps;
       last = b.fields.last;
@@ -156,12 +178,25 @@ module _ (parts : Parts) (site : ℕ) where
       starts = b.fields.starts;
     };
     calls = b.calls;
-    opened = λ s has. opens_more mets (mets ++ m ∷ []) (λ x. Has-left mets (m ∷ []) x) (b.opened s has);
+    opened = b.opened;
     own = b.own;
+    stored = b.stored;
     apart = b.apart;
     own_mets = own_passed mets t.mets.items m n b.own_mets;
     done = b.done;
   }
+
+  -- one more meet of a list was taken in
+  pub caught_more : (first mets all : List Met) (i : ℕ) (d : Met) (old new : SiteTables) → i < length mets
+      → ((some : List Met) → AreBuiltWithin parts site some all old → AreOpenFor parts site (get_or mets i d ∷ []) all
+      → AreBuiltWithin parts site (some ++ get_or mets i d ∷ []) all new)
+      → AreOpenFor parts site mets all → AreBuiltWithin parts site (first ++ take i mets) all old → AreBuiltWithin parts site (first ++ take (i + 1) mets) all new
+  caught_more first mets all i d old new below takes opens built =
+      let m = get_or mets i d in
+      let front : first ++ take (i + 1) mets ≡ (first ++ take i mets) ++ m ∷ [] =
+      ap (λ (xs : List Met). first ++ xs) (take_more mets i d below) ∙ sym (append_assoc first (take i mets) (m ∷ [])) in
+      subst (λ (xs : List Met). AreBuiltWithin parts site xs all new) (sym front)
+      (takes (first ++ take i mets) built (open_front (m ∷ []) mets all (λ x has. subst (Has mets) (sym (has_one m x has)) (has-read mets i d below)) opens))
 
   -- what opens is one of the nodes that may
   pub opens_among : (mets : List Met) {s : StartAt} → Opens parts site mets s → Has (candidates parts) s
@@ -177,6 +212,10 @@ module _ (parts : Parts) (site : ℕ) where
   pub built_few : (mets : List Met) (t : SiteTables) → AreBuilt parts site mets t → length t.begun ≤ length (candidates parts)
   built_few mets t b = length-IsApart t.begun (candidates parts) b.apart (λ s has. opens_among mets (b.opened s has))
 
+  -- what stores ask for is begun already
+  pub stored_begun : (mets : List Met) (t : SiteTables) → AreBuilt parts site mets t → (s : StartAt) → IsStoredTo parts site mets t.calls s → Has t.begun s
+  stored_begun mets t b s h = b.stored h.met ((b.own_mets h.met).1 (h.has, h.object)) s h.among
+
   -- settling changes neither rules nor starts
   pub settled_built : (mets : List Met) (t : SiteTables) → AreBuilt parts site mets t → AreBuilt parts site mets (settled_tables t)
   settled_built mets t b = record {
@@ -184,6 +223,7 @@ module _ (parts : Parts) (site : ℕ) where
     calls = record { steps = b.calls.steps; last = b.calls.last; rules = b.calls.rules; starts = b.calls.starts };
     opened = b.opened;
     own = b.own;
+    stored = b.stored;
     apart = b.apart;
     own_mets = b.own_mets;
     done = λ h. let d = b.done h in record { fields = refl; calls = refl; closed = λ s asks. d.closed s (asked_settled t.mets.items t.calls s asks) };
@@ -203,6 +243,7 @@ module _ (parts : Parts) (site : ℕ) where
       calls = h.built.calls;
       opened = h.built.opened;
       own = h.built.own;
+      stored = h.built.stored;
       apart = h.built.apart;
       own_mets = h.built.own_mets;
       done = λ _. record {
@@ -217,23 +258,20 @@ module _ (parts : Parts) (site : ℕ) where
   }
 
   -- further start nodes
-  pub begun_built : (mets : List Met) (t : SiteTables) (job : Job Reach) (begun starts : List StartAt) → job.steps ≡ t.calls.steps → job.last ≡ t.calls.last
+  pub begun_built : (mets all : List Met) (t : SiteTables) (job : Job Reach) (begun starts : List StartAt) → job.steps ≡ t.calls.steps → job.last ≡ t.calls.last
       → job.rules ≡ t.calls.rules → job.starts ≡ map call_start begun → ((s : StartAt) → Has begun s ↔ (Has t.begun s ⊎ Has starts s))
-      → (IsApart t.begun → IsApart begun) → AreBuilt parts site mets t → ((s : StartAt) → Has starts s → Opens parts site mets s)
-      → AreBuilt parts site mets (record t { calls = job; begun = begun; done = false })
-  begun_built mets t job begun starts steps last rules tied now apart b opens = record {
+      → (IsApart t.begun → IsApart begun) → AreBuiltWithin parts site mets all t → ((s : StartAt) → Has starts s → Opens parts site all s)
+      → AreBuiltWithin parts site mets all (record t { calls = job; begun = begun; done = false })
+  begun_built mets all t job begun starts steps last rules tied now apart b opens = record {
     fields = b.fields;
     calls = record { steps = steps ∙ b.calls.steps; last = last ∙ b.calls.last; rules = rules ∙ b.calls.rules; starts = tied };
     opened = λ s has. elim ((now s).0 has) [ inl a ↦ b.opened s a | inr x ↦ opens s x ];
     own = λ s has. (now s).1 (inl (b.own s has));
+    stored = λ m has s among. (now s).1 (inl (b.stored m has s among));
     apart = apart b.apart;
     own_mets = b.own_mets;
     done = undone false refl;
   }
-
--- what holds of all meets holds of the site's own
-pub all_own : (P : Met → Type 0) (mets own : List Met) (site : ℕ) → ((x : Met) → Has own x ↔ (Has mets x × (x.object ≡ site))) → All P mets → All P own
-all_own P mets own site was all = all_at P own (λ i x at. let h = (was x).0 (i, at) in at_all P mets h.0.0 x all h.0.1)
 
 -- a list that an element was new to has grown
 pub grown_longer : (old new behind : List StartAt) (s : StartAt) → new ≡ old ++ behind → Has new s → (Has old s → ⊥) → length old < length new

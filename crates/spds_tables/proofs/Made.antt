@@ -307,8 +307,8 @@ pub parts_made : (p : LinkedProgram) (q : Asked) (d : DemandParts) (is : IsDeman
     → AreGathered IsJumpAt edges parts.jumps.items → length parts.starts.items ≡ length d.sites
     → ((site : ℕ) (o : Site) → slice_get d.sites site ≡ Some o → (s : StartAt) → Has (starts_at parts site) s ↔ IsStartHere p d.nodes o s)
     → Each (IsStoreOf d.nodes) d.stores parts.stores.items → AreStrings p calls parts.bases.steps → IsLast p parts.bases.last
-    → AreParts p q (names_of d calls) parts
-parts_made p q d is calls are_calls parts edges each fields rules jumps count starts stores strings last = record {
+    → parts.places ≡ calls → AreParts p q (names_of d calls) parts
+parts_made p q d is calls are_calls parts edges each fields rules jumps count starts stores strings last places = record {
   field_rules = λ r. rw fields (field_made p q d is calls are_calls edges each r);
   call_rules = call_made p q d is calls are_calls edges each parts.calls.value.rules rules;
   jumps = jumps_made p q d is calls are_calls edges each parts.jumps.items jumps;
@@ -321,4 +321,5 @@ parts_made p q d is calls are_calls parts edges each fields rules jumps count st
   store_count = sym stores.as_many;
   strings = strings;
   last = last;
+  places = places;
 }

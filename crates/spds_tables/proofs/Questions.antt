@@ -1,14 +1,11 @@
 -- What a call system asks for, taken one by one.
-use Rattle.std.proofs.Common.{◌≡◌, ℕ, zero, suc, ◌+◌, ◌<◌, ◌↔◌, ◌⊎◌, List, [], ◌∷◌, ◌++◌, length, get_or, take, Some, slice_get, refl, ap, ◌∙◌, subst, inl, inr}
+use Rattle.std.proofs.Common.{◌≡◌, ℕ, zero, suc, ◌+◌, ◌<◌, ◌↔◌, ◌⊎◌, List, [], ◌∷◌, ◌++◌, length, get_or, take, Some, slice_get, refl, sym, ap, ◌∙◌, subst, inl, inr}
 use Rattle.jim_ast.specs.Lists.{Has}
 use Rattle.link_indexes.proofs.Grown.{Has-push}
 use Rattle.post_star.specs.Jobs.{Job}
 use Rattle.spds_tables.specs.declared.numbered.Jump.{Jump}
-use Rattle.spds_tables.specs.declared.numbered.Met.{Met}
 use Rattle.spds_tables.specs.declared.numbered.StartAt.{StartAt}
-use Rattle.spds_tables.specs.declared.parts.Parts.{Parts}
-use Rattle.spds_tables.specs.Parts.{starts_at, store_at}
-use Rattle.spds_tables.specs.Tables.{ArrivesAt, IsJumpedTo, IsStoredTo}
+use Rattle.spds_tables.specs.Tables.{ArrivesAt, IsJumpedTo}
 use Rattle.spds_tables.proofs.Lists.{Has-take_more}
 use Rattle.weight_laws.specs.declared.reach.Reach.{Reach}
 
@@ -82,36 +79,7 @@ module _ (job : Job Reach) (s : StartAt) where
       let e = has_one jump h.jump h.has in
       (h.to_is ∙ ap (λ (j : Jump). j.to) e, subst (λ (j : Jump). ArrivesAt job j.from) e h.arrives)
 
-  module _ (parts : Parts) (site : ℕ) where
-    stored_of : (few more : List Met) → ((m : Met) → Has few m → Has more m) → IsStoredTo parts site few job s → IsStoredTo parts site more job s
-    stored_of few more f h = record { met = h.met; has = f h.met h.has; object = h.object; arrives = h.arrives; among = h.among }
-
-    -- by the meets of a front
-    pub stored_more : (mets : List Met) (i : ℕ) (d : Met) → i < length mets
-        → IsStoredTo parts site (take (i + 1) mets) job s ↔ (IsStoredTo parts site (take i mets) job s ⊎ IsStoredTo parts site (get_or mets i d ∷ []) job s)
-    stored_more mets i d below = (
-      (λ h. elim ((Has-take_more mets i d h.met below).0 h.has) [
-        | inl a ↦ inl (record { met = h.met; has = a; object = h.object; arrives = h.arrives; among = h.among })
-        | inr e ↦ inr (record {
-          met = h.met;
-          has = subst (λ (m : Met). Has (m ∷ []) h.met) e (one_has h.met);
-          object = h.object;
-          arrives = h.arrives;
-          among = h.among;
-        })
-      ]),
-      (λ h. elim h [
-        | inl a ↦ stored_of (take i mets) (take (i + 1) mets) (λ m has. (Has-take_more mets i d m below).1 (inl has)) a
-        | inr b ↦ stored_of (get_or mets i d ∷ []) (take (i + 1) mets) (λ m has. (Has-take_more mets i d m below).1 (inr (has_one _ m has))) b
-      ]),
-    )
-
-    -- one meet
-    pub stored_one : (met : Met) → met.object ≡ site → ArrivesAt job (store_at parts met.store).arg → Has (starts_at parts met.base) s
-        → IsStoredTo parts site (met ∷ []) job s
-    stored_one met object arrives among = record { met = met; has = one_has met; object = object; arrives = arrives; among = among }
-
-    pub one_stored : (met : Met) → IsStoredTo parts site (met ∷ []) job s
-        → (met.object ≡ site) × ArrivesAt job (store_at parts met.store).arg × Has (starts_at parts met.base) s
-    one_stored met h = subst (λ (m : Met). (m.object ≡ site) × ArrivesAt job (store_at parts m.store).arg × Has (starts_at parts m.base) s)
-        (has_one met h.met h.has) (h.object, h.arrives, h.among)
+-- where the call system begins at all nodes that static fields come to, no new one is asked for
+pub jumped_begun : (jumps : List Jump) (job : Job Reach) (begun : List StartAt) → ((j : Jump) → Has jumps j → Has begun j.to) → (s : StartAt)
+    → IsJumpedTo jumps job s → Has begun s
+jumped_begun jumps job begun all s h = subst (Has begun) (sym h.to_is) (all h.jump h.has)

@@ -106,16 +106,11 @@ module _ (steps : List BaseStep) (last : ℕ) (t : Cells Reach) (node : ℕ) whe
     above = at_below;
   }
 
--- a word that two tables hold was looked for
-pub shared_found : (First Second : List ℕ → Type 0) (steps : List BaseStep) (last : ℕ) (a b : Cells Reach) (n m : ℕ)
-    → ((word : List ℕ) → Holds steps last a n word ↔ First word) → ((word : List ℕ) → Holds steps last b m word ↔ Second word)
-    → (r : Option (Vec ℕ Global)) → IfSome r (λ word. Holds steps last a n word.items) → IfSome r (λ word. Holds steps last b m word.items)
-    → IfNone r ((word : List ℕ) → Holds steps last a n word → Holds steps last b m word → ⊥)
-    → IsTrue (is_some r) ↔ ((word : List ℕ) × First word × Second word)
-shared_found First Second steps last a b n m first second (Some word) p q nothing =
-    ((λ _. (word.items, (first word.items).0 p, (second word.items).0 q)), (λ _. refl))
-shared_found First Second steps last a b n m first second None p q nothing =
-    ((λ h. absurd (true≢false (sym h))), (λ w. absurd (nothing w.0 ((first w.0).1 w.1) ((second w.0).1 w.2))))
+-- a common word was looked for
+pub word_found : (First Second : List ℕ → Type 0) (r : Option (Vec ℕ Global)) → IfSome r (λ word. First word.items) → IfSome r (λ word. Second word.items)
+    → IfNone r ((word : List ℕ) → First word → Second word → ⊥) → IsTrue (is_some r) ↔ ((word : List ℕ) × First word × Second word)
+word_found First Second (Some word) p q nothing = ((λ _. (word.items, p, q)), (λ _. refl))
+word_found First Second None p q nothing = ((λ h. absurd (true≢false (sym h))), (λ w. absurd (nothing w.0 w.1 w.2)))
 
 -- the nodes of the row of the last base are those at which the empty word is derived
 pub row_derives : (rules : List (Rule Reach)) (starts : List (Start Reach)) (steps : List BaseStep) (last : ℕ) (t : Cells Reach)

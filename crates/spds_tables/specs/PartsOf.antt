@@ -66,6 +66,7 @@ pub record AreParts (p : LinkedProgram) (q : Asked) (names : Names) (parts : Par
   pub store_count : length parts.stores.items ≡ length names.stores
   pub strings : AreStrings p names.calls parts.bases.steps
   pub last : IsLast p parts.bases.last
+  pub places : parts.places ≡ names.calls
 
 -- the names of a demand
 abbrev pub names_of : DemandParts → List Place → Names

@@ -74,15 +74,24 @@ pub record AreDone (parts : Parts) (site : ℕ) (t : SiteTables) : Type 0 where
   pub calls : t.calls.settled ≡ true
   pub closed : (s : StartAt) → IsAskedOf parts site t.mets.items t.calls s → Has t.begun s
 
--- the tables are of these systems, from start nodes that the site comes to have, its own among them
-pub record AreBuilt (parts : Parts) (site : ℕ) (mets : List Met) (t : SiteTables) : Type 0 where
+-- the start nodes of the bases of these meets of the site are ones that it comes to have over all meets
+abbrev pub AreOpenFor : Parts → ℕ → List Met → List Met → Type 0
+AreOpenFor parts site mets all = (m : Met) → Has mets m → m.object ≡ site → (s : StartAt) → Has (starts_at parts m.base) s → Opens parts site all s
+
+-- the tables are of the systems over these meets, from start nodes that the site comes to have over all meets: its own and those of the bases among them
+pub record AreBuiltWithin (parts : Parts) (site : ℕ) (mets all : List Met) (t : SiteTables) : Type 0 where
   pub fields : IsFieldJob parts site mets t.fields
   pub calls : IsCallJob parts t.begun t.calls
-  pub opened : (s : StartAt) → Has t.begun s → Opens parts site mets s
+  pub opened : (s : StartAt) → Has t.begun s → Opens parts site all s
   pub own : (s : StartAt) → Has (starts_at parts site) s → Has t.begun s
+  pub stored : (m : Met) → Has t.mets.items m → (s : StartAt) → Has (starts_at parts m.base) s → Has t.begun s
   pub apart : IsApart t.begun
   pub own_mets : (m : Met) → Has t.mets.items m ↔ (Has mets m × (m.object ≡ site))
   pub done : IsTrue t.done → AreDone parts site t
+
+-- and these are all meets
+abbrev pub AreBuilt : Parts → ℕ → List Met → SiteTables → Type 0
+AreBuilt parts site mets t = AreBuiltWithin parts site mets mets t
 
 -- and they have come to the end: no start node is missing
 pub record AreSettled (parts : Parts) (site : ℕ) (mets : List Met) (t : SiteTables) : Type 0 where

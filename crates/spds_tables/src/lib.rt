@@ -10,6 +10,7 @@ mod begun;
 mod making;
 mod numbered;
 mod parts;
+mod size;
 mod tables;
 mod works;
 
@@ -17,4 +18,5 @@ pub use begun::Begun;
 pub use making::count_of;
 pub use numbered::{Jump, Met, StartAt, Stored};
 pub use parts::Parts;
-pub use tables::{SiteTables, share};
+pub use size::Size;
+pub use tables::{SiteTables, share, shared_word};

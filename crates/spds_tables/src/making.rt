@@ -303,6 +303,7 @@ impl Parts {
             jumps: jumps(alloc, &edges)?,
             starts: all_starts(alloc, linked, demand, count_of(demand.sites().len())?)?,
             stores: all_stores(alloc, demand)?,
+            places: calls,
         })
     }
 }

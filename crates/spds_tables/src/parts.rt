@@ -3,7 +3,7 @@ ghost use Rattle.std.specs.Prelude.{◌≡◌, ◌<◌, length};
 ghost use Rattle.spds_tables.specs.Parts.{starts_at, store_at};
 
 use super::numbered::{Jump, StartAt, Stored};
-use call_side::IndexedBases;
+use call_side::{Calls, IndexedBases};
 use post_star::Common;
 use std::rc::Rc;
 use weight_laws::Reach;
@@ -17,6 +17,8 @@ pub struct Parts {
     pub calls: Rc<Common<Reach>>,
     /// The call strings of methods.
     pub bases: IndexedBases,
+    /// The calls that marks stand for.
+    pub places: Calls,
     pub jumps: Vec<Jump>,
     /// The start nodes of each site.
     pub starts: Vec<Vec<StartAt>>,

@@ -1,17 +1,18 @@
 //! The tables of one site.
-ghost use Rattle.std.specs.Prelude.{◌⊎◌, ◌≡◌, ◌<◌, ◌≤◌, ◌↔◌, ℕ, All, List, [], true, take, length, IfOk, IsTrue, Ok, OnOk, false, ◌++◌, ◌∷◌};
+ghost use Rattle.std.specs.Prelude.{◌⊎◌, ◌≡◌, ◌<◌, ◌≤◌, ◌↔◌, ℕ, All, List, [], true, take, length, IfNone, IfOk, IfSome, IsTrue, Ok, OnOk, false, ◌++◌, ◌∷◌};
 ghost use Rattle.jim_ast.specs.Lists.{Has};
 ghost use Rattle.spds_tables.specs.declared.numbered.Met.{Met as AMet};
 ghost use Rattle.spds_tables.specs.declared.numbered.StartAt.{StartAt as AStart};
 ghost use Rattle.spds_tables.specs.Parts.{AreLedIn, IsInParts, candidates};
 ghost use Rattle.spds_tables.specs.Systems.{Reaches};
-ghost use Rattle.spds_tables.specs.Tables.{AreArrivals, AreBuilt, AreSettled, ArrivesAt, IsCallJob, Opens, settled_tables};
+ghost use Rattle.spds_tables.specs.Tables.{AreArrivals, AreBuilt, AreBuiltWithin, AreOpenFor, AreSettled, ArrivesAt, IsCallJob, Opens, settled_tables};
 
 use super::arrivals::arrivals;
 use super::asking::asked;
 use super::begun::Begun;
 use super::numbered::{Met, StartAt};
 use super::parts::Parts;
+use super::size::Size;
 use super::works::{add_field_starts, add_pushes, begin_all};
 use auto_table::{Entry, NoMemory};
 use call_side::{IndexedBases, shared_at};
@@ -67,6 +68,35 @@ fn fill(tables: &mut SiteTables, parts: &Parts, site: u32) -> Result<(), NoMemor
     Ok(())
 }
 
+/// The marks of a call string that both tables give at these nodes, the innermost call first; `None` where there is none.
+pub fn shared_word(
+    alloc: Global,
+    bases: &IndexedBases,
+    first: &SiteTables,
+    a: u32,
+    second: &SiteTables,
+    b: u32,
+) -> Result<Option<Vec<u32>>, NoMemory>
+    requires first { first.now.calls.settled ≡ true }
+    requires second { second.now.calls.settled ≡ true }
+    requires first_steps { first.now.calls.steps ≡ bases.now.steps }
+    requires second_steps { second.now.calls.steps ≡ bases.now.steps }
+    requires first_last { first.now.calls.last ≡ bases.now.last }
+    requires second_last { second.now.calls.last ≡ bases.now.last }
+    ensures first { IfOk result (λ r. IfSome r (λ word. Reaches first.now.calls a word.items)) }
+    ensures second { IfOk result (λ r. IfSome r (λ word. Reaches second.now.calls b word.items)) }
+    ensures none { IfOk result (λ r. IfNone r ((word : List ℕ) → Reaches first.now.calls a word → Reaches second.now.calls b word → ⊥)) }
+{
+    shared_at(
+        alloc,
+        bases,
+        first.calls.table(),
+        a,
+        second.calls.table(),
+        b,
+    )
+}
+
 /// Whether both tables give one call string at these nodes.
 pub fn share(
     alloc: Global,
@@ -84,14 +114,7 @@ pub fn share(
     requires second_last { second.now.calls.last ≡ bases.now.last }
     ensures { IfOk result (λ yes. IsTrue yes ↔ ((word : List ℕ) × Reaches first.now.calls a word × Reaches second.now.calls b word)) }
 {
-    let shared = shared_at(
-        alloc,
-        bases,
-        first.calls.table(),
-        a,
-        second.calls.table(),
-        b,
-    )?;
+    let shared = shared_word(alloc, bases, first, a, second, b)?;
     Ok(shared.is_some())
 }
 
@@ -117,31 +140,6 @@ impl SiteTables {
         Ok(tables)
     }
 
-    /// Takes a meet in.
-    fn take_in(&mut self, parts: &Parts, site: u32, met: Met) -> Result<(), NoMemory>
-        requires { IsInParts parts.now met }
-        ensures { OnOk result ((mets : List AMet) → AreBuilt parts.now site mets self.old → AreBuilt parts.now site (mets ++ met ∷ []) self.new) }
-    {
-        if met.object == site {
-            self.done = false;
-            self.mets.push(met)?;
-            let starts = parts.starts_of(met.base);
-            add_pushes(&mut self.fields, parts.stored(met.store), starts)?;
-        }
-        Ok(())
-    }
-
-    /// Takes further meets in.
-    pub fn catch_up(&mut self, parts: &Parts, site: u32, mets: &[Met]) -> Result<(), NoMemory>
-        requires { All (IsInParts parts.now) mets.now }
-        ensures { OnOk result ((first : List AMet) → AreBuilt parts.now site first self.old → AreBuilt parts.now site (first ++ mets.now) self.new) }
-    {
-        for met in mets {
-            self.take_in(parts, site, *met)?;
-        }
-        Ok(())
-    }
-
     /// Brings both tables to the end.
     fn settle(&mut self) -> Result<(), NoMemory>
         ensures { OnOk result (self.new ≡ settled_tables self.old) }
@@ -156,13 +154,47 @@ impl SiteTables {
         requires led { AreLedIn parts.now }
         requires among { (s : AStart) → Has starts.now s → Has (candidates parts.now) s }
         requires job { IsCallJob parts.now self.old.begun self.old.calls }
-        ensures built { OnOk result ((site : ℕ) (mets : List AMet) → AreBuilt parts.now site mets self.old
-            → ((s : AStart) → Has starts.now s → Opens parts.now site mets s) → AreBuilt parts.now site mets self.new) }
+        ensures built { OnOk result ((site : ℕ) (mets all : List AMet) → AreBuiltWithin parts.now site mets all self.old
+            → ((s : AStart) → Has starts.now s → Opens parts.now site all s) → AreBuiltWithin parts.now site mets all self.new) }
         ensures begun { OnOk result ((s : AStart) → Has starts.now s → Has self.new.begun s) }
         ensures behind { OnOk result ((behind : List AStart) × (self.new.begun ≡ self.old.begun ++ behind)) }
+        ensures job { OnOk result (IsCallJob parts.now self.new.begun self.new.calls) }
+        ensures undone { OnOk result (self.new.done ≡ false) }
     {
         self.done = false;
         begin_all(&mut self.calls, &mut self.begun, starts)?;
+        Ok(())
+    }
+
+    /// Takes a meet in. Its object comes to the store, so the call system begins at the start nodes of the base at once.
+    fn take_in(&mut self, parts: &Parts, site: u32, met: Met) -> Result<(), NoMemory>
+        requires led { AreLedIn parts.now }
+        requires met { IsInParts parts.now met }
+        requires job { IsCallJob parts.now self.old.begun self.old.calls }
+        ensures built { OnOk result ((mets all : List AMet) → AreBuiltWithin parts.now site mets all self.old
+            → AreOpenFor parts.now site (met ∷ []) all → AreBuiltWithin parts.now site (mets ++ met ∷ []) all self.new) }
+        ensures job { OnOk result (IsCallJob parts.now self.new.begun self.new.calls) }
+    {
+        if met.object == site {
+            let starts = parts.starts_of(met.base);
+            self.open(parts, starts)?;
+            self.mets.push(met)?;
+            add_pushes(&mut self.fields, parts.stored(met.store), starts)?;
+        }
+        Ok(())
+    }
+
+    /// Takes further meets in, all of whose objects come to their stores.
+    pub fn catch_up(&mut self, parts: &Parts, site: u32, mets: &[Met]) -> Result<(), NoMemory>
+        requires led { AreLedIn parts.now }
+        requires mets { All (IsInParts parts.now) mets.now }
+        requires job { IsCallJob parts.now self.old.begun self.old.calls }
+        ensures { OnOk result ((first : List AMet) → AreBuilt parts.now site first self.old
+            → AreOpenFor parts.now site mets.now (first ++ mets.now) → AreBuilt parts.now site (first ++ mets.now) self.new) }
+    {
+        for met in mets {
+            self.take_in(parts, site, *met)?;
+        }
         Ok(())
     }
 
@@ -175,14 +207,13 @@ impl SiteTables {
         mets: &[Met],
     ) -> Result<bool, NoMemory>
         requires led { AreLedIn parts.now }
-        requires mets { All (IsInParts parts.now) mets.now }
         requires built { AreBuilt parts.now site mets.now self.old }
         ensures built { OnOk result (AreBuilt parts.now site mets.now self.new) }
         ensures more { result ≡ Ok true → length self.old.begun < length self.new.begun }
         ensures done { result ≡ Ok false → AreSettled parts.now site mets.now self.new }
     {
         self.settle()?;
-        let asked = asked(alloc, parts, self, site)?;
+        let asked = asked(alloc, parts, self)?;
         if asked.is_empty() {
             return Ok(false);
         }
@@ -190,7 +221,7 @@ impl SiteTables {
         Ok(true)
     }
 
-    /// Brings both tables to the end, and begins at what static fields and stores come to, until nothing more is asked for.
+    /// Brings both tables to the end, and begins at what static fields come to, until nothing more is asked for.
     pub fn complete(
         &mut self,
         alloc: Global,
@@ -199,7 +230,6 @@ impl SiteTables {
         mets: &[Met],
     ) -> Result<(), NoMemory>
         requires led { AreLedIn parts.now }
-        requires mets { All (IsInParts parts.now) mets.now }
         requires built { AreBuilt parts.now site mets.now self.old }
         ensures { OnOk result (AreSettled parts.now site mets.now self.new) }
     {
@@ -233,6 +263,14 @@ impl SiteTables {
             add_held(&arrivals, reached.node, &mut nodes)?;
         }
         Ok(nodes)
+    }
+
+    /// How much both tables hold.
+    pub fn size(&self) -> Size
+        requires fields { self.now.fields.settled ≡ true }
+        requires calls { self.now.calls.settled ≡ true }
+    {
+        Size::of(self.fields.table()).plus(Size::of(self.calls.table()))
     }
 
     /// The nodes at which some call string is.

@@ -18,3 +18,6 @@ loop-site-preserved c =
 pub returns : goal.returns
 returns c =
     refreshed_all c.args.parts.now (take c.args.taken c.args.mets.now) c.args.mets.now c.loop-site.tables c.loop-site.site (omega arith) c.loop-site.invariant
+
+pub bring-requires-clause-opens : goal.bring-requires-clause-opens
+bring-requires-clause-opens c = c.requires.opens c.loop-site.site

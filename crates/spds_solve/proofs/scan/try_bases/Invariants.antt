@@ -1,12 +1,13 @@
-use Rattle.std.proofs.Common.{◌≡◌, ◌<◌, ◌↔◌, ◌⊎◌, ◌++◌, List}
+use Rattle.std.proofs.Common.{◌≡◌, ◌<◌}
 use Rattle.jim_ast.specs.Lists.{Has}
-use Rattle.spds_solve.specs.Searches.{IsCandidate}
+use Rattle.spds_solve.specs.Mets.{numbers_of}
+use Rattle.spds_solve.specs.Searches.{IsCandidate, IsGrown}
 use Rattle.spds_solve.proofs.scan.try_bases.Given as goal
-use Rattle.spds_tables.specs.declared.numbered.Met.{Met}
+use Rattle.spds_tables.specs.declared.numbered.Met.{Met as Numbers}
 
 abbrev pub invariant-loop-base : goal.invariant-loop-base
 invariant-loop-base l = record {
-  mets : (m : Met) → Has l.mets m ↔ (Has l.initial.mets m ⊎ ((m.base < l.base) × ((m.store ≡ l.store)
-      × IsCandidate l.view.linked.now l.view.sites.now l.view.parts.now l.view.tables.now m)));
-  behind : (behind : List Met) × (l.mets ≡ l.initial.mets ++ behind);
+  all : (m : Numbers) → m.base < l.base → m.store ≡ l.store
+      → IsCandidate l.view.linked.now l.view.sites.now l.view.parts.now l.view.tables.now m → Has (numbers_of l.mets) m;
+  grown : IsGrown l.view.linked.now l.view.sites.now l.view.parts.now l.view.tables.now l.initial.mets l.mets;
 }

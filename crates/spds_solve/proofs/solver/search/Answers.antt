@@ -1,30 +1,60 @@
-use Rattle.std.proofs.Common.{◌≡◌, ◌+◌, ◌-◌, ◌<◌, ◌≤◌, ℕ, Bool, true, false, length, ap, if◌then◌else◌, length-append, refl, arith}
+use Rattle.std.proofs.Common.{◌≡◌, ◌+◌, ◌-◌, ◌<◌, ◌≤◌, ℕ, Bool, List, true, false, length, ap, subst, sym, if◌then◌else◌, refl, arith}
 use Rattle.std.specs.declared.result.Result.TheVariants.{Ok}
-use Rattle.spds_solve.specs.Searches.{AreFoundBy}
-use Rattle.spds_solve.proofs.Turns.{all_mets, front_before, mets_few, settled_built}
+use Rattle.spds_solve.specs.declared.met.Met.{Met}
+use Rattle.spds_solve.specs.Composing.{AreComposed}
+use Rattle.spds_solve.specs.Mets.{numbers_of}
+use Rattle.spds_solve.specs.Searches.{AllBuilt, AreFoundBy}
+use Rattle.spds_solve.proofs.Composing.{composed_longer, joined_longer, length_longer}
+use Rattle.spds_solve.proofs.Turns.{all_mets, front_before, front_kept, mets_few, settled_built}
+use Rattle.spds_solve.proofs.Whole.{joined_inside}
 use Rattle.spds_solve.proofs.solver.search.Goals as goal
+use Rattle.spds_tables.specs.declared.numbered.Met.{Met as Numbers}
 
 pub loop-goes_on-init : goal.loop-goes_on-init
 loop-goes_on-init c = record {
   taken = omega arith;
   inside = rw c.requires.none (λ k d below. absurd (omega arith));
+  apart = rw c.requires.none (λ i j x a b. cc);
   built = c.requires.built;
+  composed = subst (λ (xs : List Met). AreComposed xs c.new-ways.result) (sym c.requires.none) c.new-ways.ensures;
   found = rw c.requires.none AreFoundBy.none;
   done = λ e. cc;
 }
+
+pub turn-requires-clause-mets : goal.turn-requires-clause-mets
+turn-requires-clause-mets c =
+    joined_inside c.args.linked.now c.args.sites.now c.args.parts.now c.loop-goes_on.mets c.compose.new.mets c.in_ok-compose.ensures.joined c.loop-goes_on.invariant.inside
+
+pub turn-requires-clause-taken : goal.turn-requires-clause-taken
+turn-requires-clause-taken c =
+    let more = length_longer c.loop-goes_on.mets c.compose.new.mets (joined_longer c.loop-goes_on.mets c.in_ok-compose.ensures.joined) in
+    let was = c.loop-goes_on.invariant.taken in
+    omega arith
+
+pub turn-requires-clause-built : goal.turn-requires-clause-built
+turn-requires-clause-built c =
+    let longer = joined_longer c.loop-goes_on.mets c.in_ok-compose.ensures.joined in
+    let kept = front_kept c.loop-goes_on.mets c.compose.new.mets longer c.loop-goes_on.taken c.loop-goes_on.invariant.taken in
+    subst (λ (xs : List Numbers). AllBuilt c.args.parts.now xs c.loop-goes_on.tables.items) (sym kept) c.loop-goes_on.invariant.built
+
+pub turn-requires-clause-found : goal.turn-requires-clause-found
+turn-requires-clause-found c = AreFoundBy.composed c.loop-goes_on.mets c.loop-goes_on.invariant.found c.in_ok-compose.ensures.joined
 
 pub loop-goes_on-preserved : goal.loop-goes_on-preserved
 loop-goes_on-preserved c =
     let turn = c.in_ok-goes_on.ensures in
     let was = c.loop-goes_on.invariant in
+    let mid = c.compose.new.mets in
+    let new = c.turn.new.mets in
     let before = c.as_slice-before.ensures.value in
-    let longer = ap length turn.behind.1 in
     record {
-      taken = rw before (omega (arith, longer, length-append c.loop-goes_on.mets turn.behind.0));
+      taken = rw before (length_longer mid new turn.behind);
       inside = turn.mets;
-      built = rw before (rw (front_before c.loop-goes_on.mets c.turn.new.mets turn.behind) (settled_built c.args.parts.now c.loop-goes_on.mets c.turn.new.tables.items turn.settled));
-      found = turn.found was.found;
-      done = λ e. turn.done (ap Ok e) was.found;
+      apart = turn.apart;
+      built = rw before (rw (front_before mid new turn.behind) (settled_built c.args.parts.now (numbers_of mid) c.turn.new.tables.items turn.settled));
+      composed = composed_longer mid new turn.behind c.compose.new.ways c.in_ok-compose.ensures.composed;
+      found = turn.found;
+      done = λ e. turn.done (ap Ok e);
     }
 
 -- a turn that goes on finds more, and one that doesn't is the last
@@ -35,7 +65,8 @@ smaller false all new old h = omega arith
 pub loop-goes_on-smaller : goal.loop-goes_on-smaller
 loop-goes_on-smaller c =
     let turn = c.in_ok-goes_on.ensures in
+    let longer = length_longer c.loop-goes_on.mets c.compose.new.mets (joined_longer c.loop-goes_on.mets c.in_ok-compose.ensures.joined) in
     let all = length (all_mets (length c.args.parts.now.starts.items) (length c.args.parts.now.stores.items)) in
     let falls = smaller c.in_ok-goes_on.goes_on all (length c.turn.new.mets) (length c.loop-goes_on.mets)
-    (λ e. (turn.more (ap Ok e), mets_few c.args.parts.now c.turn.new.mets turn.apart turn.mets)) in
+    (λ e. ((let more = turn.more (ap Ok e) in omega arith), mets_few c.args.parts.now c.turn.new.mets turn.apart turn.mets)) in
     rw c.loop-goes_on-test.true falls

@@ -1,4 +1,7 @@
 use Rattle.std.proofs.Common.{◌≡◌, ◌+◌, ◌-◌, ◌≤◌, All, false, length, take, if◌then◌else◌}
+use Rattle.jim_ast.specs.Lists.{IsApart}
+use Rattle.spds_solve.specs.Composing.{AreComposed}
+use Rattle.spds_solve.specs.Mets.{numbers_of}
 use Rattle.spds_solve.specs.Searches.{AllBuilt, AreFoundBy, IsComplete}
 use Rattle.spds_solve.proofs.Turns.{all_mets}
 use Rattle.spds_solve.proofs.solver.search.Given as goal
@@ -7,8 +10,10 @@ use Rattle.spds_tables.specs.Parts.{IsInParts}
 abbrev pub invariant-loop-goes_on : goal.invariant-loop-goes_on
 invariant-loop-goes_on l = record {
   taken : l.taken ≤ length l.mets;
-  inside : All (IsInParts l.parts) l.mets;
-  built : AllBuilt l.parts (take l.taken l.mets) l.tables.items;
+  inside : All (IsInParts l.parts) (numbers_of l.mets);
+  apart : IsApart (numbers_of l.mets);
+  built : AllBuilt l.parts (take l.taken (numbers_of l.mets)) l.tables.items;
+  composed : AreComposed l.mets l.ways;
   found : AreFoundBy l.linked l.sites l.parts l.mets;
   done : l.goes_on ≡ false → IsComplete l.linked l.sites l.parts l.tables.items l.mets;
 }

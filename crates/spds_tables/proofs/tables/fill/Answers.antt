@@ -26,6 +26,7 @@ returns c =
       calls = calls_filled c.args.parts.now c.args.site c.requires.led _ _ _ c.requires.calls now.steps now.last now.rules now.tied;
       opened = λ s has. elim ((own s).0 has) [ inl a ↦ cc a.1 | inr b ↦ Opens.own b ];
       own = λ s has. (own s).1 (inr has);
+      stored = λ m. rw c.requires.mets (λ has s among. cc has.1);
       apart = now.apart (rw c.requires.begun (λ i j x a b. cc a));
       own_mets = λ m. rw c.requires.mets ((λ has. cc has.1), (λ h. cc h.0.1));
       done = undone c.args.parts.now c.args.site c.args.tables.now.done c.requires.done;

@@ -1,11 +1,7 @@
-use Rattle.demand_walk.proofs.Keys.{Adds-insert_key, put-insert_key}
-use Rattle.jim_ast.proofs.Places.{IsApart-adds}
-use Rattle.spds_solve.proofs.SameKey.{same_met, self_met}
+use Rattle.spds_solve.proofs.Numbering.{added_numbers}
 use Rattle.spds_solve.proofs.mets.Mets.add.Goals as goal
-use Rattle.spds_tables.specs.contracts.numbered.MetPartialEq.TheImpl.{eq-value}
 
 pub invariant_of-self-2 : goal.invariant_of-self-2
-invariant_of-self-2 c = IsApart-adds _ _ c.args.met c.self.invariant (rw c.in_ok-insert.ensures.keys (Adds-insert_key (eq-value).it same_met self_met _ _))
-
-pub returns : goal.returns
-returns c = rw (← c.self.view_is) (put-insert_key (eq-value).it same_met self_met _ _ _ _ c.in_ok-insert.ensures.added c.in_ok-insert.ensures.keys)
+invariant_of-self-2 c =
+    added_numbers c.self.inside.keys.keys c.reserve.new.self.keys c.insert.new.self.keys c.self.inside.found.items c.push.new.self.items c.args.met c.self.invariant.0
+    c.self.invariant.1 (rw c.self.view_is c.requires) c.in_ok-reserve.ensures.keys (rw (← c.numbers-numbers.ensures) c.in_ok-insert.ensures.keys) c.in_ok-push.ensures.items

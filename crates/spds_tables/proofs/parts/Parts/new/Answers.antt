@@ -1,4 +1,4 @@
-use Rattle.std.proofs.Common.{◌∙◌, [], ap}
+use Rattle.std.proofs.Common.{◌∙◌, [], ap, refl}
 use Rattle.call_side.proofs.CallStrings.{IsLed-by}
 use Rattle.demand_set.specs.Demands.{IsDemandOf}
 use Rattle.spds_rules.specs.Demand.{Asked}
@@ -25,13 +25,14 @@ module _ (c : In_ok-all_stores) (q : Asked) (is : IsDemandOf c.args.linked.now q
     jumps = c.in_ok-jumps.field-0;
     starts = c.in_ok-all_starts.field-0;
     stores = c.in_ok-all_stores.field-0;
+    places = c.in_ok-calls.calls;
   })
   made =
       let count = c.in_ok-all_starts.ensures.count in
       parts_made c.args.linked.now q c.args.demand.now is c.in_ok-calls.calls c.in_ok-calls.ensures _ c.in_ok-edges.edges.items c.in_ok-edges.ensures
       (ap (λ x. x.rules) (rw c.deref.ensures.value at c.in_ok-common_fields.ensures)) (rw c.deref-2.ensures.value at c.in_ok-common_calls.ensures.rules)
       (rw c.deref-4.ensures.value at c.in_ok-jumps.ensures) count c.in_ok-all_starts.ensures.each c.in_ok-all_stores.ensures
-      (rw c.in_ok-new.ensures c.in_ok-steps.ensures.strings) (rw c.in_ok-new.ensures c.root-root.ensures)
+      (rw c.in_ok-new.ensures c.in_ok-steps.ensures.strings) (rw c.in_ok-new.ensures c.root-root.ensures) refl
 
 pub returns-clause-are : goal.returns-clause-are
 returns-clause-are c q is = record {

@@ -4,9 +4,8 @@ use Rattle.jim_ast.specs.Lists.{Has}
 use Rattle.jim_ast.proofs.Places.{slice_get-below, slice_get-there}
 use Rattle.spds_tables.specs.declared.numbered.StartAt.{StartAt}
 use Rattle.spds_tables.specs.declared.tables.SiteTables.{SiteTables}
-use Rattle.spds_tables.specs.Parts.{IsInParts}
 use Rattle.spds_tables.specs.Tables.{AreBuilt, IsAskedOf, Opens}
-use Rattle.spds_tables.proofs.Built.{all_own, among_or, asked_own, grown_longer, opens_among, settled_built}
+use Rattle.spds_tables.proofs.Built.{among_or, grown_longer, opens_among, settled_built, stored_begun}
 use Rattle.spds_tables.proofs.tables.SiteTables.grow.Goals as goal
 use Rattle.spds_tables.proofs.tables.SiteTables.grow.Goals.{In_ok-asked}
 
@@ -17,21 +16,19 @@ module _ (c : In_ok-asked) where
 
   -- what is asked for opens
   opens : (s : StartAt) → Has c.in_ok-asked.asked.items s → Opens c.args.parts.now c.args.site c.args.mets.now s
-  opens s has =
-      let own = asked_own c.args.parts.now c.args.site c.args.mets.now c.settle.new.self.mets.items c.settle.new.self.calls s built.own_mets in
-      Opens.asked c.settle.new.self.begun c.settle.new.self.calls built.calls built.opened (own.0 ((c.in_ok-asked.ensures s).0 has).0)
+  opens s has = Opens.asked c.settle.new.self.begun c.settle.new.self.calls built.calls built.opened (inl ((c.in_ok-asked.ensures s).0 has).0)
 
   -- where nothing is asked for, nothing is missing
   closed : length c.in_ok-asked.asked.items ≡ 0 → (s : StartAt)
       → IsAskedOf c.args.parts.now c.args.site c.args.mets.now c.settle.new.self.calls s → Has c.settle.new.self.begun s
-  closed e s asks = elim (among_or c.settle.new.self.begun s) [
+  closed e s (inl jump) = elim (among_or c.settle.new.self.begun s) [
     | inl has ↦ has
     | inr not ↦
-        let own = asked_own c.args.parts.now c.args.site c.args.mets.now c.settle.new.self.mets.items c.settle.new.self.calls s built.own_mets in
-        let has = (c.in_ok-asked.ensures s).1 (own.1 asks, not) in
+        let has = (c.in_ok-asked.ensures s).1 (jump, not) in
         let below = slice_get-below c.in_ok-asked.asked.items has.0 s has.1 in
         absurd (omega arith)
   ]
+  closed e s (inr store) = stored_begun c.args.parts.now c.args.site c.args.mets.now c.settle.new.self built s store
 
   -- where something is, it is new
   longer : (new : SiteTables) (behind : List StartAt) → 0 < length c.in_ok-asked.asked.items → ((s : StartAt) → Has c.in_ok-asked.asked.items s → Has new.begun s)
@@ -42,11 +39,6 @@ module _ (c : In_ok-asked) where
       let grown = grown_longer c.settle.new.self.begun new.begun behind first.0 e (all first.0 has) ((c.in_ok-asked.ensures first.0).0 has).1 in
       let same = ap (λ (t : SiteTables). length t.begun) c.in_ok-settle.ensures in
       omega arith
-
-pub asked-requires-clause-mets : goal.asked-requires-clause-mets
-asked-requires-clause-mets c =
-    let now : AreBuilt c.args.parts.now c.args.site c.args.mets.now c.settle.new.self = rw c.in_ok-settle.ensures (settled_built c.args.parts.now c.args.site c.args.mets.now c.args.self.now c.requires.built) in
-    all_own (IsInParts c.args.parts.now) c.args.mets.now c.settle.new.self.mets.items c.args.site now.own_mets c.requires.mets
 
 pub returns-then-is_empty-clause-built : goal.returns-then-is_empty-clause-built
 returns-then-is_empty-clause-built c = built (goal.at.returns-then-is_empty-clause-built c).In_ok-asked
@@ -69,7 +61,7 @@ open-requires-clause-among c s has =
 pub returns-clause-built : goal.returns-clause-built
 returns-clause-built c =
     let at = (goal.at.returns-clause-built c).In_ok-asked in
-    c.in_ok-open.ensures.built c.args.site c.args.mets.now (built at) (λ s has. opens at s (subst (λ (xs : List StartAt). Has xs s) c.deref.ensures.value has))
+    c.in_ok-open.ensures.built c.args.site c.args.mets.now c.args.mets.now (built at) (λ s has. opens at s (subst (λ (xs : List StartAt). Has xs s) c.deref.ensures.value has))
 
 pub returns-clause-more : goal.returns-clause-more
 returns-clause-more c _ =
