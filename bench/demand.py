@@ -9,57 +9,31 @@ before), and removes the folder at the end. The time is that of the call of `dem
 much the most that is resident during the call is above what is resident before it, for each node. It is read from the files of Linux about the process.
 What the reading of the program left free is used again, so that the figure is a little low where the text is long: over copies.
 """
-import os
-import shutil
 import subprocess
 import sys
 import tempfile
 
-CRATES = [
-    'jim_ast', 'jim_text', 'jim_signs', 'jim_grammar', 'jim_stmts', 'jim_build', 'jim_parse', 'jim_prelude', 'class_tree', 'link_rules', 'link_classes', 'link_bodies',
-    'link_calls', 'link_faults', 'link_reach', 'link_codes', 'link_indexes', 'link_program', 'link_laws', 'jim_link', 'read_laws', 'link_sites', 'spds_rules', 'spds_nodes',
-    'demand_walk', 'demand_set',
-]
+from proved import INIT, build
 
-USES = ('jim_ast jim_text jim_parse jim_prelude class_tree link_rules link_indexes link_program jim_link read_laws link_sites spds_rules spds_nodes demand_walk demand_set '
-        'indexmap anyhow')
+USES = 'demand_rows jim_ast link_rules link_indexes link_program link_sites spds_rules spds_nodes demand_walk demand_set indexmap anyhow'
 
 PROGRAM = r'''//! Links a program from standard input with the prelude, and tells how long the demand of the local `x` at the end of `main` takes, and what Linux
 //! says of the process before and after it.
 #![tactic(auto)]
 
-ghost use Rattle.std.specs.Prelude.{IfSome};
-ghost use Rattle.link_rules.specs.Conditions.{IsRead};
 ghost use Rattle.spds_rules.specs.Nodes.{IsNode};
 
 use anyhow::Result;
+use demand_rows::linked_of;
 use demand_set::{Demand, demand};
-use jim_ast::Program;
-use jim_link::{declares_named, link};
-use jim_parse::parse;
-use jim_prelude::PRELUDE;
-use jim_text::lex;
 use link_program::Linked;
 use link_sites::Place;
-use read_laws::derived_programs_are_read;
 use spds_nodes::is_node;
 use spds_rules::{Node, Var};
 use std::alloc::{AllocError, Global};
 use std::fs;
 use std::io::Read;
 use std::time::Instant;
-
-// The program of a text.
-fn read(alloc: Global, bytes: &[u8]) -> Option<Program>
-    ensures { IfSome result IsRead }
-{
-    derived_programs_are_read();
-    if bytes.len() > 16_777_216 {
-        return None;
-    }
-    let tokens = lex(alloc, bytes).ok()?;
-    parse(alloc, bytes, &tokens).ok()
-}
 
 // The local `x` at the last statement of `main`.
 fn asked(linked: &Linked) -> Option<Node> {
@@ -115,23 +89,14 @@ fn measured(rt: &HostRuntime, linked: &Linked) -> Result<String> {
     }
 }
 
-fn linked_with(rt: &HostRuntime, input: &Program, prelude: &Program) -> Result<String>
-    requires input { IsRead input.now }
-    requires prelude { IsRead prelude.now }
-{
-    if !declares_named(prelude) {
-        return Ok(String::from_str(rt.alloc(), "no prelude")?);
-    }
-    match link(rt.alloc(), input, prelude, "Main") {
-        Ok(linked) => measured(rt, &linked),
-        Err(_) => Ok(String::from_str(rt.alloc(), "refused")?),
-    }
-}
-
 fn answer(rt: &HostRuntime, bytes: &[u8]) -> Result<String> {
-    match (read(rt.alloc(), bytes), read(rt.alloc(), PRELUDE.as_bytes())) {
-        (Some(input), Some(prelude)) => linked_with(rt, &input, &prelude),
-        _ => Ok(String::from_str(rt.alloc(), "no program")?),
+    let linked = match str::from_utf8(bytes) {
+        Ok(text) => linked_of(rt.alloc(), text),
+        Err(_) => None,
+    };
+    match linked {
+        Some(linked) => measured(rt, &linked),
+        None => Ok(String::from_str(rt.alloc(), "no linked program")?),
     }
 }
 
@@ -144,12 +109,6 @@ fn main(rt: HostRuntime) -> Result<()> {
 }
 '''
 
-LINKS = '''use Rattle.demand_speed.proofs.linked_with.Goals as goal
-
-pub link-requires-clause-nine : goal.link-requires-clause-nine
-link-requires-clause-nine c = c.declares_named.ensures.0 c.if-not-declares_named.false
-'''
-
 ASKS = '''use Rattle.demand_walk.proofs.Appended.{Has-one}
 use Rattle.demand_speed.proofs.told.Goals as goal
 
@@ -158,8 +117,6 @@ demand-found-requires c = record { nodes = λ n has. rw (Has-one _ n has) c.requ
 '''
 
 OBJECT = 'java.lang.Object'
-
-INIT = '  void <init>() { return; }\n'
 
 
 def main_class(locals, body, fields=''):
@@ -203,29 +160,6 @@ def held(n):
     return main_class(locals, '    c = new Cell;\n' + made + stored + '    x = c.<Cell: java.lang.Object next>;\n') + f'class Cell {{\n  {OBJECT} next;\n}}\n'
 
 
-def build(folder):
-    """Builds the program, and gives its path."""
-    top = os.path.join(os.path.dirname(os.path.abspath(__file__)), '..')
-    with open(os.path.join(top, 'crates.txt')) as lines:
-        listed = [line for line in lines if line.split(':')[0] in CRATES]
-    with open(os.path.join(folder, 'crates.txt'), 'w') as out:
-        out.write(''.join(listed) + f'demand_speed: {USES}\n')
-    for crate in CRATES:
-        shutil.copytree(os.path.join(top, 'crates', crate), os.path.join(folder, 'crates', crate), ignore=shutil.ignore_patterns('out', 'must-fail'))
-    crate = os.path.join(folder, 'crates', 'demand_speed')
-    os.makedirs(os.path.join(crate, 'src'))
-    with open(os.path.join(crate, 'src', 'main.rt'), 'w') as out:
-        out.write(PROGRAM)
-    for function, proof in [('linked_with', LINKS), ('told', ASKS)]:
-        os.makedirs(os.path.join(crate, 'proofs', function))
-        with open(os.path.join(crate, 'proofs', function, 'Answers.antt'), 'w') as out:
-            out.write(proof)
-    done = subprocess.run(['rt', 'run'], cwd=crate, stdin=subprocess.DEVNULL, capture_output=True, text=True)
-    if done.returncode:
-        sys.exit('the program does not build:\n' + (done.stdout + done.stderr)[-4000:])
-    return os.path.join(crate, 'out', 'demand_speed')
-
-
 def kilobytes(status, name):
     return int(next(line for line in status if line.startswith(name + ':')).split()[1])
 
@@ -249,7 +183,7 @@ SHAPES = [('copies', copies, 1_000_000), ('clique', clique, 160), ('dispatch', d
 
 def main():
     with tempfile.TemporaryDirectory() as folder:
-        path = build(folder)
+        path = build(folder, 'demand_speed', USES, PROGRAM, [('told', ASKS)])
         print(f'{"shape":>9} {"size":>8} {"nodes":>8} {"edges":>8} {"stores":>7} {"sites":>7} {"time":>10} {"nodes/s":>11} {"edges/s":>11} {"edges":>7} {"time":>7} '
               f'{"bytes/node":>11}')
         for name, shape, size in SHAPES:

@@ -5,14 +5,11 @@ usage: bench/lex.sh [INPUT..]     the named inputs, or all
 It builds a small program over the crate in a temporary folder, which proves the crate there (a minute or two, unless a
 check on this machine did it before), and removes the folder at the end.
 """
-import os
-import random
-import shutil
 import subprocess
 import sys
 import tempfile
 
-LIMIT = 16 * 1024 * 1024
+from proved import LIMIT, build, library
 
 PROGRAM = r'''//! Lexes standard input, and says how many tokens it has and how long that took.
 #![tactic(auto)]
@@ -48,34 +45,8 @@ def fill(piece, size, head=b'', tail=b''):
     return head + piece * ((size - len(head) - len(tail)) // len(piece)) + tail
 
 
-def program(size):
-    """A program text in the usual layout, with names drawn at random."""
-    draw = random.Random(1)
-    words = ['get', 'set', 'Node', 'List', 'value', 'next', 'index', 'open', 'close', 'String', 'Table', 'find', 'add']
-    name = lambda: draw.choice(words) + draw.choice(['', '', str(draw.randrange(40))])
-    kind = lambda: draw.choice(['int', 'java.lang.Object', 'java.lang.String', 'org.app.' + name(), 'boolean', 'int[]'])
-    local = lambda: draw.choice(['$r', 'r', '$i', 'i', 'l']) + str(draw.randrange(60))
-    call = lambda: f'<org.app.{name()}: {kind()} {name()}({kind()},{kind()})>({local()}, {local()})'
-    lines = [
-        lambda: f'        {local()} = new org.app.{name()};',
-        lambda: f'        {local()} = {local()}.<org.app.{name()}: {kind()} {name()}>;',
-        lambda: f'        {local()} = virtualinvoke {local()}.{call()};',
-        lambda: f'        specialinvoke {local()}.{call()};',
-        lambda: f'        {local()} = staticinvoke {call()};',
-        lambda: f'        if {local()} >= {draw.randrange(1000)} goto label{draw.randrange(90)};',
-        lambda: f'        {local()} = "a text of {draw.randrange(1000)} letters\\n";',
-        lambda: f'     label{draw.randrange(90)}:',
-        lambda: f'        {local()} = {local()}[{local()}]; // an element',
-    ]
-    block = ''
-    while len(block) < 200_000:
-        block += f'    public {kind()} {name()}({kind()}, {kind()})\n    {{\n        {kind()} {local()}, {local()};\n'
-        block += ''.join(draw.choice(lines)() + '\n' for _ in range(40)) + '        return;\n    }\n\n'
-    return fill(block.encode(), size)
-
-
 INPUTS = {
-    'program': program,
+    'program': library,
     'one_name': lambda n: fill(b'a', n),
     'one_wide_name': lambda n: fill('\u0130'.encode(), n),
     'one_dotted_name': lambda n: fill(b"a.'b'.", n, tail=b'c'),
@@ -110,24 +81,6 @@ INPUTS = {
 }
 
 
-def build(folder):
-    """Builds the program, and gives its path."""
-    top = os.path.join(os.path.dirname(os.path.abspath(__file__)), '..')
-    with open(os.path.join(top, 'crates.txt')) as lines:
-        crate = next(line for line in lines if line.startswith('jim_text:'))
-    with open(os.path.join(folder, 'crates.txt'), 'w') as out:
-        out.write(crate.rstrip('\n') + '\nlex_speed: jim_text anyhow\n')
-    shutil.copytree(os.path.join(top, 'crates', 'jim_text'), os.path.join(folder, 'crates', 'jim_text'), ignore=shutil.ignore_patterns('out', 'must-fail'))
-    crate = os.path.join(folder, 'crates', 'lex_speed')
-    os.makedirs(os.path.join(crate, 'src'))
-    with open(os.path.join(crate, 'src', 'main.rt'), 'w') as out:
-        out.write(PROGRAM)
-    done = subprocess.run(['rt', 'run'], cwd=crate, stdin=subprocess.DEVNULL, capture_output=True, text=True)
-    if done.returncode:
-        sys.exit('the program does not build:\n' + (done.stdout + done.stderr)[-2000:])
-    return os.path.join(crate, 'out', 'lex_speed')
-
-
 def measured(path, data):
     """MB/s, and the program's answer."""
     done = subprocess.run([path], input=data, capture_output=True, check=True)
@@ -140,7 +93,7 @@ def main():
     if unknown:
         sys.exit('no such input: ' + ' '.join(unknown) + '\ninputs: ' + ' '.join(INPUTS))
     with tempfile.TemporaryDirectory() as folder:
-        path = build(folder)
+        path = build(folder, 'lex_speed', 'jim_text anyhow', PROGRAM)
         print(f'{"input":20} {"4 MiB":>10} {"16 MiB":>10}   answer at 16 MiB')
         for name in sys.argv[1:] or INPUTS:
             make = INPUTS[name]

@@ -5,17 +5,9 @@ usage: bench/link.sh
 It builds a small program over the reader's and the linker's crates in a temporary folder, which proves them there (some minutes, unless a
 check on this machine did it before), and removes the folder at the end.
 """
-import os
-import shutil
-import subprocess
-import sys
 import tempfile
-import time
 
-CRATES = [
-    'jim_ast', 'jim_text', 'jim_signs', 'jim_grammar', 'jim_stmts', 'jim_build', 'jim_parse', 'jim_prelude', 'class_tree', 'link_rules', 'link_classes', 'link_bodies',
-    'link_calls', 'link_faults', 'link_reach', 'link_codes', 'link_indexes', 'link_program', 'link_laws', 'jim_link', 'read_laws',
-]
+from proved import INIT, build, run_measured
 
 PROGRAM = r'''//! Links a program from standard input with the prelude, from the class `Main` on, and says what came of it.
 #![tactic(auto)]
@@ -92,8 +84,6 @@ pub link-requires-clause-nine : goal.link-requires-clause-nine
 link-requires-clause-nine c = c.declares_named.ensures.0 c.if-not-declares_named.false
 '''
 
-INIT = '  void <init>() { return; }\n'
-
 
 def made(i):
     """The statements that make an object of a class."""
@@ -141,52 +131,18 @@ def statements(n):
     return main_class('    staticinvoke <Many: void m0()>();\n') + 'class Many {\n' + ''.join(method(i) for i in range(count)) + '}\n'
 
 
-def build(folder):
-    """Builds the program, and gives its path."""
-    top = os.path.join(os.path.dirname(os.path.abspath(__file__)), '..')
-    with open(os.path.join(top, 'crates.txt')) as lines:
-        listed = [line for line in lines if line.split(':')[0] in CRATES]
-    with open(os.path.join(folder, 'crates.txt'), 'w') as out:
-        out.write(''.join(listed) + 'link_speed: jim_ast jim_text jim_parse jim_prelude link_rules jim_link read_laws anyhow\n')
-    for crate in CRATES:
-        shutil.copytree(os.path.join(top, 'crates', crate), os.path.join(folder, 'crates', crate), ignore=shutil.ignore_patterns('out', 'must-fail'))
-    crate = os.path.join(folder, 'crates', 'link_speed')
-    os.makedirs(os.path.join(crate, 'src'))
-    with open(os.path.join(crate, 'src', 'main.rt'), 'w') as out:
-        out.write(PROGRAM)
-    os.makedirs(os.path.join(crate, 'proofs', 'told'))
-    with open(os.path.join(crate, 'proofs', 'told', 'Answers.antt'), 'w') as out:
-        out.write(PROOF)
-    done = subprocess.run(['rt', 'run'], cwd=crate, stdin=subprocess.DEVNULL, capture_output=True, text=True)
-    if done.returncode:
-        sys.exit('the program does not build:\n' + (done.stdout + done.stderr)[-4000:])
-    return os.path.join(crate, 'out', 'link_speed')
-
-
-def measured(path, text):
-    """The seconds of a whole run, the most memory in bytes, and the program's answer."""
-    with tempfile.TemporaryFile() as data:
-        data.write(text.encode())
-        data.seek(0)
-        start = time.time()
-        child = subprocess.Popen([path], stdin=data, stdout=subprocess.PIPE)
-        answer = child.stdout.read().decode().strip()
-        _, _, usage = os.wait4(child.pid, 0)
-        return time.time() - start, usage.ru_maxrss * 1024, answer
-
-
 SHAPES = [('wide', wide, 5_000), ('deep', deep, 5_000), ('interfaces', interfaces, 5_000), ('statements', statements, 100_000)]
 
 
 def main():
     with tempfile.TemporaryDirectory() as folder:
-        path = build(folder)
+        path = build(folder, 'link_speed', 'jim_ast jim_text jim_parse jim_prelude link_rules jim_link read_laws anyhow', PROGRAM, [('told', PROOF)])
         print(f'{"shape":>12} {"size":>8} {"bytes":>10} {"time":>10} {"memory":>9} {"growth":>8}   answer, methods')
         for name, shape, size in SHAPES:
             before = None
             for part in [4, 2, 1]:
                 text = shape(size // part)
-                seconds, memory, answer = measured(path, text)
+                answer, seconds, memory = run_measured(path, text.encode())
                 growth = f'{seconds / before:.2f}' if before else '-'
                 before = seconds
                 print(f'{name:>12} {size // part:8} {len(text):10} {seconds * 1000:7.0f} ms {memory / 1e6:6.1f} MB {growth:>8}   {answer}', flush=True)

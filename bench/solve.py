@@ -1,0 +1,146 @@
+"""How long the two systems of a query take to be solved, how much they hold, and how both grow with the size of a program: over the shapes of calls and of
+fields of queries.py.
+
+usage: bench/solve.sh [--small]
+
+It builds a small program over the solver's crates in a temporary folder, which proves them there (long, unless a check on this machine did it before), and
+removes the folder at the end. The time is that of the call of `solve` alone, what is demanded being known before. An entry is a base or a pushed symbol of a
+table of a site, a fact a node with one of them; a meet is an object that may be stored into another by a store.
+"""
+import subprocess
+import sys
+import tempfile
+
+from proved import build
+from queries import TABLES
+
+USES = ('demand_rows jim_ast class_tree link_rules link_laws link_indexes link_program link_sites spds_rules spds_laws spds_nodes demand_walk demand_set weight_laws auto_table '
+        'post_star call_side spds_tables spds_solve indexmap anyhow')
+
+PROGRAM = r'''//! Links a program from standard input with the prelude, and tells of a local at the end of `main` how long its query takes to be solved, and how much
+//! that holds. The local is the one word of the command line.
+#![tactic(auto)]
+
+ghost use Rattle.link_rules.specs.WellLinked.{IsWellLinked};
+ghost use Rattle.spds_rules.specs.Nodes.{IsNode};
+
+use anyhow::Result;
+use demand_rows::linked_of;
+use demand_set::demand;
+use link_program::Linked;
+use link_sites::Place;
+use spds_nodes::is_node;
+use spds_rules::{Node, Var};
+use spds_solve::solve;
+use std::env;
+use std::io::Read;
+use std::time::Instant;
+
+// The local at the last statement of `main`.
+fn asked(linked: &Linked, local: &str) -> Option<Node> {
+    let method = linked.find_method("<Main: void main(java.lang.String[])>")?;
+    if method >= linked.methods() {
+        return None;
+    }
+    let number = linked.find_local(method, local)?;
+    let index = u32::try_from(linked.code(method).len()).ok()?.checked_sub(1)?;
+    let place = Place {
+        method,
+        index,
+        raised: false,
+    };
+    Some(Node {
+        place,
+        var: Var::Local(number),
+    })
+}
+
+// How long solving takes, in microseconds, and the sizes of what is demanded and found.
+fn told(rt: &HostRuntime, linked: &Linked, node: Node) -> Result<String>
+    requires well { IsWellLinked linked.now }
+    requires node { IsNode linked.now node }
+{
+    let Ok(found) = demand(rt.alloc(), linked, &[node], u32::MAX) else {
+        return Ok(String::from_str(rt.alloc(), "no demand")?);
+    };
+    let start = Instant::now(rt)?;
+    let solved = solve(rt.alloc(), linked, &found);
+    let took = u64::try_from(start.elapsed(rt)?.as_micros()).unwrap_or(u64::MAX);
+    let Ok(solved) = solved else {
+        return Ok(String::from_str(rt.alloc(), "no memory")?);
+    };
+    let nodes = found.nodes().len();
+    let size = solved.size();
+    let (entries, facts, meets) = (size.entries, size.facts, solved.meets().len());
+    Ok(format!(in rt.alloc(); "{took} {nodes} {entries} {facts} {meets}")?)
+}
+
+fn measured(rt: &HostRuntime, linked: &Linked, local: &str) -> Result<String>
+    requires { IsWellLinked linked.now }
+{
+    match asked(linked, local) {
+        Some(node) if is_node(linked, node) => told(rt, linked, node),
+        _ => Ok(String::from_str(rt.alloc(), "no such place")?),
+    }
+}
+
+fn answer(rt: &HostRuntime, bytes: &[u8], local: &str) -> Result<String> {
+    let linked = match str::from_utf8(bytes) {
+        Ok(text) => linked_of(rt.alloc(), text),
+        Err(_) => None,
+    };
+    match linked {
+        Some(linked) => measured(rt, &linked, local),
+        None => Ok(String::from_str(rt.alloc(), "no linked program")?),
+    }
+}
+
+fn main(rt: HostRuntime) -> Result<()> {
+    let mut bytes = Vec::new(rt.alloc());
+    rt.stdin().read_to_end(&mut bytes)?;
+    let Some(local) = env::args(&rt)?.nth(1) else {
+        return Ok(());
+    };
+    let line = answer(&rt, &bytes, &local)?;
+    println!(rt; "{line}")?;
+    Ok(())
+}
+'''
+
+ASKS = '''use Rattle.demand_walk.proofs.Appended.{Has-one}
+use Rattle.solve_speed.proofs.told.Goals as goal
+
+pub demand-found-requires : goal.demand-found-requires
+demand-found-requires c = record { nodes = λ n has. rw (Has-one _ n has) c.requires }
+'''
+
+
+def measured(path, text, local):
+    """Microseconds, demanded nodes, entries, facts and meets, or what the program says in their place."""
+    told = subprocess.run([path, local], input=text.encode(), capture_output=True).stdout.decode().split()
+    if len(told) != 5 or not all(word.isdigit() for word in told):
+        sys.exit('the program answers: ' + ' '.join(told)[:200])
+    return [int(word) for word in told]
+
+
+def growth(now, before):
+    return f'{now / before:.2f}' if before else '-'
+
+
+def main():
+    small = sys.argv[1:] == ['--small']
+    with tempfile.TemporaryDirectory() as folder:
+        path = build(folder, 'solve_speed', USES, PROGRAM, [('told', ASKS)])
+        for title, shape, sizes, few in TABLES['calls'] + TABLES['fields']:
+            print(f'\n{title}')
+            print(f'{"size":>8} {"time":>11} {"growth":>7} {"demanded":>10} {"entries":>9} {"facts":>10} {"growth":>7} {"meets":>7}', flush=True)
+            before = None
+            for size in few if small else sizes:
+                text, words = shape(size)
+                took, nodes, entries, facts, meets = measured(path, text, words[4])
+                longer, more = (growth(took, before[0]), growth(facts, before[1])) if before else ('-', '-')
+                before = (max(took, 1), max(facts, 1))
+                print(f'{size:>8} {took / 1000:>8.1f} ms {longer:>7} {nodes:>10} {entries:>9} {facts:>10} {more:>7} {meets:>7}', flush=True)
+
+
+main()
