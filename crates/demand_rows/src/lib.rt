@@ -1,4 +1,4 @@
-//! Nodes, edges and demands of whole programs, read from their texts: what each program has of them was found by hand from the definitions.
+//! Nodes, edges, demands and meets of whole programs, read from their texts: what each program has of them was found by hand from the definitions.
 #![tactic(auto)]
 
 #[cfg(test)]
@@ -7,6 +7,8 @@ mod asking;
 mod demands;
 #[cfg(test)]
 mod edges;
+#[cfg(test)]
+mod meets;
 #[cfg(test)]
 mod nodes;
 #[cfg(test)]
