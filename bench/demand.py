@@ -13,7 +13,7 @@ import subprocess
 import sys
 import tempfile
 
-from proved import INIT, build
+from proved import ASKED, INIT, build
 
 USES = 'demand_rows jim_ast link_rules link_indexes link_program link_sites spds_rules spds_nodes demand_walk demand_set indexmap anyhow'
 
@@ -35,25 +35,7 @@ use std::fs;
 use std::io::Read;
 use std::time::Instant;
 
-// The local `x` at the last statement of `main`.
-fn asked(linked: &Linked) -> Option<Node> {
-    let method = linked.find_method("<Main: void main(java.lang.String[])>")?;
-    if method >= linked.methods() {
-        return None;
-    }
-    let number = linked.find_local(method, "x")?;
-    let index = u32::try_from(linked.code(method).len()).ok()?.checked_sub(1)?;
-    let place = Place {
-        method,
-        index,
-        raised: false,
-    };
-    Some(Node {
-        place,
-        var: Var::Local(number),
-    })
-}
-
+''' + ASKED + r'''
 fn sizes(alloc: Global, found: &Demand, took: u64) -> Result<String, AllocError> {
     let nodes = found.nodes().len();
     let edges = found.edges().len();
@@ -83,7 +65,7 @@ fn told(rt: &HostRuntime, linked: &Linked, node: Node) -> Result<String>
 }
 
 fn measured(rt: &HostRuntime, linked: &Linked) -> Result<String> {
-    match asked(linked) {
+    match asked(linked, "x") {
         Some(node) if is_node(linked, node) => told(rt, linked, node),
         _ => Ok(String::from_str(rt.alloc(), "no such place")?),
     }

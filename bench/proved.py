@@ -9,6 +9,27 @@ TOP = os.path.join(os.path.dirname(os.path.abspath(__file__)), '..')
 
 LIMIT = 16 * 1024 * 1024
 
+# Code that finds the node that the programs ask about.
+ASKED = '''// The local at the last statement of `main`.
+fn asked(linked: &Linked, local: &str) -> Option<Node> {
+    let method = linked.find_method("<Main: void main(java.lang.String[])>")?;
+    if method >= linked.methods() {
+        return None;
+    }
+    let number = linked.find_local(method, local)?;
+    let index = u32::try_from(linked.code(method).len()).ok()?.checked_sub(1)?;
+    let place = Place {
+        method,
+        index,
+        raised: false,
+    };
+    Some(Node {
+        place,
+        var: Var::Local(number),
+    })
+}
+'''
+
 INIT = '  void <init>() { return; }\n'
 
 

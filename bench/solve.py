@@ -11,7 +11,7 @@ import subprocess
 import sys
 import tempfile
 
-from proved import build
+from proved import ASKED, build
 from queries import TABLES
 
 USES = ('demand_rows jim_ast class_tree link_rules link_laws link_indexes link_program link_sites spds_rules spds_laws spds_nodes demand_walk demand_set weight_laws auto_table '
@@ -36,25 +36,7 @@ use std::env;
 use std::io::Read;
 use std::time::Instant;
 
-// The local at the last statement of `main`.
-fn asked(linked: &Linked, local: &str) -> Option<Node> {
-    let method = linked.find_method("<Main: void main(java.lang.String[])>")?;
-    if method >= linked.methods() {
-        return None;
-    }
-    let number = linked.find_local(method, local)?;
-    let index = u32::try_from(linked.code(method).len()).ok()?.checked_sub(1)?;
-    let place = Place {
-        method,
-        index,
-        raised: false,
-    };
-    Some(Node {
-        place,
-        var: Var::Local(number),
-    })
-}
-
+''' + ASKED + r'''
 // How long solving takes, in microseconds, and the sizes of what is demanded and found.
 fn told(rt: &HostRuntime, linked: &Linked, node: Node) -> Result<String>
     requires well { IsWellLinked linked.now }
