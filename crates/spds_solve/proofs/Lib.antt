@@ -1,4 +1,5 @@
 pub mod SameKey
+pub mod Celled
 pub mod Numbering
 pub mod Scanning
 pub mod Resting

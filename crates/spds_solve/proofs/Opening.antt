@@ -12,7 +12,7 @@ use Rattle.spds_solve.specs.Mets.{numbers, numbers_of}
 use Rattle.spds_solve.specs.Searches.{AllSettled, AreFoundBy, IsFound}
 use Rattle.std.proofs.lemmas.List.{map-append}
 use Rattle.spds_tables.proofs.Built.{opens_more}
-use Rattle.spds_tables.proofs.Lists.{Has-left}
+use Rattle.spds_cells.proofs.Lists.{Has-left}
 use Rattle.spds_tables.proofs.Questions.{has_one}
 use Rattle.spds_tables.specs.declared.numbered.Met.{Met}
 use Rattle.spds_tables.specs.declared.numbered.StartAt.{StartAt}

@@ -19,11 +19,11 @@ use Rattle.spds_solve.specs.Mets.{numbers, numbers_of, string_of}
 use Rattle.spds_solve.specs.Solved.{StoresUnder}
 use Rattle.spds_solve.proofs.Numbering.{numbered_within, string_of-marks}
 use Rattle.spds_tables.proofs.CallSystems.{calls_exact, derived_marks}
-use Rattle.spds_tables.proofs.Exact.{Begins, calls_given, system}
+use Rattle.spds_tables.proofs.Exact.{Begins, begins_stay, calls_given, system}
 use Rattle.spds_tables.specs.declared.numbered.Met.{Met as Numbers}
 use Rattle.spds_tables.specs.declared.parts.Parts.{Parts}
 use Rattle.spds_tables.specs.declared.tables.SiteTables.{SiteTables}
-use Rattle.spds_tables.specs.Names.{AreNames, Names}
+use Rattle.spds_tables.specs.Names.{AreNames, HasCell, Names}
 use Rattle.spds_tables.specs.PartsOf.{AreParts}
 use Rattle.spds_tables.specs.Systems.{Reaches}
 use Rattle.spds_tables.specs.Tables.{AreSettled}
@@ -32,13 +32,14 @@ use Rattle.spds_tables.specs.Triples.{IsInRange, MetIn, triple_of, triples_of}
 -- a word that the tables of a site derive has the marks of a string of the site
 pub calls_spelt : (p : LinkedProgram) (q : Asked) (names : Names) → (are : AreNames p q names) → (parts : Parts) → (of : AreParts p q names parts) → (site : ℕ) (o : Site)
     → (here : slice_get names.sites site ≡ Some o) → (mets : List Numbers) → (inside : (m : Numbers) → Has mets m → IsInRange names m) → (t : SiteTables)
-    → (settled : AreSettled parts site mets t) → (number : ℕ) (n : Node) (word : List ℕ) → slice_get names.nodes number ≡ Some n → Reaches t.calls number word
+    → (settled : AreSettled parts site mets t) → (cell : ℕ) (n : Node) (word : List ℕ) → HasCell names n cell → Reaches t.calls cell word
     → InCalls p q (MetIn names mets) o n (string_of names.calls word)
-calls_spelt p q names are parts of site o here mets inside t settled number n word there reaches =
+calls_spelt p q names are parts of site o here mets inside t settled cell n word at reaches =
     let begins = Begins p q names are parts of site o here mets inside t settled in
     let is = system p q names are parts of site o here mets inside t settled in
-    let string = derived_marks p q names are begins t.calls is number word reaches in
-    let given = (calls_exact p q names are begins t.calls is number n word string.0 there string.1).0 reaches in
+    let stay = begins_stay p q names are parts of site o here mets inside t settled in
+    let string = derived_marks p q names are begins stay t.calls is cell word reaches in
+    let given = (calls_exact p q names are begins stay t.calls is cell n word string.0 at string.1).0 reaches in
     subst (InCalls p q (MetIn names mets) o n) (sym (string_of-marks names.calls word string.0 string.1))
     ((calls_given p q names are parts of site o here mets inside t settled n string.0).1 given)
 

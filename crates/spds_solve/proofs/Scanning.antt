@@ -10,7 +10,7 @@ use Rattle.spds_solve.specs.declared.met.Met.{Met}
 use Rattle.spds_solve.specs.Mets.{numbers, numbers_of}
 use Rattle.spds_solve.specs.Searches.{HaveShared, IsBaseOf, IsFound, IsGrown}
 use Rattle.spds_solve.proofs.Numbering.{has_numbers, numbered_within}
-use Rattle.spds_tables.proofs.Lists.{Has-append, Has-left, Has-right}
+use Rattle.spds_cells.proofs.Lists.{Has-append, Has-left, Has-right}
 use Rattle.spds_tables.specs.declared.numbered.Met.{Met as Numbers}
 use Rattle.spds_tables.specs.declared.parts.Parts.{Parts}
 use Rattle.spds_tables.specs.declared.tables.SiteTables.{SiteTables}

@@ -15,7 +15,7 @@ use Rattle.spds_solve.specs.Mets.{numbers, numbers_of}
 use Rattle.spds_solve.specs.Searches.{AllBuilt, AllSettled, AreFoundBy, AreRefreshed, IsCandidate, IsComplete, IsGrown}
 use Rattle.spds_solve.proofs.Numbering.{has_numbers, numbered}
 use Rattle.spds_solve.proofs.Whole.{found_inside}
-use Rattle.spds_tables.proofs.Lists.{Has-append, Has-flat_map}
+use Rattle.spds_cells.proofs.Lists.{Has-append, Has-flat_map}
 use Rattle.spds_tables.specs.declared.numbered.Met.{Met as Numbers}
 use Rattle.spds_tables.specs.declared.parts.Parts.{Parts}
 use Rattle.spds_tables.specs.declared.tables.SiteTables.{SiteTables}

@@ -31,12 +31,12 @@ use Rattle.spds_solve.specs.Solved.{AreMeets, GivesBoth, IsListed, IsSolved, Sta
 use Rattle.spds_solve.proofs.Numbering.{has_numbers, numbered}
 use Rattle.spds_solve.proofs.Resting.{AreStored, StoresOver, calls_spelt, front_kept, listed_within, old_front, stored_found, stores_more, stores_within}
 use Rattle.spds_tables.proofs.Exact.{base_is, calls_arrive, calls_share, fields_are, listed_met, met_listed, may_store_exact, object_is, store_is}
-use Rattle.spds_tables.proofs.Lists.{Has-append}
+use Rattle.spds_cells.proofs.Lists.{Has-append}
 use Rattle.spds_tables.proofs.Made.{demand_names}
 use Rattle.spds_tables.specs.declared.numbered.Met.{Met as Numbers}
 use Rattle.spds_tables.specs.declared.parts.Parts.{Parts}
 use Rattle.spds_tables.specs.declared.tables.SiteTables.{SiteTables}
-use Rattle.spds_tables.specs.Names.{AreNames, Names}
+use Rattle.spds_tables.specs.Names.{AreNames, HasCell, Names}
 use Rattle.spds_tables.specs.Parts.{IsInParts, store_at}
 use Rattle.spds_tables.specs.PartsOf.{AreParts, ArePartsOf, names_of}
 use Rattle.spds_tables.specs.Systems.{Reaches}
@@ -307,16 +307,16 @@ module _ (p : LinkedProgram) (q : Asked) (names : Names) (are : AreNames p q nam
       settled_at = complete.settled.each site t at
 
       -- the answers
-      pub held_are : (node : ℕ) (n : Node) → slice_get names.nodes node ≡ Some n → IsHeldOf t node ↔ IsAnswered p q n o
-      held_are node n here =
-          let fields = fields_are p q names are parts of site o there all inside t settled_at node n [] here in
-          let calls = calls_arrive p q names are parts of site o there all inside t settled_at node n here in (
+      pub held_are : (cell : ℕ) (n : Node) → HasCell names n cell → IsHeldOf t cell ↔ IsAnswered p q n o
+      held_are cell n here =
+          let fields = fields_are p q names are parts of site o there all inside t settled_at cell n [] here in
+          let calls = calls_arrive p q names are parts of site o there all inside t settled_at cell n here in (
             (λ h. let c = calls.0 h.1 in (fields_more p q (MetIn names all) (Meets p q) met_in o (fields.0 h.0), (c.0, calls_more p q (MetIn names all) (Meets p q) met_in o c.1))),
             (λ h. (fields.1 (fields_more p q (Meets p q) (MetIn names all) in_met o h.0), calls.1 (h.1.0, calls_more p q (Meets p q) (MetIn names all) in_met o h.1.1))),
           )
 
       -- the common strings of two nodes
-      pub both_are : (a b : ℕ) (n m : Node) → slice_get names.nodes a ≡ Some n → slice_get names.nodes b ≡ Some m
+      pub both_are : (a b : ℕ) (n m : Node) → HasCell names n a → HasCell names m b
           → GivesBoth t.calls a b ↔ ((string : List Place) × Calls p q o n string × Calls p q o m string)
       both_are a b n m x y =
           let share = calls_share p q names are parts of all inside site o there t settled_at site o there t settled_at a b n m x y in (
@@ -324,9 +324,9 @@ module _ (p : LinkedProgram) (q : Asked) (names : Names) (are : AreNames p q nam
             (λ h. share.1 (h.0, calls_more p q (Meets p q) (MetIn names all) in_met o h.1, calls_more p q (Meets p q) (MetIn names all) in_met o h.2)),
           )
 
-module _ (p : LinkedProgram) (q : Asked) (d : DemandParts) (calls : List Place) where
+module _ (p : LinkedProgram) (q : Asked) (d : DemandParts) (cells : List ℕ) (calls : List Place) where
   abbrev names : Names
-  names = names_of d calls
+  names = names_of d cells calls
 
   -- a meet in range stands for its triple
   stands_in : (met : Met) → IsInRange names (numbers met)
@@ -380,21 +380,23 @@ module _ (p : LinkedProgram) (q : Asked) (d : DemandParts) (calls : List Place) 
 -- all of it
 pub solved_whole : (p : LinkedProgram) (q : Asked) (d : DemandParts) → IsDemandOf p q d → (parts : Parts) → ArePartsOf p q d parts → (tables : List SiteTables) (mets : List Met)
     → IsComplete p d.sites parts tables mets → IsApart (numbers_of mets) → (held : List Held)
-    → ((h : Held) → Has held h ↔ ((t : SiteTables) × (slice_get tables h.site ≡ Some t) × IsHeldOf t h.node))
-    → IsSolved p q d (record { calls = map (λ t. t.calls) tables; mets = mets; held = held })
+    → ((h : Held) → Has held h ↔ ((t : SiteTables) × (slice_get tables h.site ≡ Some t) × IsHeldOf t h.cell))
+    → IsSolved p q d (record { cells = parts.cells.items; calls = map (λ t. t.calls) tables; mets = mets; held = held })
 solved_whole p q d is parts of tables mets complete once held answers =
-    let names = names_of d of.calls in
-    let are = demand_names p q d is of.calls of.are_calls in
+    let cells = parts.cells.items in
+    let names = names_of d cells of.calls in
+    let are = demand_names p q d is cells of.are_cells of.calls of.are_calls in
     record {
-      mets = meets_listed p q d of.calls are parts of.are_parts tables mets complete once;
+      cells = of.are_cells;
+      mets = meets_listed p q d cells of.calls are parts of.are_parts tables mets complete once;
       numbered = mets_are p q names are parts of.are_parts tables mets complete;
-      held = λ h o n site node.
+      held = λ h o n site cell.
           let low = slice_get-below d.sites h.site o site in
           let count = complete.settled.count in
           let starts = of.are_parts.start_count in
           let t = slice_get-there tables h.site (omega arith) in
-          let same = held_are p q names are parts of.are_parts tables mets complete h.site o site t.0 t.1 h.node n node in (
-            (λ has. let a = (answers h).0 has in let one : a.0 ≡ t.0 = cc (a.1, t.1) in same.0 (subst (λ (x : SiteTables). IsHeldOf x h.node) one a.2)),
+          let same = held_are p q names are parts of.are_parts tables mets complete h.site o site t.0 t.1 h.cell n cell in (
+            (λ has. let a = (answers h).0 has in let one : a.0 ≡ t.0 = cc (a.1, t.1) in same.0 (subst (λ (x : SiteTables). IsHeldOf x h.cell) one a.2)),
             (λ answered. (answers h).1 (t.0, t.1, same.1 answered)),
           );
       calls = λ site o there.

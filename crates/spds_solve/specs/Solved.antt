@@ -8,6 +8,7 @@ use Rattle.link_sites.specs.declared.place.Place.{Place}
 use Rattle.link_sites.specs.declared.site.Site.{Site}
 use Rattle.link_sites.specs.Sites.{HasField}
 use Rattle.post_star.specs.Jobs.{Job}
+use Rattle.spds_cells.specs.Cells.{AreCells, IsCellOf}
 use Rattle.spds_rules.specs.declared.node.Node.{Node}
 use Rattle.spds_rules.specs.declared.store.StoreAt.{StoreAt}
 use Rattle.spds_rules.specs.Answers.{IsAnswered}
@@ -21,8 +22,9 @@ use Rattle.spds_tables.specs.declared.tables.SiteTables.{SiteTables}
 use Rattle.spds_tables.specs.Systems.{Reaches}
 use Rattle.weight_laws.specs.declared.reach.Reach.{Reach}
 
--- the call systems of the sites, the meets, and which nodes may hold objects of which sites
+-- the cells of the nodes, the call systems of the sites, the meets, and the nodes of which cells may hold objects of which sites
 pub record SolvedParts : Type 0 where
+  pub cells : List ℕ
   pub calls : List (Job Reach)
   pub mets : List Met
   pub held : List Held
@@ -37,7 +39,7 @@ pub record IsOfBases (bases : BaseList) (job : Job Reach) : Type 0 where
 abbrev pub AreOfBases : BaseList → List SiteTables → Type 0
 AreOfBases bases tables = (t : SiteTables) → Has tables t → IsOfBases bases t.calls
 
--- the call system gives one word at both nodes
+-- the call system gives one word at both cells
 abbrev pub GivesBoth : Job Reach → ℕ → ℕ → Type 0
 GivesBoth job a b = (word : List ℕ) × Reaches job a word × Reaches job b word
 
@@ -74,12 +76,13 @@ pub record AreMeets (p : LinkedProgram) (q : Asked) (d : DemandParts) (mets : Li
   pub once : IsApart (numbers_of mets)
   pub rests : (i : ℕ) (met : Met) → slice_get mets i ≡ Some met → RestsOn p q d (take i mets) met
 
--- these are the meets of the demand, its answers, and the call systems of its sites
+-- these are the cells of the demand, its meets, its answers, and the call systems of its sites
 pub record IsSolved (p : LinkedProgram) (q : Asked) (d : DemandParts) (s : SolvedParts) : Type 0 where
+  pub cells : AreCells p q d.nodes s.cells
   pub mets : AreMeets p q d s.mets
   pub numbered : (m : Numbers) (o base : Site) (store : StoreAt) → slice_get d.sites m.object ≡ Some o → slice_get d.sites m.base ≡ Some base
       → slice_get d.stores m.store ≡ Some store → Has (numbers_of s.mets) m ↔ Meets p q o base store
-  pub held : (h : Held) (o : Site) (n : Node) → slice_get d.sites h.site ≡ Some o → slice_get d.nodes h.node ≡ Some n → Has s.held h ↔ IsAnswered p q n o
+  pub held : (h : Held) (o : Site) (n : Node) → slice_get d.sites h.site ≡ Some o → IsCellOf d.nodes s.cells n h.cell → Has s.held h ↔ IsAnswered p q n o
   pub calls : (site : ℕ) (o : Site) → slice_get d.sites site ≡ Some o → (job : Job Reach) × (slice_get s.calls site ≡ Some job)
-      × ((a b : ℕ) (n m : Node) → slice_get d.nodes a ≡ Some n → slice_get d.nodes b ≡ Some m
+      × ((a b : ℕ) (n m : Node) → IsCellOf d.nodes s.cells n a → IsCellOf d.nodes s.cells m b
       → GivesBoth job a b ↔ ((string : List Place) × Calls p q o n string × Calls p q o m string))

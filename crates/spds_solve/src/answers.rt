@@ -8,11 +8,11 @@ use indexmap::IndexSet;
 use std::alloc::Global;
 use std::marker::Model;
 
-/// A node may hold an object of the site.
+/// The nodes of the cell may hold an object of the site.
 #[derive(Clone, Copy, Debug, PartialEq, Eq, Hash)]
 pub struct Held {
     pub site: u32,
-    pub node: u32,
+    pub cell: u32,
 }
 
 /// Answers, each once.

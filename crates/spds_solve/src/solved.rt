@@ -38,6 +38,7 @@ impl Model for Solved {
     ghost use Rattle.spds_solve.specs.Solved.{AreOfBases};
 
     ghost view = { λ s. record {
+      cells = s.parts.cells.items;
       calls = map (λ t. t.calls) s.tables.items;
       mets = s.mets;
       held = s.answers;
@@ -56,7 +57,7 @@ impl Solved {
         size: Size,
     ) -> Self
         requires { AreOfBases parts.bases tables.items }
-        ensures { result ≡ record { calls = map (λ t. t.calls) tables.items; mets = mets; held = answers } }
+        ensures { result ≡ record { cells = parts.cells.items; calls = map (λ t. t.calls) tables.items; mets = mets; held = answers } }
     {
         Solved {
             parts,
@@ -72,7 +73,8 @@ impl Solved {
         ensures { (p : LinkedProgram) (q : Asked) (d : DemandParts) (o : Site) (n : Node) → IsSolved p q d self.now
             → slice_get d.sites site ≡ Some o → slice_get d.nodes node ≡ Some n → IsTrue result ↔ IsAnswered p q n o }
     {
-        self.answers.contains(Held { site, node })
+        let cell = self.parts.cell_of(node);
+        self.answers.contains(Held { site, cell })
     }
 
     /// Whether an object of the one site may be stored into one of the other by the store. Takes no memory.
@@ -107,6 +109,7 @@ impl Solved {
     {
         match self.tables.get(site as usize) {
             Some(tables) => {
+                let (a, b) = (self.parts.cell_of(a), self.parts.cell_of(b));
                 let shared = share(alloc, &self.parts.bases, tables, a, tables, b)?;
                 Ok(shared)
             }

@@ -101,11 +101,11 @@ fn answer_site(
     requires fields { tables.now.fields.settled ≡ true }
     requires last { tables.now.fields.last ≡ 0 }
     requires calls { tables.now.calls.settled ≡ true }
-    ensures { OnOk result ((h : AHeld) → Has answers.new h ↔ (Has answers.old h ⊎ ((h.site ≡ site) × IsHeldOf tables.now h.node))) }
+    ensures { OnOk result ((h : AHeld) → Has answers.new h ↔ (Has answers.old h ⊎ ((h.site ≡ site) × IsHeldOf tables.now h.cell))) }
 {
-    let nodes = tables.held(alloc)?;
-    for node in &nodes {
-        answers.add(Held { site, node: *node })?;
+    let cells = tables.held(alloc)?;
+    for cell in &cells {
+        answers.add(Held { site, cell: *cell })?;
     }
     Ok(())
 }
@@ -114,7 +114,7 @@ fn answer_site(
 fn all_answers(alloc: Global, tables: &[SiteTables], answers: &mut Answers) -> Result<(), NoMemory>
     requires fields { (t : ATables) → Has tables.now t → (t.fields.settled ≡ true) × (t.fields.last ≡ 0) × (t.calls.settled ≡ true) }
     requires none { answers.old ≡ [] }
-    ensures { OnOk result ((h : AHeld) → Has answers.new h ↔ ((t : ATables) × (slice_get tables.now h.site ≡ Some t) × IsHeldOf t h.node)) }
+    ensures { OnOk result ((h : AHeld) → Has answers.new h ↔ ((t : ATables) × (slice_get tables.now h.site ≡ Some t) × IsHeldOf t h.cell)) }
 {
     let count = count_of(tables.len())?;
     for site in 0..count {

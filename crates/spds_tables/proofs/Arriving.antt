@@ -22,10 +22,10 @@ use Rattle.post_star.specs.Derivations.{any_word, Derives, DerivesAny}
 use Rattle.post_star.specs.Readings.{any_base, any_entry, any_link, IsSaturated, ReadsAny, ReadsAnyAt}
 use Rattle.spds_tables.specs.Arrivals.{AreLive, GoesDown, IsLive, IsReadAt}
 use Rattle.post_star.specs.Jobs.{Job}
-use Rattle.spds_tables.specs.Making.{AreGathered}
+use Rattle.spds_cells.specs.Gathered.{AreGathered}
 use Rattle.spds_tables.specs.Tables.{AreArrivals, ArrivesAt}
 use Rattle.post_star.proofs.Loops.{EachBefore, each_all, each_more}
-use Rattle.spds_tables.proofs.Lists.{Has-take_more}
+use Rattle.spds_cells.proofs.Lists.{Has-take_more}
 use Rattle.spds_tables.proofs.Truth.{any_derives, of_bool, some_true, sum_true, true_sum}
 use Rattle.weight_laws.specs.declared.reach.Reach.{Reach}
 use Rattle.weight_laws.specs.Reach.{reach_domain}

@@ -11,6 +11,8 @@ use Rattle.link_sites.specs.declared.place.Place.{Place}
 use Rattle.link_sites.specs.declared.site.Site.{Site}
 use Rattle.post_star.specs.declared.bases.Start.{Start}
 use Rattle.post_star.specs.Jobs.{Job}
+use Rattle.spds_cells.specs.Cells.{IsCarried}
+use Rattle.spds_cells.proofs.Carried.{has_cell, one_cell, open_stays}
 use Rattle.spds_laws.proofs.Starts.{calls_starts, starts_calls, starts_open}
 use Rattle.spds_laws.specs.Found.{Triple}
 use Rattle.spds_laws.specs.Starts.{Arrives, FromStarts, IsAsked, IsOpen}
@@ -25,7 +27,7 @@ use Rattle.spds_tables.specs.declared.numbered.Met.{Met}
 use Rattle.spds_tables.specs.declared.numbered.StartAt.{StartAt}
 use Rattle.spds_tables.specs.declared.parts.Parts.{Parts}
 use Rattle.spds_tables.specs.declared.tables.SiteTables.{SiteTables}
-use Rattle.spds_tables.specs.Names.{AreNames, Names}
+use Rattle.spds_tables.specs.Names.{AreNames, HasCell, Names}
 use Rattle.spds_tables.specs.Parts.{call_start, field_start, push_to, pushes_for, pushes_of, pushes_over, starts_at, store_at}
 use Rattle.spds_tables.specs.PartsOf.{AreParts, IsEdgeRule, StandsFor}
 use Rattle.spds_tables.specs.Systems.{IsCallStart, IsCallSystem, IsFieldRule, IsFieldStart, IsFieldSystem, IsStored, Reaches}
@@ -34,7 +36,7 @@ use Rattle.spds_tables.specs.Triples.{IsInRange, MetIn, no_site, no_store_at, tr
 use Rattle.spds_tables.proofs.Built.{other_object, same_object}
 use Rattle.spds_tables.proofs.CallSystems.{calls_common, calls_some}
 use Rattle.spds_tables.proofs.FieldSystems.{fields_exact}
-use Rattle.spds_tables.proofs.Lists.{Has-append, Has-flat_map, Has-left, Has-right}
+use Rattle.spds_cells.proofs.Lists.{Has-append, Has-flat_map, Has-left, Has-right}
 use Rattle.weight_laws.specs.declared.reach.Reach.{Reach}
 use Rattle.weight_laws.specs.Reach.{reach_domain}
 
@@ -133,7 +135,7 @@ module _ (p : LinkedProgram) (q : Asked) (names : Names) (are : AreNames p q nam
       let s : StartAt = record { node = to; method = k.target.place.method } in
       let among : Has (starts_at parts m.base) s =
       (of.starts m.base k.base base s).1 (record { node = k.target; start = k.start; stands = record { node_is = k.to_is; method_is = refl } }) in
-      let arg : (store_at parts m.store).arg ≡ from = are.nodes.apart _ _ k.store.arg stored.arg_is k.from_is in
+      let arg : (store_at parts m.store).arg ≡ from = one_cell p q names.nodes names.cells are.cells are.nodes.apart stored.arg_is k.from_is in
       let field : (store_at parts m.store).field ≡ mark = stored.field_is ∙ sym k.field_is in
       let push : push_to (store_at parts m.store) s ≡ rule.Push from to mark weight =
       ap (λ (a : ℕ). rule.Push a to (store_at parts m.store).field reach_domain.one) arg ∙ ap (λ (f : ℕ). rule.Push from to f reach_domain.one) field
@@ -225,12 +227,6 @@ module _ (p : LinkedProgram) (q : Asked) (names : Names) (are : AreNames p q nam
           subst (λ (xs : List (Start Reach)). Has xs s) (sym is.starts)
           (h.start.has.0, map_at call_start begun h.start.has.0 at h.start.has.1 ∙ ap Some same)
 
-  -- a call system arrives where it gives some string
-  arrives_at : (begun : List StartAt) → ((s : StartAt) → Has begun s → (n : Node) × StandsFor names.nodes s n) → (job : Job Reach) → IsCallJob parts begun job
-      → (number : ℕ) (n : Node) → slice_get names.nodes number ≡ Some n → ArrivesAt job number ↔ Arrives p q (IsBegunAt begun) n
-  arrives_at begun stands job is number n there =
-      calls_some p q names are (IsBegunAt begun) job (call_system begun stands job is) number n there
-
   -- what opens is an open node
   pub record IsStanding (s : StartAt) : Type 0 where
     pub node : Node
@@ -245,11 +241,24 @@ module _ (p : LinkedProgram) (q : Asked) (names : Names) (are : AreNames p q nam
       let same : s.node ≡ n = cc in
       subst (IsOpen p q (MetIn names mets) o) same s.opened
 
+  begun_stays : (begun : List StartAt) → ((s : StartAt) → Has begun s → IsStanding s) → (a b : Node) → IsBegunAt begun b → IsCarried p q a b → ⊥
+  begun_stays begun all a b begins = open_stays p q (begun_open begun all b begins)
+
+  begun_system : (begun : List StartAt) → ((s : StartAt) → Has begun s → IsStanding s) → (job : Job Reach) → IsCallJob parts begun job
+      → IsCallSystem p q names (IsBegunAt begun) job
+  begun_system begun all job is = call_system begun (λ x has. let s = all x has in (s.node, s.stands)) job is
+
+  -- a call system arrives where it gives some string
+  arrives_at : (begun : List StartAt) → ((s : StartAt) → Has begun s → IsStanding s) → (job : Job Reach) → IsCallJob parts begun job
+      → (cell : ℕ) (n : Node) → HasCell names n cell → ArrivesAt job cell ↔ Arrives p q (IsBegunAt begun) n
+  arrives_at begun all job is cell n at =
+      calls_some p q names are (IsBegunAt begun) (begun_stays begun all) job (begun_system begun all job is) cell n at
+
   jumped_standing : (begun : List StartAt) → ((s : StartAt) → Has begun s → IsStanding s) → (job : Job Reach) → IsCallJob parts begun job → (s : StartAt)
       → IsJumpedTo parts.jumps.items job s → IsStanding s
   jumped_standing begun all job is s h =
       let jump = (of.jumps h.jump).0 h.has in
-      let given = (arrives_at begun (λ x has. let t = all x has in (t.node, t.stands)) job is h.jump.from jump.source jump.from_is).0 h.arrives in
+      let given = (arrives_at begun all job is h.jump.from jump.source jump.from_is).0 h.arrives in
       record {
         node = jump.target;
         stands = subst (λ (x : StartAt). StandsFor names.nodes x jump.target) (sym h.to_is) jump.to_is;
@@ -264,7 +273,7 @@ module _ (p : LinkedProgram) (q : Asked) (names : Names) (are : AreNames p q nam
       let t = triple_of names m in
       let start = (of.starts m.base t.base (base_is names m range) s).0 h.among in
       let stored = of.stores m.store t.store (store_is names m range) in
-      let given = (arrives_at begun (λ x has. let t = all x has in (t.node, t.stands)) job is (store_at parts m.store).arg t.store.arg stored.arg_is).0 h.arrives in
+      let given = (arrives_at begun all job is (store_at parts m.store).arg t.store.arg stored.arg_is).0 h.arrives in
       let object : t.object ≡ o = (let at = object_is names m range in let same : slice_get names.sites m.object ≡ Some o = rw h.object here in cc) in
       record {
         node = start.node;
@@ -285,14 +294,21 @@ module _ (p : LinkedProgram) (q : Asked) (names : Names) (are : AreNames p q nam
     abbrev pub Begins : Node → Type 0
     Begins = IsBegunAt t.begun
 
-    stands : (s : StartAt) → Has t.begun s → (n : Node) × StandsFor names.nodes s n
-    stands s has = let at = opens_standing (settled.built.opened s has) in (at.node, at.stands)
+    all_standing : (s : StartAt) → Has t.begun s → IsStanding s
+    all_standing s has = opens_standing (settled.built.opened s has)
 
     pub begins_open : (n : Node) → Begins n → IsOpen p q (MetIn names mets) o n
-    begins_open n b = begun_open t.begun (λ s has. opens_standing (settled.built.opened s has)) n b
+    begins_open n b = begun_open t.begun all_standing n b
 
-    arrives : (number : ℕ) (n : Node) → slice_get names.nodes number ≡ Some n → ArrivesAt t.calls number ↔ Arrives p q Begins n
-    arrives number n there = arrives_at t.begun stands t.calls settled.built.calls number n there
+    pub begins_stay : (a b : Node) → Begins b → IsCarried p q a b → ⊥
+    begins_stay a b begins = begun_stays t.begun all_standing a b begins
+
+    arrives : (cell : ℕ) (n : Node) → HasCell names n cell → ArrivesAt t.calls cell ↔ Arrives p q Begins n
+    arrives cell n at = arrives_at t.begun all_standing t.calls settled.built.calls cell n at
+
+    -- a demanded node has a cell
+    demanded_cell : (n : Node) → Has names.nodes n → (cell : ℕ) × HasCell names n cell
+    demanded_cell n has = has_cell p q names.nodes names.cells are.cells n has.0 has.1
 
     own_begins : (n : Node) → StartIn p q o n → Begins n
     own_begins n st =
@@ -303,7 +319,7 @@ module _ (p : LinkedProgram) (q : Asked) (names : Names) (are : AreNames p q nam
 
     jump_begins : (a b : Node) → EdgeIn p q a edge.Jump b → Arrives p q Begins a → Begins b
     jump_begins a b e c =
-        let from = are.nodes.all a (Demanded.source e.0 e.1) in
+        let from = demanded_cell a (are.nodes.all a (Demanded.source e.0 e.1)) in
         let to = are.nodes.all b e.1 in
         let s : StartAt = record { node = to.0; method = b.place.method } in
         let stand : StandsFor names.nodes s b = record { node_is = to.1; method_is = refl } in
@@ -350,18 +366,15 @@ module _ (p : LinkedProgram) (q : Asked) (names : Names) (are : AreNames p q nam
         ((λ c. calls_starts p q (MetIn names mets) o Begins begins_asked c), (λ c. starts_calls p q (MetIn names mets) o Begins begins_open c))
 
     pub system : IsCallSystem p q names Begins t.calls
-    system = call_system t.begun stands t.calls settled.built.calls
+    system = begun_system t.begun all_standing t.calls settled.built.calls
 
     -- what the tables derive is what is in the systems
-    pub fields_are : (number : ℕ) (n : Node) (word : List ℕ) → slice_get names.nodes number ≡ Some n
-        → Reaches t.fields number word ↔ InFields p q (MetIn names mets) o n word
-    fields_are number n word there =
-        fields_exact p q names are (MetIn names mets) o t.fields (field_system t.fields settled.built.fields) number n word there
+    pub fields_are : (cell : ℕ) (n : Node) (word : List ℕ) → HasCell names n cell → Reaches t.fields cell word ↔ InFields p q (MetIn names mets) o n word
+    fields_are cell n word at = fields_exact p q names are (MetIn names mets) o t.fields (field_system t.fields settled.built.fields) cell n word at
 
-    pub calls_arrive : (number : ℕ) (n : Node) → slice_get names.nodes number ≡ Some n
-        → ArrivesAt t.calls number ↔ ((string : List Place) × InCalls p q (MetIn names mets) o n string)
-    calls_arrive number n there =
-        let same = arrives number n there in
+    pub calls_arrive : (cell : ℕ) (n : Node) → HasCell names n cell → ArrivesAt t.calls cell ↔ ((string : List Place) × InCalls p q (MetIn names mets) o n string)
+    calls_arrive cell n at =
+        let same = arrives cell n at in
         ((λ h. let c = same.0 h in (c.0, (calls_given n c.0).1 c.1)), (λ h. same.1 (h.0, (calls_given n h.0).0 h.1)))
 
 -- the tables of two sites derive a common word exactly where the sites have a common string
@@ -369,7 +382,7 @@ module _ (p : LinkedProgram) (q : Asked) (names : Names) (are : AreNames p q nam
     (mets : List Met) (inside : (m : Met) → Has mets m → IsInRange names m)
     (first : ℕ) (o : Site) (first_is : slice_get names.sites first ≡ Some o) (one : SiteTables) (one_settled : AreSettled parts first mets one)
     (second : ℕ) (b : Site) (second_is : slice_get names.sites second ≡ Some b) (two : SiteTables) (two_settled : AreSettled parts second mets two) where
-  pub calls_share : (x y : ℕ) (n m : Node) → slice_get names.nodes x ≡ Some n → slice_get names.nodes y ≡ Some m
+  pub calls_share : (x y : ℕ) (n m : Node) → HasCell names n x → HasCell names m y
       → ((word : List ℕ) × Reaches one.calls x word × Reaches two.calls y word)
       ↔ ((string : List Place) × InCalls p q (MetIn names mets) o n string × InCalls p q (MetIn names mets) b m string)
   calls_share x y n m there there2 =
@@ -377,7 +390,8 @@ module _ (p : LinkedProgram) (q : Asked) (names : Names) (are : AreNames p q nam
       let given2 = calls_given p q names are parts of second b second_is mets inside two two_settled in
       let same = calls_common p q names are
       (Begins p q names are parts of first o first_is mets inside one one_settled) (Begins p q names are parts of second b second_is mets inside two two_settled)
-      one.calls two.calls (system p q names are parts of first o first_is mets inside one one_settled)
+      (begins_stay p q names are parts of first o first_is mets inside one one_settled)
+      (begins_stay p q names are parts of second b second_is mets inside two two_settled) one.calls two.calls (system p q names are parts of first o first_is mets inside one one_settled)
       (system p q names are parts of second b second_is mets inside two two_settled) x y n m there there2 in
       ((λ h. let c = same.0 h in (c.0, (given n c.0).1 c.1, (given2 m c.0).1 c.2)), (λ h. same.1 (h.0, (given n h.0).0 h.1, (given2 m h.0).0 h.2)))
 

@@ -2,11 +2,9 @@ pub mod Truth
 pub mod FieldSystems
 pub mod CallSystems
 pub mod SameStart
-pub mod Lists
 pub mod Built
 pub mod Questions
 pub mod Exact
-pub mod Gathered
 pub mod Ascending
 pub mod Made
 pub mod Arriving

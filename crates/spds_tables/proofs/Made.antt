@@ -1,5 +1,5 @@
 -- The parts of a demand, as they are made.
-use Rattle.std.proofs.Common.{◌≡◌, ℕ, ◌<◌, ◌↔◌, List, [], ◌∷◌, ◌++◌, length, map, get_or, zero, suc, Some, slice_get, Vec, Global, refl, sym, ap, ◌∙◌, subst, inl, inr, arith}
+use Rattle.std.proofs.Common.{◌≡◌, ◌≢◌, ℕ, ◌<◌, ◌↔◌, List, [], ◌∷◌, ◌++◌, length, map, get_or, zero, suc, Some, slice_get, Vec, Global, refl, sym, ap, ◌∙◌, subst, inl, inr, arith}
 use Rattle.std.specs.List.{flat_map}
 use Rattle.std.proofs.lemmas.Option.{get_or_from_slice_get}
 use Rattle.auto_table.specs.declared.rule.Rule.{Rule}
@@ -19,23 +19,28 @@ use Rattle.link_sites.specs.declared.site.Site.{Site}
 use Rattle.post_star.specs.Derivations.{Leads}
 use Rattle.spds_rules.specs.declared.edge.EdgeKind.{EdgeKind}
 use Rattle.spds_rules.specs.declared.edge.EdgeKind.TheVariants as edge
+use Rattle.spds_rules.specs.declared.edge.EdgeKind.TheVariants.{Flow}
 use Rattle.spds_rules.specs.declared.node.Node.{Node}
 use Rattle.spds_rules.specs.declared.store.StoreAt.{StoreAt}
-use Rattle.spds_rules.specs.Demand.{AreAll, Asked, Demanded, EdgeIn}
+use Rattle.spds_cells.specs.declared.numbered.EdgeAt.{EdgeAt}
+use Rattle.spds_cells.specs.Cells.{AreCells}
+use Rattle.spds_cells.specs.Edges.{AreBetween}
+use Rattle.spds_cells.specs.Gathered.{AreGathered}
+use Rattle.spds_cells.proofs.Carried.{has_cell, jump_stays, own_cell}
+use Rattle.spds_cells.proofs.Lists.{Has-append}
+use Rattle.spds_rules.specs.Demand.{AreAll, Asked, EdgeIn}
 use Rattle.spds_rules.specs.Nodes.{IsNode, site_of}
 use Rattle.spds_rules.specs.Systems.{KeepsCalls, KeepsFields}
-use Rattle.spds_tables.specs.declared.numbered.EdgeAt.{EdgeAt}
 use Rattle.spds_tables.specs.declared.numbered.Jump.{Jump}
 use Rattle.spds_tables.specs.declared.numbered.StartAt.{StartAt}
 use Rattle.spds_tables.specs.declared.numbered.Stored.{Stored}
 use Rattle.spds_tables.specs.declared.parts.Parts.{Parts}
-use Rattle.spds_tables.specs.Making.{AreGathered, AreNumbered, IsCallRuleBy, IsCallRuleOf, IsEdgeAt, IsJumpAt, IsStartAt, IsStartHere, field_rule_by, field_rule_of}
-use Rattle.spds_tables.specs.Names.{AreNames, Names}
+use Rattle.spds_tables.specs.Making.{IsCallRuleBy, IsCallRuleOf, IsJumpAt, IsStartAt, IsStartHere, field_rule_by, field_rule_of}
+use Rattle.spds_tables.specs.Names.{AreNames, HasCell, Names}
 use Rattle.spds_tables.specs.Parts.{AreLedIn, no_store, start_rows, starts_at}
 use Rattle.spds_tables.specs.PartsOf.{AreParts, IsEdgeRule, IsJumpOf, IsStartOf, IsStoreOf, StandsFor, names_of}
 use Rattle.spds_tables.specs.Systems.{IsCallRule}
 use Rattle.spds_tables.proofs.Ascending.{ascending_apart}
-use Rattle.spds_tables.proofs.Lists.{Has-append}
 use Rattle.weight_laws.specs.declared.reach.Reach.{Reach}
 use Rattle.weight_laws.specs.Reach.{reach_domain}
 
@@ -68,83 +73,58 @@ gathered_here p nodes o numbers starts all gathered s = (
 )
 
 module _ (p : LinkedProgram) (q : Asked) (d : DemandParts) (is : IsDemandOf p q d) where
-  -- what edges and stores join is numbered
-  pub demand_numbered : AreNumbered d
-  demand_numbered = record {
-    froms = λ x has. let e = is.edges.each x has in is.nodes.all x.from (Demanded.source e.0 e.1);
-    tos = λ x has. let e = is.edges.each x has in is.nodes.all x.to e.1;
-    bases = λ s has. let e = is.stores.each s has in is.nodes.all s.base (Demanded.base e.1.edge e.1.demanded e.0 refl);
-    args = λ s has. let e = is.stores.each s has in is.nodes.all s.arg (Demanded.arg e.1.edge e.1.demanded e.0 refl);
-  }
-
-  module _ (calls : List Place) (are_calls : AreTheCalls p calls) where
+  module _ (cells : List ℕ) (are_cells : AreCells p q d.nodes cells) (calls : List Place) (are_calls : AreTheCalls p calls) where
     abbrev names : Names
-    names = names_of d calls
+    names = names_of d cells calls
 
     pub demand_names : AreNames p q names
     demand_names = record {
       nodes = is.nodes;
+      cells = are_cells;
       sites = record { each = λ o has. (is.sites.each o).0 has; all = λ o h. (is.sites.each o).1 h; apart = ascending_apart p d.sites is.sites.ordered };
       stores = is.stores;
       calls = are_calls;
     }
 
-    -- an edge with its numbers
-    record IsAt (a : Node) (kind : EdgeKind) (b : Node) (e : EdgeAt) : Type 0 where
+    -- an edge between cells
+    record IsAt (a : Node) (kind : EdgeKind) (b : Node) (from to : ℕ) : Type 0 where
       pub edge : EdgeIn p q a kind b
-      pub from_is : slice_get d.nodes e.from ≡ Some a
-      pub to_is : StandsFor d.nodes e.to b
-      pub kind_is : e.kind ≡ kind
+      pub from_is : HasCell names a from
+      pub to_is : HasCell names b to
+      pub joins : kind ≡ Flow → from ≢ to
 
-    module _ (edges : List EdgeAt) (each : Each (IsEdgeAt d.nodes) d.edges edges) where
-      -- each numbered edge is one of the demand
-      edge_of : (e : EdgeAt) → Has edges e → (a : Node) × (b : Node) × IsAt a e.kind b e
+    module _ (edges : List EdgeAt) (between : AreBetween d cells edges) where
+      -- each edge between cells is one of the demand
+      edge_of : (e : EdgeAt) → Has edges e → (a : Node) × (b : Node) × IsAt a e.kind b e.from e.to
       edge_of e has =
-          let x = each_right (IsEdgeAt d.nodes) d.edges edges has.0 e each has.1 in
-          let edge = is.edges.each x.0 (has.0, x.1) in (
+          let x = (between e).0 has in
+          let edge = is.edges.each x.0 x.1 in (
             x.0.from,
             x.0.to,
             record {
               edge = subst (λ (k : EdgeKind). EdgeIn p q x.0.from k x.0.to) (sym x.2.kind_is) edge;
               from_is = x.2.from_is;
               to_is = x.2.to_is;
-              kind_is = refl;
+              joins = x.2.joins;
             },
           )
 
-      -- and each edge of the demand is numbered
-      of_edge : (a : Node) (kind : EdgeKind) (b : Node) → EdgeIn p q a kind b → (e : EdgeAt) × Has edges e × IsAt a kind b e
-      of_edge a kind b edge =
-          let has = is.edges.all (record { from = a; to = b; kind = kind }) edge in
-          let e = each_left (IsEdgeAt d.nodes) d.edges edges has.0 (record { from = a; to = b; kind = kind }) each has.1 in
-          (e.0, (has.0, e.1), record { edge = edge; from_is = e.2.from_is; to_is = e.2.to_is; kind_is = e.2.kind_is })
-
-      -- the numbers of its ends are those of a rule
-      module _ (from to : ℕ) (a b : Node) (from_is : slice_get d.nodes from ≡ Some a) (to_is : slice_get d.nodes to ≡ Some b) (kind : EdgeKind) (e : EdgeAt)
-          (at : IsAt a kind b e) where
-        from_same : e.from ≡ from
-        from_same = is.nodes.apart e.from from a at.from_is from_is
-
-        to_same : e.to.node ≡ to
-        to_same = is.nodes.apart e.to.node to b at.to_is.node_is to_is
-
-        rule_same : field_rule_of e ≡ field_rule_by kind from to
-        rule_same = ap (λ (k : EdgeKind). field_rule_by k e.from e.to.node) at.kind_is ∙ ap (λ (n : ℕ). field_rule_by kind n e.to.node) from_same
-            ∙ ap (λ (n : ℕ). field_rule_by kind from n) to_same
-
-        call_same : (r : Rule Reach) → IsCallRuleBy calls kind from to r → IsCallRuleOf calls e r
-        call_same r h =
-            subst (λ (k : EdgeKind). IsCallRuleBy calls k e.from e.to.node r) (sym at.kind_is) (subst (λ (n : ℕ). IsCallRuleBy calls kind n e.to.node r) (sym from_same)
-            (subst (λ (n : ℕ). IsCallRuleBy calls kind from n r) (sym to_same) h))
+      -- and each edge of the demand that joins cells is between these
+      of_edge : (a : Node) (kind : EdgeKind) (b : Node) (from to : ℕ) → IsAt a kind b from to → Has edges (record { from = from; to = to; kind = kind })
+      of_edge a kind b from to at =
+          let has = is.edges.all (record { from = a; to = b; kind = kind }) at.edge in
+          (between (record { from = from; to = to; kind = kind })).1
+          (record { from = a; to = b; kind = kind }, has, record { from_is = at.from_is; to_is = at.to_is; kind_is = refl; joins = at.joins })
 
       -- field rules
-      field_is : (a b : Node) (kind : EdgeKind) (from : ℕ) (to : ℕ) → EdgeIn p q a kind b → slice_get d.nodes from ≡ Some a → slice_get d.nodes to ≡ Some b
-          → IsEdgeRule p q names (field_rule_by kind from to)
-      field_is a b edge.Flow from to e x y = (refl, record { source = a; target = b; kind = edge.Flow; edge = e; keeps = tt; from_is = x; to_is = y })
-      field_is a b (edge.Load field) from to e x y = (refl, record { source = a; target = b; edge = e; from_is = x; to_is = y })
-      field_is a b (edge.Call call) from to e x y = (refl, record { source = a; target = b; kind = edge.Call call; edge = e; keeps = tt; from_is = x; to_is = y })
-      field_is a b (edge.Return call) from to e x y = (refl, record { source = a; target = b; kind = edge.Return call; edge = e; keeps = tt; from_is = x; to_is = y })
-      field_is a b edge.Jump from to e x y = (refl, record { source = a; target = b; kind = edge.Jump; edge = e; keeps = tt; from_is = x; to_is = y })
+      field_is : (a b : Node) (kind : EdgeKind) (from to : ℕ) → IsAt a kind b from to → IsEdgeRule p q names (field_rule_by kind from to)
+      field_is a b edge.Flow from to at = (refl, record { source = a; target = b; kind = edge.Flow; edge = at.edge; keeps = tt; from_is = at.from_is; to_is = at.to_is; joins = at.joins })
+      field_is a b (edge.Load field) from to at = (refl, record { source = a; target = b; edge = at.edge; from_is = at.from_is; to_is = at.to_is })
+      field_is a b (edge.Call call) from to at =
+          (refl, record { source = a; target = b; kind = edge.Call call; edge = at.edge; keeps = tt; from_is = at.from_is; to_is = at.to_is; joins = at.joins })
+      field_is a b (edge.Return call) from to at =
+          (refl, record { source = a; target = b; kind = edge.Return call; edge = at.edge; keeps = tt; from_is = at.from_is; to_is = at.to_is; joins = at.joins })
+      field_is a b edge.Jump from to at = (refl, record { source = a; target = b; kind = edge.Jump; edge = at.edge; keeps = tt; from_is = at.from_is; to_is = at.to_is; joins = at.joins })
 
       keeps_flow : (kind : EdgeKind) (from to : ℕ) → KeepsFields kind → field_rule_by kind from to ≡ rule.Flow from to reach_domain.one
       keeps_flow edge.Flow from to k = refl
@@ -153,46 +133,47 @@ module _ (p : LinkedProgram) (q : Asked) (d : DemandParts) (is : IsDemandOf p q 
       keeps_flow (edge.Return call) from to k = refl
       keeps_flow edge.Jump from to k = refl
 
-      field_there : (a b : Node) (kind : EdgeKind) (from to : ℕ) → EdgeIn p q a kind b → slice_get d.nodes from ≡ Some a → slice_get d.nodes to ≡ Some b
-          → Has (map field_rule_of edges) (field_rule_by kind from to)
-      field_there a b kind from to e x y =
-          let n = of_edge a kind b e in
-          let i = n.1.0 in
-          (i, map_at field_rule_of edges i n.0 n.1.1 ∙ ap Some (rule_same from to a b x y kind n.0 n.2))
+      field_there : (a b : Node) (kind : EdgeKind) (from to : ℕ) → IsAt a kind b from to → Has (map field_rule_of edges) (field_rule_by kind from to)
+      field_there a b kind from to at =
+          let n = of_edge a kind b from to at in
+          (n.0, map_at field_rule_of edges n.0 (record { from = from; to = to; kind = kind }) n.1)
 
       field_from : (r : Rule Reach) → IsEdgeRule p q names r → Has (map field_rule_of edges) r
       field_from (rule.Flow from to weight) h =
           let k = h.1 in
           let same : field_rule_by k.kind from to ≡ rule.Flow from to weight =
           keeps_flow k.kind from to k.keeps ∙ ap (λ (w : Reach). rule.Flow from to w) (sym h.0) in
-          subst (Has (map field_rule_of edges)) same (field_there k.source k.target k.kind from to k.edge k.from_is k.to_is)
+          subst (Has (map field_rule_of edges)) same
+          (field_there k.source k.target k.kind from to (record { edge = k.edge; from_is = k.from_is; to_is = k.to_is; joins = k.joins }))
       field_from (rule.Push from to mark weight) h = absurd h
       field_from (rule.Pop from mark to weight) h =
           let k = h.1 in
           let same : rule.Pop from mark to reach_domain.one ≡ rule.Pop from mark to weight = ap (λ (w : Reach). rule.Pop from mark to w) (sym h.0) in
-          subst (Has (map field_rule_of edges)) same (field_there k.source k.target (edge.Load mark) from to k.edge k.from_is k.to_is)
+          subst (Has (map field_rule_of edges)) same
+          (field_there k.source k.target (edge.Load mark) from to (record { edge = k.edge; from_is = k.from_is; to_is = k.to_is; joins = λ e. cc }))
 
       pub field_made : (r : Rule Reach) → Has (map field_rule_of edges) r ↔ IsEdgeRule p q names r
       field_made r = (
         (λ has.
             let at = at_map field_rule_of edges has.0 r has.1 in
             let e = edge_of at.0 (has.0, at.1) in
-            subst (IsEdgeRule p q names) (sym at.2) (field_is e.0 e.1 at.0.kind at.0.from at.0.to.node e.2.edge e.2.from_is e.2.to_is.node_is)),
+            subst (IsEdgeRule p q names) (sym at.2) (field_is e.0 e.1 at.0.kind at.0.from at.0.to e.2)),
         field_from r,
       )
 
       -- call rules
-      call_is : (a b : Node) (kind : EdgeKind) (from to : ℕ) (r : Rule Reach) → EdgeIn p q a kind b → slice_get d.nodes from ≡ Some a → slice_get d.nodes to ≡ Some b
-          → IsCallRuleBy calls kind from to r → IsCallRule p q names r
-      call_is a b edge.Flow from to r e x y h =
-          subst (IsCallRule p q names) (sym h) (refl, record { source = a; target = b; kind = edge.Flow; edge = e; keeps = tt; from_is = x; to_is = y })
-      call_is a b (edge.Load field) from to r e x y h =
-          subst (IsCallRule p q names) (sym h) (refl, record { source = a; target = b; kind = edge.Load field; edge = e; keeps = tt; from_is = x; to_is = y })
-      call_is a b (edge.Call call) from to r e x y h =
-          subst (IsCallRule p q names) (sym h.2) (refl, record { source = a; target = b; call = call; edge = e; mark_is = h.1; from_is = x; to_is = y })
-      call_is a b (edge.Return call) from to r e x y h =
-          subst (IsCallRule p q names) (sym h.2) (refl, record { source = a; target = b; call = call; edge = e; mark_is = h.1; from_is = x; to_is = y })
-      call_is a b edge.Jump from to r e x y h = absurd h
+      call_is : (a b : Node) (kind : EdgeKind) (from to : ℕ) (r : Rule Reach) → IsAt a kind b from to → IsCallRuleBy calls kind from to r → IsCallRule p q names r
+      call_is a b edge.Flow from to r at h =
+          subst (IsCallRule p q names) (sym h)
+          (refl, record { source = a; target = b; kind = edge.Flow; edge = at.edge; keeps = tt; from_is = at.from_is; to_is = at.to_is; joins = at.joins })
+      call_is a b (edge.Load field) from to r at h =
+          subst (IsCallRule p q names) (sym h)
+          (refl, record { source = a; target = b; kind = edge.Load field; edge = at.edge; keeps = tt; from_is = at.from_is; to_is = at.to_is; joins = at.joins })
+      call_is a b (edge.Call call) from to r at h =
+          subst (IsCallRule p q names) (sym h.2) (refl, record { source = a; target = b; call = call; edge = at.edge; mark_is = h.1; from_is = at.from_is; to_is = at.to_is })
+      call_is a b (edge.Return call) from to r at h =
+          subst (IsCallRule p q names) (sym h.2) (refl, record { source = a; target = b; call = call; edge = at.edge; mark_is = h.1; from_is = at.from_is; to_is = at.to_is })
+      call_is a b edge.Jump from to r at h = absurd h
 
       keeps_call : (kind : EdgeKind) (from to : ℕ) → KeepsCalls kind → IsCallRuleBy calls kind from to (rule.Flow from to reach_domain.one)
       keeps_call edge.Flow from to k = refl
@@ -202,53 +183,68 @@ module _ (p : LinkedProgram) (q : Asked) (d : DemandParts) (is : IsDemandOf p q 
       keeps_call edge.Jump from to k = absurd k
 
       module _ (rules : List (Rule Reach)) (gathered : AreGathered (IsCallRuleOf calls) edges rules) where
-        call_there : (a b : Node) (kind : EdgeKind) (from to : ℕ) (r : Rule Reach) → EdgeIn p q a kind b → slice_get d.nodes from ≡ Some a
-            → slice_get d.nodes to ≡ Some b → IsCallRuleBy calls kind from to r → Has rules r
-        call_there a b kind from to r e x y h =
-            let n = of_edge a kind b e in
-            (gathered r).1 (n.0, n.1, call_same from to a b x y kind n.0 n.2 r h)
+        call_there : (a b : Node) (kind : EdgeKind) (from to : ℕ) (r : Rule Reach) → IsAt a kind b from to → IsCallRuleBy calls kind from to r → Has rules r
+        call_there a b kind from to r at h = (gathered r).1 (record { from = from; to = to; kind = kind }, of_edge a kind b from to at, h)
 
         call_from : (r : Rule Reach) → IsCallRule p q names r → Has rules r
         call_from (rule.Flow from to weight) h =
             let k = h.1 in
             subst (λ (w : Reach). Has rules (rule.Flow from to w)) (sym h.0)
-            (call_there k.source k.target k.kind from to (rule.Flow from to reach_domain.one) k.edge k.from_is k.to_is (keeps_call k.kind from to k.keeps))
+            (call_there k.source k.target k.kind from to (rule.Flow from to reach_domain.one)
+            (record { edge = k.edge; from_is = k.from_is; to_is = k.to_is; joins = k.joins }) (keeps_call k.kind from to k.keeps))
         call_from (rule.Push from to mark weight) h =
             let k = h.1 in
             subst (λ (w : Reach). Has rules (rule.Push from to mark w)) (sym h.0)
-            (call_there k.source k.target (edge.Call k.call) from to (rule.Push from to mark reach_domain.one) k.edge k.from_is k.to_is (mark, k.mark_is, refl))
+            (call_there k.source k.target (edge.Call k.call) from to (rule.Push from to mark reach_domain.one)
+            (record { edge = k.edge; from_is = k.from_is; to_is = k.to_is; joins = λ e. cc }) (mark, k.mark_is, refl))
         call_from (rule.Pop from mark to weight) h =
             let k = h.1 in
             subst (λ (w : Reach). Has rules (rule.Pop from mark to w)) (sym h.0)
-            (call_there k.source k.target (edge.Return k.call) from to (rule.Pop from mark to reach_domain.one) k.edge k.from_is k.to_is (mark, k.mark_is, refl))
+            (call_there k.source k.target (edge.Return k.call) from to (rule.Pop from mark to reach_domain.one)
+            (record { edge = k.edge; from_is = k.from_is; to_is = k.to_is; joins = λ e. cc }) (mark, k.mark_is, refl))
 
         pub call_made : (r : Rule Reach) → Has rules r ↔ IsCallRule p q names r
         call_made r = (
           (λ has.
               let g = (gathered r).0 has in
               let e = edge_of g.0 g.1 in
-              call_is e.0 e.1 g.0.kind g.0.from g.0.to.node r e.2.edge e.2.from_is e.2.to_is.node_is g.2),
+              call_is e.0 e.1 g.0.kind g.0.from g.0.to r e.2 g.2),
           call_from r,
         )
 
       -- jumps
-      module _ (jumps : List Jump) (gathered : AreGathered IsJumpAt edges jumps) where
+      module _ (jumps : List Jump) (gathered : AreGathered (IsJumpAt d.nodes) edges jumps) where
+        jump_is : (j : Jump) (e : EdgeAt) → Has edges e → IsJumpAt d.nodes e j → IsJumpOf p q names j
+        jump_is j e has at =
+            let of = edge_of e has in
+            let a = of.0 in
+            let b = of.1 in
+            let jump : EdgeIn p q a edge.Jump b = subst (λ (k : EdgeKind). EdgeIn p q a k b) at.kind_is of.2.edge in
+            let to = of.2.to_is in
+            let cell : e.to ≡ to.number = own_cell p q d.nodes cells are_cells is.nodes.apart to.number e.to to.node_is (λ c. jump_stays p q jump) to in
+            let there : slice_get d.nodes j.to.node ≡ Some b = subst (λ (n : ℕ). slice_get d.nodes n ≡ Some b) (sym (at.to_is ∙ cell)) to.node_is in
+            let node : at.node ≡ b = (let stands = at.stands.node_is in cc) in
+            record {
+              source = a;
+              target = b;
+              edge = jump;
+              from_is = subst (HasCell names a) (sym at.from_is) of.2.from_is;
+              to_is = subst (StandsFor d.nodes j.to) node at.stands;
+            }
+
         pub jumps_made : (j : Jump) → Has jumps j ↔ IsJumpOf p q names j
         jumps_made j = (
-          (λ has.
-              let g = (gathered j).0 has in
-              let e = edge_of g.0 g.1 in
-              let jump : EdgeIn p q e.0 edge.Jump e.1 = subst (λ (k : EdgeKind). EdgeIn p q e.0 k e.1) g.2.0 e.2.edge in
-              subst (IsJumpOf p q names) (sym g.2.1) (record { source = e.0; target = e.1; edge = jump; from_is = e.2.from_is; to_is = e.2.to_is })),
+          (λ has. let g = (gathered j).0 has in jump_is j g.0 g.1 g.2),
           (λ h.
-              let n = of_edge h.source edge.Jump h.target h.edge in
-              let from : j.from ≡ n.0.from = is.nodes.apart j.from n.0.from h.source h.from_is n.2.from_is in
-              let node : j.to.node ≡ n.0.to.node = is.nodes.apart j.to.node n.0.to.node h.target h.to_is.node_is n.2.to_is.node_is in
-              let method : j.to.method ≡ n.0.to.method = h.to_is.method_is ∙ sym n.2.to_is.method_is in
-              let same : j ≡ record { from = n.0.from; to = n.0.to } =
-              ap (λ (x : ℕ). record { from = x; to = j.to }) from ∙ ap (λ (x : ℕ). record { from = n.0.from; to = record { node = x; method = j.to.method } }) node
-              ∙ ap (λ (x : ℕ). record { from = n.0.from; to = record { node = n.0.to.node; method = x } }) method in
-              (gathered j).1 (n.0, n.1, (n.2.kind_is, same))),
+              let cell = has_cell p q d.nodes cells are_cells h.target j.to.node h.to_is.node_is in
+              let same = own_cell p q d.nodes cells are_cells is.nodes.apart j.to.node cell.0 h.to_is.node_is (λ c. jump_stays p q h.edge) cell.1 in
+              let to : HasCell names h.target j.to.node = subst (HasCell names h.target) same cell.1 in
+              let has = of_edge h.source edge.Jump h.target j.from j.to.node (record { edge = h.edge; from_is = h.from_is; to_is = to; joins = λ e. cc }) in
+              (gathered j).1 (
+                record { from = j.from; to = j.to.node; kind = edge.Jump },
+                has,
+                record { kind_is = refl; from_is = refl; to_is = refl; node = h.target; stands = h.to_is },
+              )),
         )
 
     -- start nodes
@@ -259,11 +255,11 @@ module _ (p : LinkedProgram) (q : Asked) (d : DemandParts) (is : IsDemandOf p q 
     )
 
 -- stores
-pub stores_made : (nodes : List Node) (all : List StoreAt) (stores : List Stored) → Each (IsStoreOf nodes) all stores → (store : ℕ) (s : StoreAt)
-    → slice_get all store ≡ Some s → IsStoreOf nodes s (get_or stores store no_store)
-stores_made nodes all stores each store s there =
-    let x = each_left (IsStoreOf nodes) all stores store s each there in
-    subst (IsStoreOf nodes s) (sym (get_or_from_slice_get stores store x.0 no_store x.1)) x.2
+pub stores_made : (nodes : List Node) (cells : List ℕ) (all : List StoreAt) (stores : List Stored) → Each (IsStoreOf nodes cells) all stores → (store : ℕ) (s : StoreAt)
+    → slice_get all store ≡ Some s → IsStoreOf nodes cells s (get_or stores store no_store)
+stores_made nodes cells all stores each store s there =
+    let x = each_left (IsStoreOf nodes cells) all stores store s each there in
+    subst (IsStoreOf nodes cells s) (sym (get_or_from_slice_get stores store x.0 no_store x.1)) x.2
 
 module _ (p : LinkedProgram) (q : Asked) (names : Names) (are : AreNames p q names) (parts : Parts) (of : AreParts p q names parts) (led : AreLed p parts.bases.steps) where
   node_led : (n : Node) → IsNode p n → (s : StartAt) → StandsFor names.nodes s n → (word : List ℕ) × Leads parts.bases.steps s.method word parts.bases.last
@@ -302,24 +298,27 @@ module _ (p : LinkedProgram) (q : Asked) (names : Names) (are : AreNames p q nam
   }
 
 -- all of them together
-pub parts_made : (p : LinkedProgram) (q : Asked) (d : DemandParts) (is : IsDemandOf p q d) (calls : List Place) → AreTheCalls p calls → (parts : Parts) (edges : List EdgeAt)
-    → Each (IsEdgeAt d.nodes) d.edges edges → parts.fields.value.rules ≡ map field_rule_of edges → AreGathered (IsCallRuleOf calls) edges parts.calls.value.rules
-    → AreGathered IsJumpAt edges parts.jumps.items → length parts.starts.items ≡ length d.sites
+pub parts_made : (p : LinkedProgram) (q : Asked) (d : DemandParts) (is : IsDemandOf p q d) (parts : Parts) → AreCells p q d.nodes parts.cells.items → (calls : List Place)
+    → AreTheCalls p calls → (edges : List EdgeAt) → AreBetween d parts.cells.items edges → parts.fields.value.rules ≡ map field_rule_of edges
+    → AreGathered (IsCallRuleOf calls) edges parts.calls.value.rules → AreGathered (IsJumpAt d.nodes) edges parts.jumps.items → length parts.starts.items ≡ length d.sites
     → ((site : ℕ) (o : Site) → slice_get d.sites site ≡ Some o → (s : StartAt) → Has (starts_at parts site) s ↔ IsStartHere p d.nodes o s)
-    → Each (IsStoreOf d.nodes) d.stores parts.stores.items → AreStrings p calls parts.bases.steps → IsLast p parts.bases.last
-    → parts.places ≡ calls → AreParts p q (names_of d calls) parts
-parts_made p q d is calls are_calls parts edges each fields rules jumps count starts stores strings last places = record {
-  field_rules = λ r. rw fields (field_made p q d is calls are_calls edges each r);
-  call_rules = call_made p q d is calls are_calls edges each parts.calls.value.rules rules;
-  jumps = jumps_made p q d is calls are_calls edges each parts.jumps.items jumps;
-  starts = λ site o there s.
-      let a = starts site o there s in
-      let b = starts_made p q d is calls are_calls o s in
-      ((λ h. b.0 (a.0 h)), (λ h. a.1 (b.1 h)));
-  start_count = count;
-  stores = stores_made d.nodes d.stores parts.stores.items stores;
-  store_count = sym stores.as_many;
-  strings = strings;
-  last = last;
-  places = places;
-}
+    → Each (IsStoreOf d.nodes parts.cells.items) d.stores parts.stores.items → AreStrings p calls parts.bases.steps → IsLast p parts.bases.last
+    → parts.places ≡ calls → AreParts p q (names_of d parts.cells.items calls) parts
+parts_made p q d is parts are_cells calls are_calls edges between fields rules jumps count starts stores strings last places =
+    let cells = parts.cells.items in
+    record {
+      field_rules = λ r. rw fields (field_made p q d is cells are_cells calls are_calls edges between r);
+      call_rules = call_made p q d is cells are_cells calls are_calls edges between parts.calls.value.rules rules;
+      jumps = jumps_made p q d is cells are_cells calls are_calls edges between parts.jumps.items jumps;
+      starts = λ site o there s.
+          let a = starts site o there s in
+          let b = starts_made p q d is cells are_cells calls are_calls o s in
+          ((λ h. b.0 (a.0 h)), (λ h. a.1 (b.1 h)));
+      start_count = count;
+      stores = stores_made d.nodes cells d.stores parts.stores.items stores;
+      store_count = sym stores.as_many;
+      strings = strings;
+      last = last;
+      places = places;
+      cells = refl;
+    }

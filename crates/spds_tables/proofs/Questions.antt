@@ -6,7 +6,7 @@ use Rattle.post_star.specs.Jobs.{Job}
 use Rattle.spds_tables.specs.declared.numbered.Jump.{Jump}
 use Rattle.spds_tables.specs.declared.numbered.StartAt.{StartAt}
 use Rattle.spds_tables.specs.Tables.{ArrivesAt, IsJumpedTo}
-use Rattle.spds_tables.proofs.Lists.{Has-take_more}
+use Rattle.spds_cells.proofs.Lists.{Has-take_more}
 use Rattle.weight_laws.specs.declared.reach.Reach.{Reach}
 
 -- one more was looked at

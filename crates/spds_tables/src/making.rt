@@ -11,12 +11,15 @@ ghost use Rattle.post_star.specs.Derivations.{IsLed};
 ghost use Rattle.spds_rules.specs.Demand.{Asked};
 ghost use Rattle.spds_tables.specs.declared.numbered.Jump.{Jump as AJump};
 ghost use Rattle.spds_tables.specs.declared.numbered.StartAt.{StartAt as AStart};
-ghost use Rattle.spds_tables.specs.Making.{AreGathered, AreNumbered, IsCallRuleOf, IsEdgeAt, IsJumpAt, IsStartAt, IsStartHere, field_rule_of};
+ghost use Rattle.spds_cells.specs.Cells.{IsCellOf};
+ghost use Rattle.spds_cells.specs.Edges.{AreNumbered};
+ghost use Rattle.spds_cells.specs.Gathered.{AreGathered};
+ghost use Rattle.spds_tables.specs.Making.{IsCallRuleOf, IsJumpAt, IsStartAt, IsStartHere, field_rule_of};
 ghost use Rattle.spds_tables.specs.Parts.{AreLedIn};
 ghost use Rattle.spds_tables.specs.PartsOf.{ArePartsOf, IsStoreOf};
 ghost use Rattle.weight_laws.specs.declared.reach.Reach.{Reach as AReach};
 
-use super::numbered::{EdgeAt, Jump, StartAt, Stored};
+use super::numbered::{Jump, StartAt, Stored};
 use super::parts::Parts;
 use auto_table::{NoMemory, Rule};
 use call_side::{Calls, IndexedBases, bases};
@@ -24,53 +27,28 @@ use demand_set::Demand;
 use link_program::Linked;
 use post_star::copies::copied;
 use post_star::{BaseStep, Common};
+use spds_cells::{Contracted, EdgeAt, contract};
 use spds_nodes::is_node;
-use spds_rules::{Edge, EdgeKind, Node, StoreAt};
+use spds_rules::{EdgeKind, Node, StoreAt};
 use std::alloc::{AllocError, Global};
 use std::rc::Rc;
 use weight_laws::{Reach, Weight};
 
-/// The number of a demanded node.
-fn number_in(demand: &Demand, node: Node) -> u32
-    requires { Has demand.now.nodes node }
-    ensures { slice_get demand.now.nodes result ≡ Some node }
+/// The cell of a demanded node.
+fn cell_in(demand: &Demand, cells: &[u32], node: Node) -> u32
+    requires node { Has demand.now.nodes node }
+    requires cells { length cells.now ≡ length demand.now.nodes }
+    ensures { IsCellOf demand.now.nodes cells.now node result }
 {
-    demand.number_of(node).unwrap_or(0)
-}
-
-/// An edge by numbers.
-fn edge_at(demand: &Demand, edge: Edge) -> EdgeAt
-    requires from { Has demand.now.nodes edge.from }
-    requires to { Has demand.now.nodes edge.to }
-    ensures { IsEdgeAt demand.now.nodes edge result }
-{
-    EdgeAt {
-        from: number_in(demand, edge.from),
-        to: StartAt {
-            node: number_in(demand, edge.to),
-            method: edge.to.place.method,
-        },
-        kind: edge.kind,
-    }
-}
-
-/// The edges by numbers.
-fn edges_at(alloc: Global, demand: &Demand) -> Result<Vec<EdgeAt>, NoMemory>
-    requires { AreNumbered demand.now }
-    ensures { IfOk result (λ edges. Each (IsEdgeAt demand.now.nodes) demand.now.edges edges.items) }
-{
-    let mut edges = Vec::new(alloc);
-    for edge in demand.edges() {
-        edges.push(edge_at(demand, *edge))?;
-    }
-    Ok(edges)
+    let number = demand.number_of(node).unwrap_or(0);
+    cells[number as usize]
 }
 
 /// The rule of an edge in field systems.
 fn field_rule(edge: EdgeAt) -> Rule<Reach>
     ensures { result ≡ field_rule_of edge }
 {
-    let (from, to, weight) = (edge.from, edge.to.node, Reach::one());
+    let (from, to, weight) = (edge.from, edge.to, Reach::one());
     match edge.kind {
         EdgeKind::Load(mark) => Rule::Pop {
             from,
@@ -97,7 +75,7 @@ fn field_rules(alloc: Global, edges: &[EdgeAt]) -> Result<Vec<Rule<Reach>>, NoMe
 fn call_rule(calls: &Calls, edge: EdgeAt) -> Option<Rule<Reach>>
     ensures { (r : ARule AReach) → (result ≡ Some r) ↔ IsCallRuleOf calls.now edge r }
 {
-    let (from, to, weight) = (edge.from, edge.to.node, Reach::one());
+    let (from, to, weight) = (edge.from, edge.to, Reach::one());
     match edge.kind {
         EdgeKind::Flow | EdgeKind::Load(_) => Some(Rule::Flow { from, to, weight }),
         EdgeKind::Call(call) => {
@@ -171,25 +149,32 @@ fn common_calls(
 }
 
 /// Puts the edge last, if it is one through a static field.
-fn add_jump(edge: EdgeAt, jumps: &mut Vec<Jump>) -> Result<(), NoMemory>
-    ensures { OnOk result ((j : AJump) → Has jumps.new.items j ↔ (Has jumps.old.items j ⊎ IsJumpAt edge j)) }
+fn add_jump(nodes: &[Node], edge: EdgeAt, jumps: &mut Vec<Jump>) -> Result<(), NoMemory>
+    ensures { OnOk result ((j : AJump) → Has jumps.new.items j ↔ (Has jumps.old.items j ⊎ IsJumpAt nodes.now edge j)) }
 {
-    if edge.kind == EdgeKind::Jump {
+    if edge.kind != EdgeKind::Jump {
+        return Ok(());
+    }
+    if let Some(&node) = nodes.get(edge.to as usize) {
+        let to = StartAt {
+            node: edge.to,
+            method: node.place.method,
+        };
         jumps.push(Jump {
             from: edge.from,
-            to: edge.to,
+            to,
         })?;
     }
     Ok(())
 }
 
 /// The edges through static fields.
-fn jumps(alloc: Global, edges: &[EdgeAt]) -> Result<Vec<Jump>, NoMemory>
-    ensures { IfOk result (λ jumps. AreGathered IsJumpAt edges.now jumps.items) }
+fn jumps(alloc: Global, nodes: &[Node], edges: &[EdgeAt]) -> Result<Vec<Jump>, NoMemory>
+    ensures { IfOk result (λ jumps. AreGathered (IsJumpAt nodes.now) edges.now jumps.items) }
 {
     let mut jumps = Vec::new(alloc);
     for edge in edges {
-        add_jump(*edge, &mut jumps)?;
+        add_jump(nodes, *edge, &mut jumps)?;
     }
     Ok(jumps)
 }
@@ -259,27 +244,29 @@ fn all_starts(
     Ok(all)
 }
 
-/// A store by numbers.
-fn stored_at(demand: &Demand, store: StoreAt) -> Stored
+/// A store by the cells of its nodes.
+fn stored_at(demand: &Demand, cells: &[u32], store: StoreAt) -> Stored
     requires base { Has demand.now.nodes store.base }
     requires arg { Has demand.now.nodes store.arg }
-    ensures { IsStoreOf demand.now.nodes store result }
+    requires cells { length cells.now ≡ length demand.now.nodes }
+    ensures { IsStoreOf demand.now.nodes cells.now store result }
 {
     Stored {
-        base: number_in(demand, store.base),
-        arg: number_in(demand, store.arg),
+        base: cell_in(demand, cells, store.base),
+        arg: cell_in(demand, cells, store.arg),
         field: store.field,
     }
 }
 
-/// The stores by numbers.
-fn all_stores(alloc: Global, demand: &Demand) -> Result<Vec<Stored>, NoMemory>
-    requires { AreNumbered demand.now }
-    ensures { IfOk result (λ stores. Each (IsStoreOf demand.now.nodes) demand.now.stores stores.items) }
+/// The stores by cells.
+fn all_stores(alloc: Global, demand: &Demand, cells: &[u32]) -> Result<Vec<Stored>, NoMemory>
+    requires numbered { AreNumbered demand.now }
+    requires cells { length cells.now ≡ length demand.now.nodes }
+    ensures { IfOk result (λ stores. Each (IsStoreOf demand.now.nodes cells.now) demand.now.stores stores.items) }
 {
     let mut stores = Vec::new(alloc);
     for store in demand.stores() {
-        stores.push(stored_at(demand, *store))?;
+        stores.push(stored_at(demand, cells, *store))?;
     }
     Ok(stores)
 }
@@ -295,15 +282,16 @@ impl Parts {
         let calls = Calls::new(alloc, linked)?;
         let steps = bases(alloc, linked, &calls)?;
         let root = linked.root();
-        let edges = edges_at(alloc, demand)?;
+        let Contracted { cells, edges } = contract(alloc, demand)?;
         Ok(Parts {
             fields: common_fields(alloc, &edges)?,
             calls: common_calls(alloc, &calls, &edges, &steps, root)?,
             bases: IndexedBases::new(alloc, steps, root)?,
-            jumps: jumps(alloc, &edges)?,
+            jumps: jumps(alloc, demand.nodes(), &edges)?,
             starts: all_starts(alloc, linked, demand, count_of(demand.sites().len())?)?,
-            stores: all_stores(alloc, demand)?,
+            stores: all_stores(alloc, demand, &cells)?,
             places: calls,
+            cells,
         })
     }
 }

@@ -1,19 +1,10 @@
-//! Nodes, edges, sites and stores by their numbers.
-use spds_rules::EdgeKind;
+//! Start nodes, stores and meets by their numbers. Nodes are named by those of their cells.
 
-/// A start node of a call system, and its method.
+/// A start node of a call system, which has a cell by its own number, and its method.
 #[derive(Clone, Copy, Debug, PartialEq, Eq, Hash)]
 pub struct StartAt {
     pub node: u32,
     pub method: u32,
-}
-
-/// An edge.
-#[derive(Clone, Copy, Debug, PartialEq, Eq)]
-pub struct EdgeAt {
-    pub from: u32,
-    pub to: StartAt,
-    pub kind: EdgeKind,
 }
 
 /// An edge through a static field.
@@ -23,7 +14,7 @@ pub struct Jump {
     pub to: StartAt,
 }
 
-/// A store: the node of what is stored into, that of what is stored, and the field.
+/// A store: the cell of what is stored into, that of what is stored, and the field.
 #[derive(Clone, Copy, Debug, PartialEq, Eq)]
 pub struct Stored {
     pub base: u32,

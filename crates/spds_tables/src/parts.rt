@@ -1,5 +1,5 @@
 //! What the systems of all sites share.
-ghost use Rattle.std.specs.Prelude.{◌≡◌, ◌<◌, length};
+ghost use Rattle.std.specs.Prelude.{◌≡◌, ◌<◌, ℕ, Some, length, slice_get};
 ghost use Rattle.spds_tables.specs.Parts.{starts_at, store_at};
 
 use super::numbered::{Jump, StartAt, Stored};
@@ -23,6 +23,8 @@ pub struct Parts {
     /// The start nodes of each site.
     pub starts: Vec<Vec<StartAt>>,
     pub stores: Vec<Stored>,
+    /// The cell of each node.
+    pub cells: Vec<u32>,
 }
 
 impl Parts {
@@ -40,5 +42,12 @@ impl Parts {
         ensures { result ≡ store_at self.now store }
     {
         self.stores[store as usize]
+    }
+
+    /// The cell of the node with the number. A number of no node has itself.
+    pub fn cell_of(&self, node: u32) -> u32
+        ensures { (cell : ℕ) → slice_get self.now.cells.items node ≡ Some cell → result ≡ cell }
+    {
+        self.cells.get(node as usize).copied().unwrap_or(node)
     }
 }

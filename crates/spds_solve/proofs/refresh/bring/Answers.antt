@@ -4,7 +4,7 @@ use Rattle.std.proofs.lemmas.List.Elements.{All-drop}
 use Rattle.jim_ast.specs.Lists.{Has}
 use Rattle.spds_solve.proofs.refresh.bring.Goals as goal
 use Rattle.spds_tables.proofs.Built.{open_front}
-use Rattle.spds_tables.proofs.Lists.{Has-right}
+use Rattle.spds_cells.proofs.Lists.{Has-right}
 use Rattle.spds_tables.specs.declared.numbered.Met.{Met}
 use Rattle.spds_tables.specs.Parts.{IsInParts}
 use Rattle.spds_tables.specs.Tables.{AreBuilt, AreOpenFor}

@@ -4,8 +4,8 @@ use Rattle.spds_rules.specs.declared.store.StoreAt.{StoreAt}
 use Rattle.spds_rules.specs.declared.node.Node.{Node}
 use Rattle.spds_rules.specs.declared.node.Var.TheVariants.{Local}
 use Rattle.spds_tables.specs.PartsOf.{IsStoreOf}
-use Rattle.spds_tables.proofs.Lists.{has-read}
-use Rattle.spds_tables.proofs.Gathered.{each_all, each_more}
+use Rattle.spds_cells.proofs.Lists.{has-read}
+use Rattle.spds_cells.proofs.Gathered.{each_all, each_more}
 use Rattle.spds_tables.proofs.making.all_stores.Goals as goal
 
 abbrev no_node : Node
@@ -20,21 +20,21 @@ in_hand all items i e below = subst (λ (xs : List StoreAt). Has xs (get_or item
 
 pub stored_at-requires-clause-base : goal.stored_at-requires-clause-base
 stored_at-requires-clause-base c =
-    c.requires.bases (get_or c.stores-store-items.result.now c.loop-store.store-index no_store_at)
+    c.requires.numbered.bases (get_or c.stores-store-items.result.now c.loop-store.store-index no_store_at)
     (in_hand c.args.demand.now.stores c.stores-store-items.result.now c.loop-store.store-index c.stores-store-items.ensures (omega arith))
 
 pub stored_at-requires-clause-arg : goal.stored_at-requires-clause-arg
 stored_at-requires-clause-arg c =
-    c.requires.args (get_or c.stores-store-items.result.now c.loop-store.store-index no_store_at)
+    c.requires.numbered.args (get_or c.stores-store-items.result.now c.loop-store.store-index no_store_at)
     (in_hand c.args.demand.now.stores c.stores-store-items.result.now c.loop-store.store-index c.stores-store-items.ensures (omega arith))
 
 pub loop-store-preserved : goal.loop-store-preserved
 loop-store-preserved c =
     rw c.in_ok-push.ensures.items
-    (each_more (IsStoreOf c.args.demand.now.nodes) c.stores-store-items.result.now c.loop-store.store-index no_store_at c.loop-store.stores.items _ (omega arith) c.loop-store.invariant
+    (each_more (IsStoreOf c.args.demand.now.nodes c.args.cells.now) c.stores-store-items.result.now c.loop-store.store-index no_store_at c.loop-store.stores.items _ (omega arith) c.loop-store.invariant
     c.stored_at.ensures)
 
 pub returns : goal.returns
 returns c =
     rw (← c.stores-store-items.ensures)
-    (each_all (IsStoreOf c.args.demand.now.nodes) c.stores-store-items.result.now c.loop-store.store-index c.loop-store.stores.items (omega arith) c.loop-store.invariant)
+    (each_all (IsStoreOf c.args.demand.now.nodes c.args.cells.now) c.stores-store-items.result.now c.loop-store.store-index c.loop-store.stores.items (omega arith) c.loop-store.invariant)

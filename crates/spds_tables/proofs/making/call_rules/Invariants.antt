@@ -1,5 +1,6 @@
 use Rattle.std.proofs.Common.{take}
-use Rattle.spds_tables.specs.Making.{AreGathered, IsCallRuleOf}
+use Rattle.spds_cells.specs.Gathered.{AreGathered}
+use Rattle.spds_tables.specs.Making.{IsCallRuleOf}
 use Rattle.spds_tables.proofs.making.call_rules.Given as goal
 
 abbrev pub invariant-loop-edge : goal.invariant-loop-edge

@@ -1,6 +1,7 @@
 use Rattle.std.proofs.Common.{take}
-use Rattle.spds_tables.specs.Making.{AreGathered, IsJumpAt}
+use Rattle.spds_cells.specs.Gathered.{AreGathered}
+use Rattle.spds_tables.specs.Making.{IsJumpAt}
 use Rattle.spds_tables.proofs.making.jumps.Given as goal
 
 abbrev pub invariant-loop-edge : goal.invariant-loop-edge
-invariant-loop-edge l = AreGathered IsJumpAt (take l.edge-index l.edges) l.jumps.items
+invariant-loop-edge l = AreGathered (IsJumpAt l.nodes) (take l.edge-index l.edges) l.jumps.items

@@ -1,5 +1,6 @@
 use Rattle.std.proofs.Common.{take}
-use Rattle.spds_tables.specs.Making.{AreGathered, IsStartAt}
+use Rattle.spds_cells.specs.Gathered.{AreGathered}
+use Rattle.spds_tables.specs.Making.{IsStartAt}
 use Rattle.spds_tables.proofs.making.starts_among.Given as goal
 
 abbrev pub invariant-loop-number : goal.invariant-loop-number

@@ -5,6 +5,7 @@ use Rattle.link_indexes.proofs.Grown.{slice_get-read}
 use Rattle.link_laws.proofs.Lists.{at_map, map_at}
 use Rattle.post_star.specs.Jobs.{Job}
 use Rattle.spds_solve.specs.Solved.{GivesBoth, IsOfBases}
+use Rattle.spds_solve.proofs.Celled.{cell_there}
 use Rattle.spds_solve.proofs.solved.Solved.together.Goals as goal
 use Rattle.spds_solve.proofs.solved.Solved.together.Goals.{In-Some}
 use Rattle.spds_tables.specs.declared.tables.SiteTables.{SiteTables}
@@ -46,9 +47,11 @@ returns-in_ok-shared-in-Some c =
     rw (← c.self.view_is) (λ p q d o n m solved site a b.
     let job = solved.calls c.args.site o site in
     let same : job.0 ≡ c.in-Some.tables.now.calls = cc (job.1, at) in
-    let gives = subst (λ (j : Job Reach). GivesBoth j c.args.a c.args.b) same in
-    let takes = subst (λ (j : Job Reach). GivesBoth j c.args.a c.args.b) (sym same) in
-    let both = job.2 c.args.a c.args.b n m a b in
+    let first = cell_there d.nodes c.self.inside.parts.cells.items solved.cells.count c.args.a n a c.cell_of-a.result c.cell_of-a.ensures in
+    let second = cell_there d.nodes c.self.inside.parts.cells.items solved.cells.count c.args.b m b c.cell_of-b.result c.cell_of-b.ensures in
+    let gives = subst (λ (j : Job Reach). GivesBoth j c.cell_of-a.result c.cell_of-b.result) same in
+    let takes = subst (λ (j : Job Reach). GivesBoth j c.cell_of-a.result c.cell_of-b.result) (sym same) in
+    let both = job.2 c.cell_of-a.result c.cell_of-b.result n m first second in
     ((λ h. both.0 (takes (c.in_ok-shared-in-Some.ensures.0 h))), (λ h. c.in_ok-shared-in-Some.ensures.1 (gives (both.1 h)))))
 
 pub returns-in-None : goal.returns-in-None

@@ -3,7 +3,7 @@ use Rattle.auto_table.specs.Cells.{IsRow}
 use Rattle.auto_table.specs.declared.entry.Entry.TheVariants.{Base}
 use Rattle.spds_tables.specs.Tables.{IsReachedNode}
 use Rattle.spds_tables.proofs.Arriving.{held_more}
-use Rattle.spds_tables.proofs.Gathered.{gathered_all, gathered_more}
+use Rattle.spds_cells.proofs.Gathered.{gathered_all, gathered_more}
 use Rattle.spds_tables.proofs.Truth.{row_derives}
 use Rattle.spds_tables.proofs.tables.SiteTables.held.Goals as goal
 use Rattle.weight_laws.specs.Reach.{reach_domain}

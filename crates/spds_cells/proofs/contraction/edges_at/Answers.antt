@@ -4,10 +4,10 @@ use Rattle.spds_rules.specs.declared.edge.Edge.{Edge}
 use Rattle.spds_rules.specs.declared.edge.EdgeKind.TheVariants.{Flow}
 use Rattle.spds_rules.specs.declared.node.Node.{Node}
 use Rattle.spds_rules.specs.declared.node.Var.TheVariants.{Local}
-use Rattle.spds_tables.specs.Making.{IsEdgeAt}
-use Rattle.spds_tables.proofs.Lists.{has-read}
-use Rattle.spds_tables.proofs.Gathered.{each_all, each_more}
-use Rattle.spds_tables.proofs.making.edges_at.Goals as goal
+use Rattle.spds_cells.specs.Between.{IsNumbered}
+use Rattle.spds_cells.proofs.Lists.{has-read}
+use Rattle.spds_cells.proofs.Gathered.{each_all, each_more}
+use Rattle.spds_cells.proofs.contraction.edges_at.Goals as goal
 
 abbrev no_node : Node
 no_node = record { place = record { method = 0; index = 0; raised = false }; var = Local 0 }
@@ -32,10 +32,10 @@ edge_at-requires-clause-to c =
 pub loop-edge-preserved : goal.loop-edge-preserved
 loop-edge-preserved c =
     rw c.in_ok-push.ensures.items
-    (each_more (IsEdgeAt c.args.demand.now.nodes) c.edges-edge-items.result.now c.loop-edge.edge-index no_edge c.loop-edge.edges.items _ (omega arith) c.loop-edge.invariant
+    (each_more (IsNumbered c.args.demand.now.nodes) c.edges-edge-items.result.now c.loop-edge.edge-index no_edge c.loop-edge.edges.items _ (omega arith) c.loop-edge.invariant
     c.edge_at.ensures)
 
 pub returns : goal.returns
 returns c =
     rw (← c.edges-edge-items.ensures)
-    (each_all (IsEdgeAt c.args.demand.now.nodes) c.edges-edge-items.result.now c.loop-edge.edge-index c.loop-edge.edges.items (omega arith) c.loop-edge.invariant)
+    (each_all (IsNumbered c.args.demand.now.nodes) c.edges-edge-items.result.now c.loop-edge.edge-index c.loop-edge.edges.items (omega arith) c.loop-edge.invariant)

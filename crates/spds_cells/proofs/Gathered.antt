@@ -4,8 +4,8 @@ use Rattle.std.proofs.lemmas.List.{take_all, take_more}
 use Rattle.jim_ast.specs.Lists.{Has}
 use Rattle.jim_ast.proofs.Places.{slice_get-below, slice_get-pushed}
 use Rattle.link_rules.specs.Lists.{Each}
-use Rattle.spds_tables.specs.Making.{AreGathered}
-use Rattle.spds_tables.proofs.Lists.{Has-take_more}
+use Rattle.spds_cells.specs.Gathered.{AreGathered}
+use Rattle.spds_cells.proofs.Lists.{Has-take_more}
 
 module _ {X Y : Type 0} (R : X → Y → Type 0) where
   -- nothing is gathered from no elements
