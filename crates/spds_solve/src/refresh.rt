@@ -38,7 +38,7 @@ fn bring(
     ensures { OnOk result (AreSettled parts.now site mets.now tables.new) }
 {
     tables.catch_up(parts, site, &mets[taken..])?;
-    tables.complete(alloc, parts, site, mets)?;
+    tables.complete(alloc, parts)?;
     Ok(())
 }
 

@@ -199,18 +199,12 @@ impl SiteTables {
     }
 
     /// Settles, and begins at what is asked for; `false` says that nothing was.
-    fn grow(
-        &mut self,
-        alloc: Global,
-        parts: &Parts,
-        site: u32,
-        mets: &[Met],
-    ) -> Result<bool, NoMemory>
+    fn grow(&mut self, alloc: Global, parts: &Parts) -> Result<bool, NoMemory>
         requires led { AreLedIn parts.now }
-        requires built { AreBuilt parts.now site mets.now self.old }
-        ensures built { OnOk result (AreBuilt parts.now site mets.now self.new) }
+        requires built { (site : ℕ) × (mets : List AMet) × AreBuilt parts.now site mets self.old }
+        ensures built { OnOk result ((site : ℕ) (mets : List AMet) → AreBuilt parts.now site mets self.old → AreBuilt parts.now site mets self.new) }
         ensures more { result ≡ Ok true → length self.old.begun < length self.new.begun }
-        ensures done { result ≡ Ok false → AreSettled parts.now site mets.now self.new }
+        ensures done { result ≡ Ok false → (site : ℕ) (mets : List AMet) → AreBuilt parts.now site mets self.old → AreSettled parts.now site mets self.new }
     {
         self.settle()?;
         let asked = asked(alloc, parts, self)?;
@@ -222,21 +216,15 @@ impl SiteTables {
     }
 
     /// Brings both tables to the end, and begins at what static fields come to, until nothing more is asked for.
-    pub fn complete(
-        &mut self,
-        alloc: Global,
-        parts: &Parts,
-        site: u32,
-        mets: &[Met],
-    ) -> Result<(), NoMemory>
+    pub fn complete(&mut self, alloc: Global, parts: &Parts) -> Result<(), NoMemory>
         requires led { AreLedIn parts.now }
-        requires built { AreBuilt parts.now site mets.now self.old }
-        ensures { OnOk result (AreSettled parts.now site mets.now self.new) }
+        requires built { (site : ℕ) × (mets : List AMet) × AreBuilt parts.now site mets self.old }
+        ensures { OnOk result ((site : ℕ) (mets : List AMet) → AreBuilt parts.now site mets self.old → AreSettled parts.now site mets self.new) }
     {
         if self.done {
             return Ok(());
         }
-        while self.grow(alloc, parts, site, mets)? {}
+        while self.grow(alloc, parts)? {}
         self.done = true;
         Ok(())
     }
