@@ -78,14 +78,16 @@ module _ (p : LinkedProgram) (q : Asked) where
       record {
         site = r.site;
         of_site = r.of_site;
-        meets = meets_closed p q r.site base stored.store (record {
-          store = (stored.is_store, subst (FieldIn p q) (sym stored.is_field) field_in);
-          string = stored.string;
-          at_arg = r.by_calls;
-          at_base = b.1;
-          is_base = b.0;
-          has = subst (HasField p base) (sym stored.is_field) has;
-        });
+        meets = meets_closed p q r.site base stored.store (
+          stored.string,
+          record {
+            store = (stored.is_store, subst (FieldIn p q) (sym stored.is_field) field_in);
+            at_arg = r.by_calls;
+            at_base = b.1;
+            is_base = b.0;
+            has = subst (HasField p base) (sym stored.is_field) has;
+          },
+        );
         at_arg = r.by_fields;
       }
 

@@ -28,22 +28,24 @@ module _ (p : LinkedProgram) (q : Asked) where
   -- where o meets base, o may be at the start nodes of base, under each string of their methods
   pub meet_opens : (o base : Site) (s : StoreAt) → Meets p q o base s → (n : Node) (string : List Place) → StartIn p q base n
       → IsString p n.place.method string → Calls p q o n string
-  meet_opens o base s m n string st is = InCalls.store m st (meets_stored p q o base s m).at_arg is
+  meet_opens o base s m n string st is = InCalls.store m st (meets_stored p q o base s m).1.at_arg is
 
   -- where o meets base, and base meets further in some round, o meets further
   round_composes : (k : ℕ) (o base : Site) (s : StoreAt) → Meets p q o base s → (further : Site) (later : StoreAt)
       → MetAfter p q k base further later → Meets p q o further later
   round_composes zero o base s m further later h = elim h [ ]
   round_composes (suc k) o base s m further later (inl h) = round_composes k o base s m further later h
-  round_composes (suc k) o base s m further later (inr g) =
-      meets_closed p q o further later (record {
-        store = g.store;
-        string = g.string;
-        at_arg = calls_within p q (MetAfter p q k) (Meets p q) o base (meet_opens o base s m) (round_composes k o base s m) g.at_arg;
-        at_base = calls_more p q (MetAfter p q k) (Meets p q) (round_met p q k) further g.at_base;
-        is_base = fields_more p q (MetAfter p q k) (Meets p q) (round_met p q k) further g.is_base;
-        has = g.has;
-      })
+  round_composes (suc k) o base s m further later (inr (string, g)) =
+      meets_closed p q o further later (
+        string,
+        record {
+          store = g.store;
+          at_arg = calls_within p q (MetAfter p q k) (Meets p q) o base (meet_opens o base s m) (round_composes k o base s m) g.at_arg;
+          at_base = calls_more p q (MetAfter p q k) (Meets p q) (round_met p q k) further g.at_base;
+          is_base = fields_more p q (MetAfter p q k) (Meets p q) (round_met p q k) further g.is_base;
+          has = g.has;
+        },
+      )
 
 -- meets compose
 pub meets_composed : MeetsCompose

@@ -6,7 +6,7 @@ use Rattle.link_sites.specs.declared.site.Site.{Site}
 use Rattle.spds_rules.specs.declared.node.Node.{Node}
 use Rattle.spds_rules.specs.declared.store.StoreAt.{StoreAt}
 use Rattle.spds_rules.specs.Demand.{Asked}
-use Rattle.spds_rules.specs.Systems.{InCalls, InFields, MayStore}
+use Rattle.spds_rules.specs.Systems.{InCalls, InFields, MayStore, StoresUnder}
 
 module _ (p : LinkedProgram) (q : Asked) (Few More : Site → Site → StoreAt → Type 0)
     (more : (o base : Site) (s : StoreAt) → Few o base s → More o base s) where
@@ -27,13 +27,14 @@ module _ (p : LinkedProgram) (q : Asked) (Few More : Site → Site → StoreAt �
   calls_more o (InCalls.store {base} {s} m st c is) = InCalls.store (more o base s m) st (calls_more o c) is
 
   -- what may be stored
+  pub stores_more : (o base : Site) (s : StoreAt) (string : List Place) → StoresUnder p q Few o base s string → StoresUnder p q More o base s string
+  stores_more o base s string h = record {
+    store = h.store;
+    at_arg = calls_more o h.at_arg;
+    at_base = calls_more base h.at_base;
+    is_base = fields_more base h.is_base;
+    has = h.has;
+  }
+
   pub may_store_more : (o base : Site) (s : StoreAt) → MayStore p q Few o base s → MayStore p q More o base s
-  may_store_more o base s m =
-      record {
-        store = m.store;
-        string = m.string;
-        at_arg = calls_more o m.at_arg;
-        at_base = calls_more base m.at_base;
-        is_base = fields_more base m.is_base;
-        has = m.has;
-      }
+  may_store_more o base s m = (m.0, stores_more o base s m.0 m.1)

@@ -52,20 +52,23 @@ module _ (p : LinkedProgram) (q : Asked) where
   -- what may be stored over the meets is met
   pub meets_closed : (o base : Site) (s : StoreAt) → MayStore p q (Meets p q) o base s → Meets p q o base s
   meets_closed o base s m =
-      let arg = calls_round o m.at_arg in
-      let there = calls_round base m.at_base in
-      let itself = fields_round base m.is_base in
+      let stores = m.1 in
+      let arg = calls_round o stores.at_arg in
+      let there = calls_round base stores.at_base in
+      let itself = fields_round base stores.is_base in
       let k = max arg.0 (max there.0 itself.0) in
       let later = le-max_right arg.0 (max there.0 itself.0) in (
         suc k,
-        inr (record {
-          store = m.store;
-          string = m.string;
-          at_arg = calls_more p q (MetAfter p q arg.0) (MetAfter p q k) (after_le (le-max_left arg.0 (max there.0 itself.0))) o arg.1;
-          at_base = calls_more p q (MetAfter p q there.0) (MetAfter p q k) (after_le (le_trans (le-max_left there.0 itself.0) later)) base there.1;
-          is_base = fields_more p q (MetAfter p q itself.0) (MetAfter p q k) (after_le (le_trans (le-max_right there.0 itself.0) later)) base itself.1;
-          has = m.has;
-        }),
+        inr (
+          m.0,
+          record {
+            store = stores.store;
+            at_arg = calls_more p q (MetAfter p q arg.0) (MetAfter p q k) (after_le (le-max_left arg.0 (max there.0 itself.0))) o arg.1;
+            at_base = calls_more p q (MetAfter p q there.0) (MetAfter p q k) (after_le (le_trans (le-max_left there.0 itself.0) later)) base there.1;
+            is_base = fields_more p q (MetAfter p q itself.0) (MetAfter p q k) (after_le (le_trans (le-max_right there.0 itself.0) later)) base itself.1;
+            has = stores.has;
+          },
+        ),
       )
 
   -- what is met may be stored over the meets

@@ -50,7 +50,7 @@ module _ (p : LinkedProgram) (q : Asked) (Meet : Site → Site → StoreAt → T
 -- a triple that may be stored has sites of the demand and a store of it
 pub may_store_within : (p : LinkedProgram) (q : Asked) (Meet : Site → Site → StoreAt → Type 0) (o base : Site) (s : StoreAt)
     → MayStore p q Meet o base s → SiteIn p q o × SiteIn p q base × StoreIn p q s
-may_store_within p q Meet o base s m = (calls_site p q Meet o m.at_arg, calls_site p q Meet base m.at_base, m.store)
+may_store_within p q Meet o base s m = (calls_site p q Meet o m.1.at_arg, calls_site p q Meet base m.1.at_base, m.1.store)
 
 -- so has one that is met
 pub meets_within : (p : LinkedProgram) (q : Asked) (o base : Site) (s : StoreAt) → Meets p q o base s → SiteIn p q o × SiteIn p q base × StoreIn p q s

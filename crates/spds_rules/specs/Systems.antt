@@ -54,14 +54,17 @@ pub data InCalls (p : LinkedProgram) (q : Asked) (Meet : Site → Site → Store
   store : {base : Site} {s : StoreAt} {n : Node} {old string : List Place} → Meet o base s → StartIn p q base n → InCalls p q Meet o s.arg old
       → IsString p n.place.method string → InCalls p q Meet o n string
 
--- an object of one site may be stored into one of another: both may be there under one call string, the base as itself, and it has the field
-pub record MayStore (p : LinkedProgram) (q : Asked) (Meet : Site → Site → StoreAt → Type 0) (o base : Site) (s : StoreAt) : Type 0 where
+-- an object of one site may be stored into one of another under the call string: both may be there under it, the base as itself, and it has the field
+pub record StoresUnder (p : LinkedProgram) (q : Asked) (Meet : Site → Site → StoreAt → Type 0) (o base : Site) (s : StoreAt) (string : List Place) : Type 0 where
   pub store : StoreIn p q s
-  pub string : List Place
   pub at_arg : InCalls p q Meet o s.arg string
   pub at_base : InCalls p q Meet base s.base string
   pub is_base : InFields p q Meet base s.base []
   pub has : HasField p base s.field
+
+-- under one call string
+abbrev pub MayStore : LinkedProgram → Asked → (Site → Site → StoreAt → Type 0) → Site → Site → StoreAt → Type 0
+MayStore p q Meet o base s = (string : List Place) × StoresUnder p q Meet o base s string
 
 -- what is met after so many rounds, each of which adds what may be stored over those before it
 abbrev pub MetAfter : LinkedProgram → Asked → ℕ → Site → Site → StoreAt → Type 0

@@ -8,15 +8,14 @@ use Rattle.link_rules.specs.Linked.{LinkedProgram}
 use Rattle.link_sites.specs.declared.place.Place.{Place}
 use Rattle.link_sites.specs.declared.site.Site.{Site}
 use Rattle.spds_laws.proofs.Found.{slice_get-taken}
-use Rattle.spds_laws.proofs.More.{calls_more, fields_more}
+use Rattle.spds_laws.proofs.More.{stores_more}
 use Rattle.spds_laws.specs.Found.{AreFound, Listed, Triple}
 use Rattle.spds_rules.specs.declared.node.Node.{Node}
 use Rattle.spds_rules.specs.declared.store.StoreAt.{StoreAt}
 use Rattle.spds_rules.specs.Demand.{Asked}
-use Rattle.spds_rules.specs.Systems.{InCalls, MayStore}
+use Rattle.spds_rules.specs.Systems.{InCalls, MayStore, StoresUnder}
 use Rattle.spds_solve.specs.declared.met.Met.{Met}
 use Rattle.spds_solve.specs.Mets.{numbers, numbers_of, string_of}
-use Rattle.spds_solve.specs.Solved.{StoresUnder}
 use Rattle.spds_solve.proofs.Numbering.{numbered_within, string_of-marks}
 use Rattle.spds_tables.proofs.CallSystems.{calls_exact, derived_marks}
 use Rattle.spds_tables.proofs.Exact.{Begins, begins_stay, calls_given, system}
@@ -62,23 +61,6 @@ old_front xs behind n x low has =
     (has.0, slice_get-front n (xs ++ behind) has.0 x (let below = slice_get-below xs has.0 x has.1 in omega arith) (slice_get-append_left xs behind has.0 x has.1))
 
 module _ (p : LinkedProgram) (q : Asked) where
-  -- what may be stored under a string may be stored
-  pub stores_may : (Meet : Site → Site → StoreAt → Type 0) (o base : Site) (s : StoreAt) (string : List Place) → StoresUnder p q Meet o base s string
-      → MayStore p q Meet o base s
-  stores_may Meet o base s string h =
-      record { store = h.store; string = string; at_arg = h.at_arg; at_base = h.at_base; is_base = h.is_base; has = h.has }
-
-  -- over more meets it still may
-  pub stores_more : (Few More : Site → Site → StoreAt → Type 0) → ((o base : Site) (s : StoreAt) → Few o base s → More o base s) → (o base : Site) (s : StoreAt)
-      (string : List Place) → StoresUnder p q Few o base s string → StoresUnder p q More o base s string
-  stores_more Few More more o base s string h = record {
-    store = h.store;
-    at_arg = calls_more p q Few More more o h.at_arg;
-    at_base = calls_more p q Few More more base h.at_base;
-    is_base = fields_more p q Few More more base h.is_base;
-    has = h.has;
-  }
-
   module _ (names : Names) where
     -- the triples of a list are among those of one that has its meets
     pub listed_within : (few more : List Met) → ((met : Met) → Has few met → Has more met) → (o base : Site) (s : StoreAt)
@@ -99,7 +81,7 @@ module _ (p : LinkedProgram) (q : Asked) where
     pub stores_within : (few more : List Met) → ((met : Met) → Has few met → Has more met) → (met : Met) → StoresOver few met → StoresOver more met
     stores_within few more within met =
         let t = triple_of names (numbers met) in
-        stores_more (MetIn names (numbers_of few)) (MetIn names (numbers_of more)) (listed_within few more within) t.object t.base t.store met.string
+        stores_more p q (MetIn names (numbers_of few)) (MetIn names (numbers_of more)) (listed_within few more within) t.object t.base t.store met.string
 
     -- each meet of the list may, over those before it
     abbrev pub AreStored : List Met → Type 0
@@ -111,7 +93,7 @@ module _ (p : LinkedProgram) (q : Asked) where
         let m = at_map (triple_of names) (numbers_of mets) i t there in
         let met = at_map numbers mets i m.0 m.1 in
         let x = triple_of names (numbers met.0) in
-        let may = stores_may (MetIn names (numbers_of (take i mets))) x.object x.base x.store met.0.string (stored i met.0 met.1) in
+        let may : MayStore p q (MetIn names (numbers_of (take i mets))) x.object x.base x.store = (met.0.string, stored i met.0 met.1) in
         let same : t ≡ x = m.2 ∙ ap (triple_of names) met.2 in
         let front : triples_of names (numbers_of (take i mets)) ≡ take i (triples_of names (numbers_of mets)) =
         ap (triples_of names) (sym (take-map numbers i mets)) ∙ sym (take-map (triple_of names) i (numbers_of mets)) in

@@ -13,7 +13,7 @@ use Rattle.link_sites.specs.declared.site.Site.{Site}
 use Rattle.link_sites.specs.Sites.{HasField}
 use Rattle.spds_laws.proofs.Compose.{calls_within}
 use Rattle.spds_laws.proofs.Found.{closed_holds, found_met, slice_get-taken}
-use Rattle.spds_laws.proofs.More.{calls_more, fields_more, may_store_more}
+use Rattle.spds_laws.proofs.More.{calls_more, fields_more, may_store_more, stores_more}
 use Rattle.spds_laws.proofs.Rounds.{meets_stored}
 use Rattle.spds_laws.proofs.Within.{may_store_within}
 use Rattle.spds_laws.specs.Found.{IsClosed, Triple}
@@ -21,15 +21,15 @@ use Rattle.spds_rules.specs.declared.node.Node.{Node}
 use Rattle.spds_rules.specs.declared.store.StoreAt.{StoreAt}
 use Rattle.spds_rules.specs.Answers.{IsAnswered}
 use Rattle.spds_rules.specs.Demand.{Asked, StartIn}
-use Rattle.spds_rules.specs.Systems.{Calls, InCalls, IsString, MayStore, Meets}
+use Rattle.spds_rules.specs.Systems.{Calls, InCalls, IsString, MayStore, Meets, StoresUnder}
 use Rattle.spds_solve.specs.declared.answers.Held.{Held}
 use Rattle.spds_solve.specs.declared.met.Met.{Met}
 use Rattle.spds_solve.specs.Composing.{AreJoined, IsReady, joined}
 use Rattle.spds_solve.specs.Mets.{numbers, numbers_of, string_of}
 use Rattle.spds_solve.specs.Searches.{AllSettled, AreFoundBy, IsCandidate, IsComplete, IsFound, IsHeldOf}
-use Rattle.spds_solve.specs.Solved.{AreMeets, GivesBoth, IsListed, IsSolved, StandsForMeet, StoresUnder}
+use Rattle.spds_solve.specs.Solved.{AreMeets, GivesBoth, IsListed, IsSolved, StandsForMeet}
 use Rattle.spds_solve.proofs.Numbering.{has_numbers, numbered}
-use Rattle.spds_solve.proofs.Resting.{AreStored, StoresOver, calls_spelt, front_kept, listed_within, old_front, stored_found, stores_more, stores_within}
+use Rattle.spds_solve.proofs.Resting.{AreStored, StoresOver, calls_spelt, front_kept, listed_within, old_front, stored_found, stores_within}
 use Rattle.spds_tables.proofs.Exact.{base_is, calls_arrive, calls_share, fields_are, listed_met, met_listed, may_store_exact, object_is, store_is}
 use Rattle.spds_cells.proofs.Lists.{Has-append}
 use Rattle.spds_tables.proofs.Made.{demand_names}

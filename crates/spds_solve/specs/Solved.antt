@@ -6,14 +6,13 @@ use Rattle.jim_ast.specs.Lists.{Has, IsApart}
 use Rattle.link_rules.specs.Linked.{LinkedProgram}
 use Rattle.link_sites.specs.declared.place.Place.{Place}
 use Rattle.link_sites.specs.declared.site.Site.{Site}
-use Rattle.link_sites.specs.Sites.{HasField}
 use Rattle.post_star.specs.Jobs.{Job}
 use Rattle.spds_cells.specs.Cells.{AreCells, IsCellOf}
 use Rattle.spds_rules.specs.declared.node.Node.{Node}
 use Rattle.spds_rules.specs.declared.store.StoreAt.{StoreAt}
 use Rattle.spds_rules.specs.Answers.{IsAnswered}
-use Rattle.spds_rules.specs.Demand.{Asked, StoreIn}
-use Rattle.spds_rules.specs.Systems.{Calls, InCalls, InFields, Meets}
+use Rattle.spds_rules.specs.Demand.{Asked}
+use Rattle.spds_rules.specs.Systems.{Calls, Meets, StoresUnder}
 use Rattle.spds_solve.specs.declared.answers.Held.{Held}
 use Rattle.spds_solve.specs.declared.met.Met.{Met}
 use Rattle.spds_solve.specs.Mets.{numbers_of}
@@ -42,15 +41,6 @@ AreOfBases bases tables = (t : SiteTables) → Has tables t → IsOfBases bases 
 -- the call system gives one word at both cells
 abbrev pub GivesBoth : Job Reach → ℕ → ℕ → Type 0
 GivesBoth job a b = (word : List ℕ) × Reaches job a word × Reaches job b word
-
--- over meets, an object of one site may be stored into one of another under the call string: both may be there under it, the base as itself, and it
--- has the field
-pub record StoresUnder (p : LinkedProgram) (q : Asked) (Meet : Site → Site → StoreAt → Type 0) (o base : Site) (s : StoreAt) (string : List Place) : Type 0 where
-  pub store : StoreIn p q s
-  pub at_arg : InCalls p q Meet o s.arg string
-  pub at_base : InCalls p q Meet base s.base string
-  pub is_base : InFields p q Meet base s.base []
-  pub has : HasField p base s.field
 
 -- the numbers of a meet stand for these sites and this store of the demand
 pub record StandsForMeet (d : DemandParts) (met : Met) (o base : Site) (s : StoreAt) : Type 0 where

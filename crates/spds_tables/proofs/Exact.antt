@@ -404,13 +404,15 @@ module _ (p : LinkedProgram) (q : Asked) (names : Names) (are : AreNames p q nam
       let stored = of.stores store s there in
       let fields = fields_are p q names are parts of second b second_is mets inside two two_settled (store_at parts store).base s.base [] stored.base_is in
       let shared = calls_share (store_at parts store).arg (store_at parts store).base s.arg s.base stored.arg_is stored.base_is in (
-        (λ h. let c = shared.0 h.1 in record {
-          store = are.stores.each s (store, there);
-          string = c.0;
-          at_arg = c.1;
-          at_base = c.2;
-          is_base = fields.0 h.0;
-          has = subst (HasField p b) stored.field_is h.2;
-        }),
-        (λ m. (fields.1 m.is_base, shared.1 (m.string, m.at_arg, m.at_base), subst (HasField p b) (sym stored.field_is) m.has)),
+        (λ h. let c = shared.0 h.1 in (
+          c.0,
+          record {
+            store = are.stores.each s (store, there);
+            at_arg = c.1;
+            at_base = c.2;
+            is_base = fields.0 h.0;
+            has = subst (HasField p b) stored.field_is h.2;
+          },
+        )),
+        (λ m. (fields.1 m.1.is_base, shared.1 (m.0, m.1.at_arg, m.1.at_base), subst (HasField p b) (sym stored.field_is) m.1.has)),
       )
