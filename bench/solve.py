@@ -14,7 +14,7 @@ import tempfile
 from proved import ASKED, build
 from queries import TABLES
 
-USES = ('demand_rows jim_ast class_tree link_rules link_laws link_indexes link_program link_sites spds_rules spds_laws spds_nodes demand_walk demand_set weight_laws auto_table '
+USES = ('demand_rows jim_ast class_tree link_rules link_laws link_indexes link_program link_sites spds_rules spds_laws spds_nodes demand_walk demand_set spds_cells weight_laws auto_table '
         'post_star call_side spds_tables spds_solve indexmap anyhow')
 
 PROGRAM = r'''//! Links a program from standard input with the prelude, and tells of a local at the end of `main` how long its query takes to be solved, and how much
@@ -26,18 +26,34 @@ ghost use Rattle.spds_rules.specs.Nodes.{IsNode};
 
 use anyhow::Result;
 use demand_rows::linked_of;
-use demand_set::demand;
+use demand_set::{Demand, demand};
 use link_program::Linked;
 use link_sites::Place;
 use spds_nodes::is_node;
 use spds_rules::{Node, Var};
-use spds_solve::solve;
+use spds_solve::{Solved, solve};
 use std::env;
 use std::io::Read;
 use std::time::Instant;
 
 ''' + ASKED + r'''
-// How long solving takes, in microseconds, and the sizes of what is demanded and found.
+// Microseconds since then.
+fn micros_since(rt: &HostRuntime, start: Instant) -> u64 {
+    match start.elapsed(rt) {
+        Ok(took) => u64::try_from(took.as_micros()).unwrap_or(u64::MAX),
+        Err(_) => u64::MAX,
+    }
+}
+
+// How long solving took, in microseconds, and the sizes of what is demanded and found.
+fn line(rt: &HostRuntime, took: u64, found: &Demand, solved: &Solved) -> Result<String> {
+    let nodes = found.nodes().len();
+    let size = solved.size();
+    let (entries, facts, meets) = (size.entries, size.facts, solved.meets().len());
+    Ok(format!(in rt.alloc(); "{took} {nodes} {entries} {facts} {meets}")?)
+}
+
+// Solves what the node demands, and tells of it. It has few ways out while it owns the tables, since the prover goes over their drops at each.
 fn told(rt: &HostRuntime, linked: &Linked, node: Node) -> Result<String>
     requires well { IsWellLinked linked.now }
     requires node { IsNode linked.now node }
@@ -46,15 +62,10 @@ fn told(rt: &HostRuntime, linked: &Linked, node: Node) -> Result<String>
         return Ok(String::from_str(rt.alloc(), "no demand")?);
     };
     let start = Instant::now(rt)?;
-    let solved = solve(rt.alloc(), linked, &found);
-    let took = u64::try_from(start.elapsed(rt)?.as_micros()).unwrap_or(u64::MAX);
-    let Ok(solved) = solved else {
-        return Ok(String::from_str(rt.alloc(), "no memory")?);
-    };
-    let nodes = found.nodes().len();
-    let size = solved.size();
-    let (entries, facts, meets) = (size.entries, size.facts, solved.meets().len());
-    Ok(format!(in rt.alloc(); "{took} {nodes} {entries} {facts} {meets}")?)
+    match solve(rt.alloc(), linked, &found) {
+        Ok(solved) => line(rt, micros_since(rt, start), &found, &solved),
+        Err(_) => Ok(String::from_str(rt.alloc(), "no memory")?),
+    }
 }
 
 fn measured(rt: &HostRuntime, linked: &Linked, local: &str) -> Result<String>
@@ -67,11 +78,10 @@ fn measured(rt: &HostRuntime, linked: &Linked, local: &str) -> Result<String>
 }
 
 fn answer(rt: &HostRuntime, bytes: &[u8], local: &str) -> Result<String> {
-    let linked = match str::from_utf8(bytes) {
-        Ok(text) => linked_of(rt.alloc(), text),
-        Err(_) => None,
+    let Ok(text) = str::from_utf8(bytes) else {
+        return Ok(String::from_str(rt.alloc(), "no text")?);
     };
-    match linked {
+    match linked_of(rt.alloc(), text) {
         Some(linked) => measured(rt, &linked, local),
         None => Ok(String::from_str(rt.alloc(), "no linked program")?),
     }
@@ -92,8 +102,8 @@ fn main(rt: HostRuntime) -> Result<()> {
 ASKS = '''use Rattle.demand_walk.proofs.Appended.{Has-one}
 use Rattle.solve_speed.proofs.told.Goals as goal
 
-pub demand-found-requires : goal.demand-found-requires
-demand-found-requires c = record { nodes = λ n has. rw (Has-one _ n has) c.requires }
+pub demand-requires : goal.demand-requires
+demand-requires c = record { nodes = λ n has. rw (Has-one _ n has) c.requires.node }
 '''
 
 
