@@ -84,6 +84,6 @@ pub record IsComplete (p : LinkedProgram) (sites : List Site) (parts : Parts) (t
   pub found : AreFoundBy p sites parts mets
   pub closed : (m : Numbers) → m.store < length parts.stores.items → IsCandidate p sites parts tables m → Has (numbers_of mets) m
 
--- the tables say that the node may hold an object of their site
+-- the tables say that the nodes of the cell may hold an object of their site
 abbrev pub IsHeldOf : SiteTables → ℕ → Type 0
 IsHeldOf t node = Reaches t.fields node [] × ArrivesAt t.calls node

@@ -21,7 +21,8 @@ use Rattle.spds_tables.specs.Names.{HasCell, Names}
 use Rattle.weight_laws.specs.declared.reach.Reach.{Reach}
 use Rattle.weight_laws.specs.Reach.{reach_domain}
 
--- an edge of these kinds leads from a node of the one cell to one of the other
+-- an edge of these kinds leads from a node of the one cell to one of the other. Within a frame these are two cells: along an edge that stays in its cell
+-- nothing changes
 pub record IsKept (p : LinkedProgram) (q : Asked) (names : Names) (Keeps : EdgeKind → Type 0) (from to : ℕ) : Type 0 where
   pub source : Node
   pub target : Node

@@ -1,4 +1,4 @@
-//! The two pushdown systems of a site over a demand, as rules over numbers, and their tables.
+//! The two pushdown systems of a site over a demand, as rules over the cells of its nodes, and their tables. What is called a node of a table is a cell.
 //!
 //! The field system reads off a table by itself. In the call system static fields and stores forget the call string, which is no rule of a pushdown
 //! system: what they come to are further start nodes, which the solver finds.

@@ -68,7 +68,7 @@ fn fill(tables: &mut SiteTables, parts: &Parts, site: u32) -> Result<(), NoMemor
     Ok(())
 }
 
-/// The marks of a call string that both tables give at these nodes, the innermost call first; `None` where there is none.
+/// The marks of a call string that both tables give at these cells, the innermost call first; `None` where there is none.
 pub fn shared_word(
     alloc: Global,
     bases: &IndexedBases,
@@ -97,7 +97,7 @@ pub fn shared_word(
     )
 }
 
-/// Whether both tables give one call string at these nodes.
+/// Whether both tables give one call string at these cells.
 pub fn share(
     alloc: Global,
     bases: &IndexedBases,
@@ -229,7 +229,7 @@ impl SiteTables {
         Ok(())
     }
 
-    /// Whether the empty word is in the field system at the node, by one look-up.
+    /// Whether the empty word is in the field system at the cell, by one look-up.
     pub fn has_fields(&self, node: u32) -> bool
         requires settled { self.now.fields.settled ≡ true }
         requires last { self.now.fields.last ≡ 0 }
@@ -238,7 +238,7 @@ impl SiteTables {
         self.fields.table().at(Entry::Base(0), node).0
     }
 
-    /// The nodes that may hold an object of the site: at which the empty word is in the field system, and some call string is.
+    /// The cells whose nodes may hold an object of the site: at which the empty word is in the field system, and some call string is.
     pub fn held(&self, alloc: Global) -> Result<Vec<u32>, NoMemory>
         requires fields { self.now.fields.settled ≡ true }
         requires last { self.now.fields.last ≡ 0 }
@@ -261,7 +261,7 @@ impl SiteTables {
         Size::of(self.fields.table()).plus(Size::of(self.calls.table()))
     }
 
-    /// The nodes at which some call string is.
+    /// The cells at which some call string is.
     pub fn arrivals(&self, alloc: Global) -> Result<IndexSet<u32>, NoMemory>
         requires { self.now.calls.settled ≡ true }
         ensures { IfOk result (λ nodes. AreArrivals self.now.calls nodes.keys) }
