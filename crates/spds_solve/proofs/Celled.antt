@@ -1,5 +1,5 @@
 -- The cell that a look-up finds.
-use Rattle.std.proofs.Common.{◌≡◌, ◌<◌, ℕ, List, Some, length, slice_get, subst, sym, arith}
+use Rattle.std.proofs.Common.{◌≡◌, ℕ, List, Some, length, slice_get, subst, sym, arith}
 use Rattle.jim_ast.proofs.Places.{slice_get-below, slice_get-there}
 use Rattle.spds_cells.specs.Cells.{IsCellOf}
 use Rattle.spds_rules.specs.declared.node.Node.{Node}

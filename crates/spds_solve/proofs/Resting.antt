@@ -5,7 +5,6 @@ use Rattle.jim_ast.specs.Lists.{Has}
 use Rattle.jim_ast.proofs.Places.{slice_get-append_left, slice_get-below}
 use Rattle.link_laws.proofs.Lists.{at_map, map_at}
 use Rattle.link_rules.specs.Linked.{LinkedProgram}
-use Rattle.link_sites.specs.declared.place.Place.{Place}
 use Rattle.link_sites.specs.declared.site.Site.{Site}
 use Rattle.spds_laws.proofs.Found.{slice_get-taken}
 use Rattle.spds_laws.proofs.More.{stores_more}

@@ -1,5 +1,5 @@
 -- What was solved: the meets, the answers, and the call systems of the sites.
-use Rattle.std.specs.Prelude.{◌≡◌, ◌↔◌, ℕ, List, [], Some, slice_get, take, true}
+use Rattle.std.specs.Prelude.{◌≡◌, ◌↔◌, ℕ, List, Some, slice_get, take, true}
 use Rattle.call_side.specs.Indexed.{BaseList}
 use Rattle.demand_set.specs.Demands.{DemandParts}
 use Rattle.jim_ast.specs.Lists.{Has, IsApart}

@@ -11,7 +11,7 @@ use Rattle.demand_set.specs.Demands.{DemandParts, IsDemandOf, StartsAt}
 use Rattle.jim_ast.specs.Lists.{Has}
 use Rattle.jim_ast.proofs.Places.{slice_get-below, slice_get-there}
 use Rattle.link_indexes.specs.Rows.{row}
-use Rattle.link_laws.proofs.Lists.{at_map, each_left, each_right, in_flat_map, map_at}
+use Rattle.link_laws.proofs.Lists.{at_map, each_left, in_flat_map, map_at}
 use Rattle.link_rules.specs.Linked.{LinkedProgram}
 use Rattle.link_rules.specs.Lists.{Each}
 use Rattle.link_sites.specs.declared.place.Place.{Place}
