@@ -1,7 +1,7 @@
 use crate::{
-    MemSink, MemSource, ReadAll, ReadSource, Sink, Source, WriteSink, read_all, write_all,
+    Failed, MemSink, MemSource, ReadAll, ReadSource, Sink, Source, WriteSink, read_all, write_all,
 };
-use std::io::Cursor;
+use std::io::{Cursor, ErrorKind, Read, Write};
 use std::test::Fail;
 
 const TEXT: &[u8] = b"points-to";
@@ -129,5 +129,60 @@ fn adapts_readers_and_writers_of_std(rt: HostRuntime) -> Result<(), Fail> {
     // A cursor over four bytes takes four and then none.
     let mut full = WriteSink::new(Cursor::new([0u8; 4]));
     assert!(rt; write_all(&mut full, TEXT).is_err());
+    Ok(())
+}
+
+// Fails at its first call, as if a signal had come, and from then on does what the stream in it does.
+#[derive(Drop)]
+struct Interrupted<T> {
+    inner: T,
+    was_called: bool,
+}
+
+impl<T: Read> Read for Interrupted<T> {
+    fn read(&mut self, buf: &mut [u8]) -> std::io::Result<usize> {
+        if self.was_called {
+            return self.inner.read(buf);
+        }
+        self.was_called = true;
+        Err(ErrorKind::Interrupted.into())
+    }
+}
+
+impl<T: Write> Write for Interrupted<T> {
+    fn write(&mut self, buf: &[u8]) -> std::io::Result<usize> {
+        if self.was_called {
+            return self.inner.write(buf);
+        }
+        self.was_called = true;
+        Err(ErrorKind::Interrupted.into())
+    }
+
+    fn flush(&mut self) -> std::io::Result<()> {
+        self.inner.flush()
+    }
+}
+
+// An interrupted call is answered as a fault, and not tried again: the next call is the first to move bytes. That each `Err` counts as one
+// fault is proved.
+#[test]
+fn answers_a_call_that_was_interrupted_and_goes_on(rt: HostRuntime) -> Result<(), Fail> {
+    let mut source = ReadSource::new(Interrupted {
+        inner: Cursor::new(TEXT.to_vec(rt.alloc())?),
+        was_called: false,
+    });
+    let mut front = [0u8; 4];
+    assert!(rt; source.read(&mut front) == Err(Failed));
+    assert!(rt; source.read(&mut front) == Ok(4));
+    assert_eq!(rt; front.as_slice(), b"poin".as_slice());
+
+    let mut out = Vec::new(rt.alloc());
+    let mut sink = WriteSink::new(Interrupted {
+        inner: Cursor::new(&mut out),
+        was_called: false,
+    });
+    assert!(rt; sink.write(&front) == Err(Failed));
+    assert!(rt; sink.write(&front) == Ok(4));
+    assert_eq!(rt; out.as_slice(), front.as_slice());
     Ok(())
 }
