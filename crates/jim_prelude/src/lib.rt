@@ -5,7 +5,8 @@
 //! method that gives a new object makes one, one that gives its receiver gives it, and numbers are all 0.
 #![tactic(auto)]
 
-ghost use Rattle.std.specs.Prelude.{◌≡◌, ◌≤◌, ◌==◌, count_by, length};
+ghost use Rattle.std.specs.Prelude.{◌≡◌, ◌≤◌, length};
+ghost use Rattle.jim_prelude.specs.Text.{prelude_text};
 ghost use Rattle.jim_prelude.specs.declared.TheConstants.{PRELUDE};
 
 /// The classes, in Jimple, a member a line.
@@ -141,8 +142,8 @@ class java.lang.Integer {
 }
 ";
 
-/// The text is as long as a text that is read may be, or shorter, and closes each brace that it opens.
+/// The text is the one that is defined class by class and member by member, and as long as a text that is read may be, or shorter.
 pub fn prelude_is_whole()
     ensures short { length PRELUDE.now ≤ 16777216 }
-    ensures closed { count_by (λ b. b == 123) PRELUDE.now ≡ count_by (λ b. b == 125) PRELUDE.now }
+    ensures text { PRELUDE.now ≡ prelude_text }
 {}
