@@ -25,13 +25,6 @@ impl<T: Drop> List<T> {
         List { items }
     }
 
-    /// The items, as a vector. Takes no memory.
-    pub fn into_vec(self) -> Vec<T>
-        ensures { result.items ≡ self }
-    {
-        self.items
-    }
-
     /// The items.
     pub fn as_slice(&self) -> &[T]
         ensures { result.now ≡ self.now }

@@ -1,4 +1,4 @@
--- The sets of stacks that were met, by number, and the moves between them.
+-- The sets of stacks that were met, by number, and the moves between them. No clause of a public function speaks of these: they are what the recogniser keeps.
 use Rattle.std.specs.Prelude.{◌≡◌, ◌≢◌, ℕ, ◌+◌, ◌*◌, List, [], ◌∷◌, map, length, slice_get, Some}
 use denote.Enum.Declared.{tag_of}
 use Rattle.jim_signs.specs.contracts.lead.Lead.{the_type}

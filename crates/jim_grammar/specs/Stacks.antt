@@ -1,4 +1,4 @@
--- The machine's entries and stacks, and what a step adds to a list of stacks.
+-- The machine's entries and stacks, and what a step adds to a list of stacks. No clause of a public function speaks of these: they are how the recogniser reads.
 use Rattle.std.specs.Prelude.{◌≡◌, ℕ, zero, suc, ◌+◌, ◌⊎◌, List, [], ◌∷◌, ◌++◌, map, Vec}
 use Rattle.std.specs.declared.alloc.Global.{Global}
 use Rattle.jim_signs.specs.declared.lead.Lead.{Lead}

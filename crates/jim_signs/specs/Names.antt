@@ -1,7 +1,8 @@
 -- The names of a text.
-use Rattle.std.specs.Prelude.{ℕ, ◌-◌, if◌then◌else◌, List, [], ◌∷◌, ◌++◌, length, fold, slice_range, Option, Some, None}
-use Rattle.std.specs.List.{list_any, position_or_len}
+use Rattle.std.specs.Prelude.{◌≡◌, ◌↔◌, ℕ, ◌-◌, ◌<◌, if◌then◌else◌, List, [], ◌∷◌, ◌++◌, length, fold, slice_get, slice_range, Option, Some, None}
+use Rattle.std.specs.List.{filter_map, list_any, position_or_len}
 use Rattle.std.specs.Str.{bytes_eq}
+use Rattle.jim_ast.specs.Lists.{Has, IsApart}
 use Rattle.jim_text.specs.declared.Kind.{Kind}
 use Rattle.jim_text.specs.declared.Kind.TheVariants as kind
 use Rattle.jim_text.specs.declared.Token.{Token}
@@ -39,3 +40,18 @@ names_of bytes tokens = fold (λ names token. with_contents names (contents toke
 -- the place of a text among the names, from 0
 abbrev pub place_of : List (List ℕ) → List ℕ → ℕ
 place_of names text = position_or_len (bytes_eq text) names
+
+-- what the tokens say, one after the other
+abbrev pub said : List ℕ → List Token → List (List ℕ)
+said bytes tokens = filter_map (λ token. contents token.kind (text_of bytes token)) tokens
+
+-- each text that is said, once, in the order in which it is said first
+pub record AreFirsts (texts names : List (List ℕ)) : Type 0 where
+  pub apart : IsApart names
+  pub each : (text : List ℕ) → Has texts text ↔ Has names text
+  pub in_order : (i j b : ℕ) (first second : List ℕ) → i < j → slice_get names i ≡ Some first → slice_get names j ≡ Some second
+      → slice_get texts b ≡ Some second → (a : ℕ) × (a < b) × (slice_get texts a ≡ Some first)
+
+-- the names of a text are that, whatever its tokens are
+abbrev pub NamesAreFirsts : Type 0
+NamesAreFirsts = (bytes : List ℕ) (tokens : List Token) → AreFirsts (said bytes tokens) (names_of bytes tokens)

@@ -7,7 +7,7 @@ mod mark;
 mod sign;
 mod word;
 
-pub use law::has_tokens;
+pub use law::{has_tokens, names_are_firsts};
 pub use lead::{Lead, Sign, Signs};
 pub use sign::signs;
 

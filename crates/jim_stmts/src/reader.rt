@@ -94,6 +94,7 @@ impl Reader<'_> {
     /// Goes over a token, if one is left, and gives its number, 0 where none is left.
     pub fn number(&mut self) -> u32
         ensures number { (s : Sign) (r : List Sign) → self.old ≡ s ∷ r → result ≡ s.text }
+        ensures none { length self.old ≡ 0 → result ≡ 0 }
         ensures rest { (s : Sign) (r : List Sign) → self.old ≡ s ∷ r → self.new ≡ r }
         ensures no_longer { length self.new ≤ length self.old }
         ensures shorter { 0 < length self.old → length self.new < length self.old }

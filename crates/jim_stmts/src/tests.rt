@@ -1,6 +1,8 @@
-use super::{Reader, maybe_types, names, outcome, stmt, ty, types};
+use super::{
+    Reader, expr, field_sig, imm, invoke, maybe_types, method_sig, names, outcome, stmt, ty, types,
+};
 use jim_ast::{Expr, FieldSig, Imm, Invoke, List, MethodSig, NameId, Stmt, Ty};
-use jim_signs::{Sign, signs};
+use jim_signs::{Lead, Sign, signs};
 use jim_text::lex;
 use std::alloc::Global;
 use std::test::Fail;
@@ -409,5 +411,41 @@ fn parts(rt: HostRuntime) -> Result<(), Fail> {
         shown.as_str(),
         " Class(NameId(0))+1 Void+0 Int+0 1 2 1 Char+1 Class(NameId(3))+0 Byte+0 Class(NameId(0))+0 4"
     );
+    Ok(())
+}
+
+#[test]
+fn signatures_and_operands(rt: HostRuntime) -> Result<(), Fail> {
+    let alloc = rt.alloc();
+    let text =
+        b"<A: int[] f> <B: void g(long,A)> \"t\" staticinvoke <B: byte h()>(null) lengthof x ;";
+    let signs = signs_of(alloc, text)?;
+    let mut reader = Reader::new(&signs);
+    let mut shown = String::new(alloc);
+    put_field(alloc, &mut shown, field_sig(&mut reader))?;
+    put_method(alloc, &mut shown, &method_sig(alloc, &mut reader)?)?;
+    put_imm(alloc, &mut shown, imm(&mut reader))?;
+    put_call(alloc, &mut shown, &invoke(alloc, &mut reader)?)?;
+    put_expr(alloc, &mut shown, &expr(alloc, &mut reader)?)?;
+    assert!(rt; reader.is_at(Lead::Semicolon));
+    assert_eq!(rt;
+        shown.as_str(),
+        " < 0 Int+1 1 > < 2 Void+0 3 Long+0 Class(NameId(0))+0 > Text(NameId(4)) Static None < 2 Byte+0 5 > Null Length Local(NameId(6))"
+    );
+    Ok(())
+}
+
+#[test]
+fn places_in_front_of_and_behind_tokens(rt: HostRuntime) -> Result<(), Fail> {
+    let signs = signs_of(rt.alloc(), b"a , b")?;
+    let mut reader = Reader::new(&signs);
+    assert!(rt; reader.is_at(Lead::Name) && !reader.is_empty());
+    assert!(rt; reader.second() == Lead::Comma && reader.third() == Lead::Name);
+    assert_eq!(rt; reader.number(), 0);
+    reader.skip();
+    assert!(rt; reader.lead() == Lead::Name && reader.second() == Lead::Other);
+    assert_eq!(rt; reader.number(), 1);
+    assert!(rt; reader.is_empty() && reader.is_at(Lead::Other) && reader.third() == Lead::Other);
+    assert_eq!(rt; reader.number(), 0);
     Ok(())
 }
