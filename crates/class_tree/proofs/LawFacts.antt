@@ -15,7 +15,7 @@ use Rattle.class_tree.proofs.Parents.{interface_named}
 
 -- ---- paths
 
-path_append : {Go : ℕ → ℕ → Type 0} {a b c : ℕ} → Path Go a b → Path Go b c → Path Go a c
+pub path_append : {Go : ℕ → ℕ → Type 0} {a b c : ℕ} → Path Go a b → Path Go b c → Path Go a c
 path_append here q = q
 path_append (step s p) q = step s (path_append p q)
 
@@ -34,7 +34,7 @@ position_at {X = X} t n (x ∷ xs) i e = by (t x) refl e (position_at t (n + 1) 
     by true is e rest = let same : n ≡ i = cc in (0, omega (arith, same), x, refl, is)
     by false is e rest = let p = rest e in (suc p.0, omega (arith, p.1), p.2, p.3, p.4)
 
-position_first : {X : Type 0} (t : X → Bool) (xs : List X) (i : ℕ) → Some i ≡ position_from t 0 xs → (x : X) × (slice_get xs i ≡ Some x) × (t x ≡ true)
+pub position_first : {X : Type 0} (t : X → Bool) (xs : List X) (i : ℕ) → Some i ≡ position_from t 0 xs → (x : X) × (slice_get xs i ≡ Some x) × (t x ≡ true)
 position_first t xs i e = let p = position_at t 0 xs i (sym e) in (p.2, ap (slice_get xs) (p.1 ∙ zero-add p.0) ∙ p.3, p.4)
 
 -- ---- a look-up upwards gives one answer

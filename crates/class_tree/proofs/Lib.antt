@@ -13,3 +13,4 @@ pub mod OrderFacts
 pub mod TreeFacts
 pub mod Building
 pub mod LawFacts
+pub mod Decided

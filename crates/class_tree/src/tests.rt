@@ -28,15 +28,20 @@ fn of_steps(
     build(alloc, classes, implements, &[], &[])
 }
 
+// What is read of a tree is read where it is borrowed, since the prover goes over a tree at each way out of a function that owns one.
+fn is_a_chain(tree: &Tree) -> bool
+    requires { length tree.now.classes ≡ 3 }
+{
+    let below = tree.sub(2, 0) && !tree.sub(0, 2) && tree.sub(1, 1);
+    let steps = tree.parent(2) == Some(1) && tree.parent(0).is_none();
+    below && steps && tree.interfaces(2).is_empty()
+}
+
 #[test]
 fn parents_alone(rt: HostRuntime) -> Result<(), Fail> {
     let tree = of_steps(rt.alloc(), &[TOP, class(0), class(1)], &[])?;
-    assert!(rt; tree.sub(2, 0));
-    assert!(rt; !tree.sub(0, 2));
-    assert!(rt; tree.sub(1, 1));
-    assert_eq!(rt; tree.parent(2), Some(1));
-    assert_eq!(rt; tree.parent(0), None);
-    assert!(rt; tree.interfaces(2).is_empty());
+    let holds = is_a_chain(&tree);
+    assert!(rt; holds);
     Ok(())
 }
 
@@ -116,6 +121,26 @@ fn field(class: u32, key: u32) -> FieldRow
     FieldRow { class, key }
 }
 
+fn are_bodies(tree: &Tree) -> bool
+    requires { length tree.now.classes ≡ 7 }
+{
+    let below = tree.sub(4, 6) && !tree.sub(3, 2);
+    let resolved = tree.resolve(4, 7) == Some(1) && tree.resolve(4, 8).is_none();
+    let above = tree.resolve(4, 9) == Some(5) && tree.resolve(4, 6).is_none();
+    let own = tree.own_body(3, 7) == Some(1) && tree.own_body(4, 7).is_none();
+    let declared = tree.declared(4, 8) && tree.declared(4, 6) && !tree.declared(3, 8);
+    below && resolved && above && own && declared
+}
+
+fn are_fields(tree: &Tree) -> bool
+    requires { length tree.now.classes ≡ 7 }
+{
+    let near = tree.field(4, 20) == Some(1) && tree.field(3, 20) == Some(0);
+    let above = tree.field(4, 21) == Some(2) && tree.field(4, 22) == Some(4);
+    let parents = tree.field(4, 23).is_none() && tree.field(2, 23) == Some(5);
+    near && above && parents && tree.field(4, 24) == Some(6)
+}
+
 #[test]
 fn methods(rt: HostRuntime) -> Result<(), Fail> {
     let methods = [
@@ -128,17 +153,8 @@ fn methods(rt: HostRuntime) -> Result<(), Fail> {
         method(5, 6, BodyKind::Plain),
     ];
     let tree = of_members(rt.alloc(), &methods, &[])?;
-    assert!(rt; tree.sub(4, 6));
-    assert!(rt; !tree.sub(3, 2));
-    assert_eq!(rt; tree.resolve(4, 7), Some(1));
-    assert_eq!(rt; tree.resolve(4, 8), None);
-    assert_eq!(rt; tree.resolve(4, 9), Some(5));
-    assert_eq!(rt; tree.resolve(4, 6), None);
-    assert_eq!(rt; tree.own_body(3, 7), Some(1));
-    assert_eq!(rt; tree.own_body(4, 7), None);
-    assert!(rt; tree.declared(4, 8));
-    assert!(rt; tree.declared(4, 6));
-    assert!(rt; !tree.declared(3, 8));
+    let holds = are_bodies(&tree);
+    assert!(rt; holds);
     Ok(())
 }
 
@@ -155,12 +171,7 @@ fn fields(rt: HostRuntime) -> Result<(), Fail> {
         field(4, 24),
     ];
     let tree = of_members(rt.alloc(), &[], &fields)?;
-    assert_eq!(rt; tree.field(4, 20), Some(1));
-    assert_eq!(rt; tree.field(3, 20), Some(0));
-    assert_eq!(rt; tree.field(4, 21), Some(2));
-    assert_eq!(rt; tree.field(4, 22), Some(4));
-    assert_eq!(rt; tree.field(4, 23), None);
-    assert_eq!(rt; tree.field(2, 23), Some(5));
-    assert_eq!(rt; tree.field(4, 24), Some(6));
+    let holds = are_fields(&tree);
+    assert!(rt; holds);
     Ok(())
 }
