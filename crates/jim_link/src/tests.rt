@@ -137,25 +137,43 @@ fn links_with_the_prelude(rt: HostRuntime) -> Result<(), Fail> {
     Ok(())
 }
 
-// The first refusals of three programs: a class twice, an unknown parent, an empty body.
+// The first refusals of programs that the rules of the whole program refuse, and of one whose `main` has no statement.
 #[test]
 fn refuses(rt: HostRuntime) -> Result<(), Fail> {
-    let alloc = rt.alloc();
     let main = "class Main { static void main(java.lang.String[]) { return; } }";
-    let twice = linked(
-        alloc,
-        format!(in alloc; "class A {{ }} class A {{ }} {main}")?.as_str(),
-    )?;
-    assert_eq!(rt; twice.as_str(), "1 A 0");
-    let orphan = linked(
-        alloc,
-        format!(in alloc; "class A extends B {{ }} {main}")?.as_str(),
-    )?;
-    assert_eq!(rt; orphan.as_str(), "2 A 0");
+    let rows = [
+        ("class A { } class A { }", "1 A 0"),
+        ("class A extends B { }", "2 A 0"),
+        ("class A extends B { } class B extends A { }", "3 A 0"),
+        (
+            "class A { } interface I { void m() { return; } }",
+            "4 <I: void m()> 0",
+        ),
+    ];
+    for (classes, refused) in rows {
+        let text = format!(in rt.alloc(); "{classes} {main}")?;
+        let found = linked(rt.alloc(), text.as_str())?;
+        assert_eq!(rt; found.as_str(), refused);
+    }
+    let nowhere = linked(rt.alloc(), "class Main { }")?;
+    assert_eq!(rt; nowhere.as_str(), "5  0");
     let empty = linked(
-        alloc,
+        rt.alloc(),
         "class Main { static void main(java.lang.String[]) { } }",
     )?;
     assert_eq!(rt; empty.as_str(), "9 <Main: void main(java.lang.String[])> 0");
+    Ok(())
+}
+
+// A class of the input takes the place of the prelude's.
+#[test]
+fn the_prelude_s_class_gives_way(rt: HostRuntime) -> Result<(), Fail> {
+    let text = "class java.lang.System { static void m() { return; } } \
+class Main { static void main(java.lang.String[]) { staticinvoke <java.lang.System: void m()>(); return; } }";
+    let methods = linked(rt.alloc(), text)?;
+    assert_eq!(rt;
+        methods.as_str(),
+        "<java.lang.System: void m()>\n<Main: void main(java.lang.String[])>\nroot\n"
+    );
     Ok(())
 }

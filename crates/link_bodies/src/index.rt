@@ -34,7 +34,7 @@ impl<'a> Model for BodyIndex<'a> {
 }
 
 impl<'a> BodyIndex<'a> {
-    /// The index of a body. There is room for 4,294,967,295 locals.
+    /// The index of a body. There is room for 4,294,967,295 locals and as many labels.
     pub fn new(alloc: Global, body: &'a Body) -> Result<Self, NoMemory>
         ensures { IfOk result (λ x. x ≡ body.now) }
     {

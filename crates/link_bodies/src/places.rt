@@ -30,17 +30,17 @@ impl FirstPlaces {
         self.places.get(&name).copied()
     }
 
-    // Puts a name at the place behind all names so far. There is room for 4,294,967,295.
+    // Puts a name at the place behind all names so far. There is room for 4,294,967,295 names.
     fn add(&mut self, name: NameId, place: usize) -> Result<(), NoMemory>
         ensures { OnOk result ((names : List ANameId) → KnowsPlaces names self.old → place ≡ length names → KnowsPlaces (names ++ name ∷ []) self.new) }
     {
+        if place >= u32::MAX as usize {
+            return Err(AllocError);
+        }
         if self.find(name).is_some() {
             return Ok(());
         }
-        let Ok(number) = u32::try_from(place) else {
-            return Err(AllocError);
-        };
-        self.places.insert(name, number)?;
+        self.places.insert(name, place as u32)?;
         Ok(())
     }
 

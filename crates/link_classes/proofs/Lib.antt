@@ -12,4 +12,3 @@ pub mod Within
 pub mod DeclaredBodies
 pub mod HeldFacts
 pub mod RootNames
-pub mod Small

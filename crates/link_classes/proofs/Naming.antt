@@ -1,16 +1,18 @@
 -- Which class has which name, as classes come behind others.
-use Rattle.std.proofs.Common.{◌≡◌, ◌≢◌, ℕ, ◌⊎◌, ◌++◌, Option, Some, None, List, [], ◌∷◌, length, length-set, slice_get, refl, sym, ap, subst, ◌∙◌, inl, inr, arith}
+use Rattle.std.proofs.Common.{◌≡◌, ◌≢◌, ℕ, zero, suc, ◌⊎◌, ◌++◌, Option, Some, None, List, [], ◌∷◌, length, length-set, replicate, slice_get, refl, sym, ap, subst, ◌∙◌, inl, inr, arith}
 use Rattle.std.specs.List.{slice_set}
 use Rattle.std.specs.Option.{option_or, unwrap_or}
 use Rattle.std.proofs.lemmas.Bool.{cases_order}
+use Rattle.std.proofs.lemmas.List.Elements.{All-nil}
 use Rattle.class_tree.specs.Paths.{IsLeast}
 use Rattle.jim_ast.proofs.Places.{slice_get-append_left, slice_get-below, slice_get-push, slice_get-pushed, slice_get-set_other, slice_get-set_same}
 use Rattle.jim_ast.specs.Lists.{IsApart}
 use Rattle.link_rules.specs.Classes.{DeclaredClass, IsCompleted, IsNamed, class_name, comes, is_left_out}
 use Rattle.link_rules.specs.World.{IsClassNumber}
+use Rattle.link_classes.specs.declared.order.ClassOrder.{ClassOrder}
 use Rattle.link_classes.specs.declared.seen.ClassIn.{ClassIn}
-use Rattle.link_classes.specs.Seen.{IsFirstNamed, IsPutIfNew, KnowsClasses, seen_class, seen_classes}
-use Rattle.std.proofs.lemmas.List.{length-map}
+use Rattle.link_classes.specs.Seen.{IsFirstNamed, IsOrder, IsPutIfNew, IsSeen, KnowsClasses, seen_class, seen_classes}
+use Rattle.std.proofs.lemmas.List.{length-map, length-replicate}
 
 module _ (classes : List DeclaredClass) (c : DeclaredClass) where
   pub named_kept : (text : List ℕ) (m : ℕ) → IsNamed classes text m → IsNamed (classes ++ c ∷ []) text m
@@ -43,6 +45,28 @@ module _ (classes : List DeclaredClass) (c : DeclaredClass) where
     holds = record { class = c; there = slice_get-push classes c; named = refl };
     first = λ m below h. elim (named_pushed (class_name c) m h) [ inl before ↦ p (m, before) | inr last ↦ omega (arith, last.0) ];
   }
+
+-- what stands in a list of one element, again and again
+of_replicate : {X : Type 0} (n : ℕ) (x : X) (i : ℕ) (y : X) → slice_get (replicate n x) i ≡ Some y → x ≡ y
+of_replicate zero x i y h = cc
+of_replicate (suc n) x zero y h = cc
+of_replicate (suc n) x (suc i) y h = of_replicate n x i y h
+
+-- where there is no class, none has a name
+knows_none : (texts : List (List ℕ)) → KnowsClasses texts [] (replicate (length texts) None)
+knows_none texts = record {
+  as_many = sym (length-replicate (length texts) None);
+  each = λ i text n p q. subst (IsFirstNamed [] text) (of_replicate (length texts) None i n q) (λ h. cc (h.1.there));
+}
+
+-- what is kept where there is no class yet
+pub order_none : (o : ClassOrder) (count : ℕ) → IsApart o.all.now.texts → count ≡ length o.all.now.texts → o.classes.items ≡ [] → o.numbers.items ≡ replicate count None → IsOrder o
+order_none o count apart as_many none numbers = record {
+  apart = apart;
+  few = rw none (omega arith);
+  seen = rw none (All-nil (IsSeen o.all.now.texts));
+  knows = rw (none, numbers, as_many) (knows_none o.all.now.texts);
+}
 
 -- the table of first classes, when a class comes behind the others
 pub knows_more : (texts : List (List ℕ)) (classes : List DeclaredClass) (numbers : List (Option ℕ)) (c : DeclaredClass) (name : ℕ) (known : Option ℕ)

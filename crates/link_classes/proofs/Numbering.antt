@@ -1,5 +1,5 @@
 -- Names that are numbered one by one.
-use Rattle.std.proofs.Common.{◌≡◌, ℕ, ◌+◌, ◌++◌, List, [], ◌∷◌, slice_get, take, Some, ap, ◌∙◌}
+use Rattle.std.proofs.Common.{◌≡◌, ℕ, ◌+◌, ◌++◌, List, [], ◌∷◌, slice_get, take, Some, refl, ap, ◌∙◌}
 use Rattle.std.proofs.lemmas.List.{take_more}
 use Rattle.std.proofs.lemmas.Option.{get_or_from_slice_get}
 use Rattle.jim_ast.proofs.Places.{slice_get-adds, slice_get-below}
@@ -23,3 +23,8 @@ numbers_more old new names ids text id before adds there = Each-push (IsNumber n
 -- the first names and one more of them
 pub one_more : (names : List (List ℕ)) (i : ℕ) (text : List ℕ) → slice_get names i ≡ Some text → take (i + 1) names ≡ take i names ++ text ∷ []
 one_more names i text there = take_more names i text (slice_get-below names i text there) ∙ ap (λ t. take i names ++ t ∷ []) (get_or_from_slice_get names i text text there)
+
+-- six names that come one by one
+pub one_by_one : {X : Type 0} (xs : List X) (a b c d e f : X) → (((((xs ++ a ∷ []) ++ b ∷ []) ++ c ∷ []) ++ d ∷ []) ++ e ∷ []) ++ f ∷ [] ≡ xs ++ a ∷ b ∷ c ∷ d ∷ e ∷ f ∷ []
+one_by_one [] a b c d e f = refl
+one_by_one (x ∷ xs) a b c d e f = ap (λ l. x ∷ l) (one_by_one xs a b c d e f)

@@ -7,4 +7,3 @@ pub mod MemberTables
 pub mod RowTables
 pub mod RootParts
 pub mod Held
-pub mod Small

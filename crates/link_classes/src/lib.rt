@@ -23,6 +23,3 @@ pub use classes::{Classes, NoClasses, Refused, Root, root_method};
 pub use names::AllNames;
 pub use order::ClassOrder;
 pub use seen::{ClassIn, FieldIn, MethodIn};
-
-#[cfg(test)]
-mod tests;

@@ -1,5 +1,5 @@
 //! The classes in order.
-ghost use Rattle.std.specs.Prelude.{◌≡◌, ◌<◌, ◌++◌, ◌∷◌, [], ℕ, List, Some, IfOk, OnOk, length, slice_get};
+ghost use Rattle.std.specs.Prelude.{◌≡◌, ◌<◌, ◌++◌, ◌∷◌, [], ℕ, List, None, Some, IfOk, OnOk, length, replicate, slice_get};
 ghost use Rattle.link_rules.specs.Classes.{IsClassOrder, IsCompleted, class_name, classes_of};
 ghost use Rattle.link_rules.specs.Conditions.{IsRead};
 ghost use Rattle.link_rules.specs.Names.{text_of};
@@ -28,6 +28,13 @@ pub fn name_id(class: &ClassIn) -> NameId
     class.ids[class.class.name.0 as usize]
 }
 
+// The numbers of so many names that no class has.
+fn no_numbers(alloc: Global, count: u32) -> Result<Vec<Option<u32>>, NoMemory>
+    ensures { IfOk result (λ numbers. numbers.items ≡ replicate count None) }
+{
+    vec![in alloc; None; count as usize]
+}
+
 impl<'a> ClassOrder<'a> {
     // No class yet.
     fn new(alloc: Global, all: &'a AllNames) -> Result<Self, NoMemory>
@@ -35,11 +42,11 @@ impl<'a> ClassOrder<'a> {
         ensures order { IfOk result IsOrder }
         ensures names { IfOk result (λ order. order.all.now ≡ all.now) }
     {
-        let count = all.texts.len();
+        let numbers = no_numbers(alloc, all.texts.len())?;
         Ok(ClassOrder {
             all,
             classes: Vec::new(alloc),
-            numbers: vec![in alloc; None; count as usize]?,
+            numbers,
         })
     }
 

@@ -44,13 +44,13 @@ fn element(
     ensures index { IfOk result (λ e. e.index ≡ index) }
     ensures text { IfOk result (λ e. e.text ≡ type_text (context_of scope.now).names ty) }
 {
-    let Ok(index) = u32::try_from(index) else {
+    if index >= u32::MAX as usize {
         return Err(AllocError);
-    };
+    }
     let mut text = String::new(alloc);
     push_type(&mut text, scope.classes.names(), scope.ids, ty)?;
     Ok(ElementText {
-        index,
+        index: index as u32,
         text: Name::from_string(text),
     })
 }

@@ -10,8 +10,8 @@ pub struct Fault {
 }
 
 /// What linking has to know of a method: the first refusal, if a rule refuses it; the rows of the methods that its calls may run where no rule
-/// forbids it, in the order of the calls, one that several calls may run as often; and the numbers of the classes that it asks to be
-/// initialized, likewise.
+/// forbids it; and the numbers of the classes that it asks to be initialized. Both lists are read as sets: in which order a number stands
+/// there, and how often, isn't said.
 #[derive(Drop)]
 pub struct Examined {
     pub fault: Option<Fault>,

@@ -2,7 +2,7 @@
 use Rattle.std.specs.Prelude.{◌≡◌, ℕ}
 use Rattle.jim_ast.specs.Lists.{Has}
 use Rattle.link_rules.specs.declared.code.Code.{Code}
-use Rattle.link_rules.specs.declared.code.Code.TheVariants.{Load, Store, LoadCell, StoreCell, LoadStatic, StoreStatic, Call, Return, Throw}
+use Rattle.link_rules.specs.declared.code.Code.TheVariants.{Store, StoreCell, StoreStatic, Call, Return, Throw}
 use Rattle.link_rules.specs.Flow.{MayRaise}
 use Rattle.link_indexes.specs.declared.facts.Key.{Key}
 use Rattle.link_indexes.specs.declared.facts.Key.TheVariants as key
@@ -20,21 +20,10 @@ Stores field (Store base number arg) = field ≡ number
 Stores field (StoreCell base arg) = field ≡ 0
 Stores field _ = ⊥
 
--- a load from the instance field, likewise
-abbrev pub Loads : ℕ → Code → Type 0
-Loads field (Load to base number) = field ≡ number
-Loads field (LoadCell to base) = field ≡ 0
-Loads field _ = ⊥
-
 -- a store into the static field
 abbrev pub StoresStatic : ℕ → Code → Type 0
 StoresStatic field (StoreStatic number arg) = field ≡ number
 StoresStatic field _ = ⊥
-
--- a load from the static field
-abbrev pub LoadsStatic : ℕ → Code → Type 0
-LoadsStatic field (LoadStatic to number) = field ≡ number
-LoadsStatic field _ = ⊥
 
 -- a return from the method
 abbrev pub IsReturn : Code → Type 0
@@ -51,9 +40,7 @@ IsRaised c = (k : ℕ) × MayRaise c k
 abbrev pub HasKey : Key → ℕ → Code → Type 0
 HasKey key.Target number c = Calls number c
 HasKey key.Stored number c = Stores number c
-HasKey key.Loaded number c = Loads number c
 HasKey key.StaticStored number c = StoresStatic number c
-HasKey key.StaticLoaded number c = LoadsStatic number c
 
 -- the statement is of this kind
 abbrev pub IsOfKind : Kind → Code → Type 0

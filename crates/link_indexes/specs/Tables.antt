@@ -4,7 +4,7 @@ use Rattle.link_rules.specs.declared.code.Code.{Code}
 use Rattle.link_rules.specs.Flow.{Next}
 use Rattle.link_indexes.specs.declared.method.MethodCode.{MethodCode}
 use Rattle.link_indexes.specs.declared.method.Place.{Place}
-use Rattle.link_indexes.specs.Facts.{Calls, IsRaised, IsReturn, Loads, LoadsStatic, Stores, StoresStatic}
+use Rattle.link_indexes.specs.Facts.{Calls, IsRaised, IsReturn, Stores, StoresStatic}
 use Rattle.link_indexes.specs.Rows.{AreTheIndexes, AreThePlaces, row}
 
 -- the code of each method
@@ -51,9 +51,7 @@ ArePredecessorsBy codes tables = (method s : ℕ) → AreTheIndexes (GoesOnIn co
 pub record Tables : Type 0 where
   pub callers : List (List Place)
   pub stores : List (List Place)
-  pub loads : List (List Place)
   pub static_stores : List (List Place)
-  pub static_loads : List (List Place)
   pub returns : List (List ℕ)
   pub raised : List (List ℕ)
   pub before : List (List (List ℕ))
@@ -62,9 +60,7 @@ pub record Tables : Type 0 where
 pub record AreIndexes (codes : List (List Code)) (t : Tables) : Type 0 where
   pub callers : ArePlacesBy Calls codes (row t.callers)
   pub stores : ArePlacesBy Stores codes (row t.stores)
-  pub loads : ArePlacesBy Loads codes (row t.loads)
   pub static_stores : ArePlacesBy StoresStatic codes (row t.static_stores)
-  pub static_loads : ArePlacesBy LoadsStatic codes (row t.static_loads)
   pub returns : AreIndexesBy IsReturn codes t.returns
   pub raised : AreIndexesBy IsRaised codes t.raised
   pub before : ArePredecessorsBy codes t.before

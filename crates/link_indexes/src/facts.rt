@@ -1,7 +1,7 @@
 //! What a statement is listed for.
 ghost use Rattle.std.specs.Prelude.{ℕ, ◌↔◌, IsTrue};
 ghost use Rattle.jim_ast.specs.Lists.{Has};
-ghost use Rattle.link_indexes.specs.Facts.{Calls, HasKey, IsOfKind, IsRaised, IsReturn, Loads, LoadsStatic, Stores, StoresStatic};
+ghost use Rattle.link_indexes.specs.Facts.{Calls, HasKey, IsOfKind, IsRaised, IsReturn, Stores, StoresStatic};
 
 use link_rules::Code;
 use std::slice::from_ref;
@@ -13,10 +13,7 @@ pub enum Key {
     Target,
     /// The instance field that is stored into, or 0 for the elements of arrays.
     Stored,
-    /// The instance field that is loaded from, or 0 likewise.
-    Loaded,
     StaticStored,
-    StaticLoaded,
 }
 
 /// The kinds of statements whose indexes are listed by method.
@@ -49,30 +46,11 @@ fn stored_by(code: &Code) -> &[u32]
     }
 }
 
-fn loaded_by(code: &Code) -> &[u32]
-    ensures { (number : ℕ) → Has result.now number ↔ Loads number code.now }
-{
-    match code {
-        Code::Load { field, .. } => from_ref(field),
-        Code::LoadCell { .. } => from_ref(&CELLS),
-        _ => &[],
-    }
-}
-
 fn static_stored_by(code: &Code) -> &[u32]
     ensures { (number : ℕ) → Has result.now number ↔ StoresStatic number code.now }
 {
     match code {
         Code::StoreStatic { field, .. } => from_ref(field),
-        _ => &[],
-    }
-}
-
-fn static_loaded_by(code: &Code) -> &[u32]
-    ensures { (number : ℕ) → Has result.now number ↔ LoadsStatic number code.now }
-{
-    match code {
-        Code::LoadStatic { field, .. } => from_ref(field),
         _ => &[],
     }
 }
@@ -84,9 +62,7 @@ pub fn keys(key: Key, code: &Code) -> &[u32]
     match key {
         Key::Target => targets_of(code),
         Key::Stored => stored_by(code),
-        Key::Loaded => loaded_by(code),
         Key::StaticStored => static_stored_by(code),
-        Key::StaticLoaded => static_loaded_by(code),
     }
 }
 

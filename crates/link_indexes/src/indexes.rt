@@ -19,9 +19,7 @@ pub type NoMemory = AllocError;
 pub struct Indexes {
     callers: Rows<Place>,
     stores: Rows<Place>,
-    loads: Rows<Place>,
     static_stores: Rows<Place>,
-    static_loads: Rows<Place>,
     returns: Vec<Vec<u32>>,
     raised: Vec<Vec<u32>>,
     before: Vec<Rows<u32>>,
@@ -33,22 +31,20 @@ impl Model for Indexes {
 
     ghost Value = { Tables };
 
-    ghost view = { λ t. record { callers = t.callers; stores = t.stores; loads = t.loads; static_stores = t.static_stores; static_loads = t.static_loads; returns = map (λ v. v.items) t.returns.items; raised = map (λ v. v.items) t.raised.items; before = t.before.items } };
+    ghost view = { λ t. record { callers = t.callers; stores = t.stores; static_stores = t.static_stores; returns = map (λ v. v.items) t.returns.items; raised = map (λ v. v.items) t.raised.items; before = t.before.items } };
 }
 
 impl Indexes {
     /// The indexes of these methods, in time linear in their code. Memory grows with the code and with the greatest number that it names.
     ///
-    /// A program with 4,294,967,296 methods, or a method with so many statements, finds no memory.
+    /// There is room for 4,294,967,295 methods, and for as many statements in each.
     pub fn new(alloc: Global, methods: &[MethodCode]) -> Result<Self, NoMemory>
         ensures { IfOk result (AreIndexes (codes_of methods.now)) }
     {
         Ok(Indexes {
             callers: places_by(alloc, Key::Target, methods)?,
             stores: places_by(alloc, Key::Stored, methods)?,
-            loads: places_by(alloc, Key::Loaded, methods)?,
             static_stores: places_by(alloc, Key::StaticStored, methods)?,
-            static_loads: places_by(alloc, Key::StaticLoaded, methods)?,
             returns: indexes_by_method(alloc, Kind::Returns, methods)?,
             raised: indexes_by_method(alloc, Kind::Raised, methods)?,
             before: predecessors_by_method(alloc, methods)?,
@@ -69,25 +65,11 @@ impl Indexes {
         self.stores.get(field)
     }
 
-    /// The places of the loads from an instance field, by its number from 1, or for 0 from elements of arrays.
-    pub fn loads(&self, field: u32) -> &[Place]
-        ensures { result.now ≡ row self.now.loads field }
-    {
-        self.loads.get(field)
-    }
-
     /// The places of the stores into a static field.
     pub fn static_stores(&self, field: u32) -> &[Place]
         ensures { result.now ≡ row self.now.static_stores field }
     {
         self.static_stores.get(field)
-    }
-
-    /// The places of the loads from a static field.
-    pub fn static_loads(&self, field: u32) -> &[Place]
-        ensures { result.now ≡ row self.now.static_loads field }
-    {
-        self.static_loads.get(field)
     }
 
     /// The indexes of the method's returns.

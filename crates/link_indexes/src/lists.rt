@@ -11,14 +11,14 @@ use super::rows::Rows;
 use link_rules::Code;
 use std::alloc::{AllocError, Global};
 
-/// The number of a method or a statement. One past 4,294,967,295 finds no memory.
+/// The number of what stands at a place. There is room for 4,294,967,295 methods or statements.
 pub fn number_of(at: usize) -> Result<u32, AllocError>
     ensures { IfOk result (λ number. number ≡ at) }
 {
-    match u32::try_from(at) {
-        Ok(number) => Ok(number),
-        Err(_) => Err(AllocError),
+    if at >= u32::MAX as usize {
+        return Err(AllocError);
     }
+    Ok(at as u32)
 }
 
 /// For each number the places of the statements that have it as a key of this sort.

@@ -101,19 +101,10 @@ fn fields(rt: HostRuntime) -> Result<(), Fail> {
     let found = [
         indexes.stores(0),
         indexes.stores(1),
-        indexes.loads(0),
-        indexes.loads(1),
+        indexes.static_stores(3),
+        indexes.static_stores(1),
     ];
-    let wanted: [&[Place]; 4] = [&[at(1, 4)], &[at(0, 1)], &[at(1, 5)], &[at(0, 3)]];
-    assert!(rt; found == wanted);
-    Ok(())
-}
-
-#[test]
-fn static_fields(rt: HostRuntime) -> Result<(), Fail> {
-    let indexes = indexed(rt.alloc())?;
-    let found = [indexes.static_stores(3), indexes.static_loads(3)];
-    let wanted: [&[Place]; 2] = [&[at(1, 1)], &[at(1, 0)]];
+    let wanted: [&[Place]; 4] = [&[at(1, 4)], &[at(0, 1)], &[at(1, 1)], &[]];
     assert!(rt; found == wanted);
     Ok(())
 }

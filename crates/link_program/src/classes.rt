@@ -41,7 +41,7 @@ impl ClassTable {
         ensures put { OnOk result (classes_in self.new ≡ classes_in self.old ++ linked_class entry ∷ []) }
     {
         let at = self.entries.len();
-        if at + 1 >= u32::MAX as usize {
+        if at >= u32::MAX as usize {
             return Err(AllocError);
         }
         self.places.push(entry.name.as_str(), at)?;

@@ -3,7 +3,7 @@ ghost use Rattle.std.specs.Prelude.{◌≡◌, ◌+◌, ◌<◌, ◌↔◌, ℕ,
 ghost use Rattle.class_tree.specs.Paths.{IsLeast};
 ghost use Rattle.jim_ast.specs.Lists.{Has};
 ghost use Rattle.link_rules.specs.WellLinked.{IsInForm};
-ghost use Rattle.link_indexes.specs.Facts.{Calls, IsRaised, IsReturn, Loads, LoadsStatic, Stores, StoresStatic};
+ghost use Rattle.link_indexes.specs.Facts.{Calls, IsRaised, IsReturn, Stores, StoresStatic};
 ghost use Rattle.link_indexes.specs.Rows.{AreTheIndexes, AreThePlaces};
 ghost use Rattle.link_indexes.specs.Tables.{GoesOnIn, IsAt, IsInMethod};
 ghost use Rattle.link_program.specs.Accessed.{At, HasElementText, HasText, MakesArray, codes_in, field_class};
@@ -62,6 +62,14 @@ impl Linked {
             tree,
             indexes,
         })
+    }
+
+    /// Says of what form each linked program is: what its numbers name is there, each statement fits its method, and the root is the last method.
+    /// A proof that needs the form calls it. It does nothing when it runs.
+    pub fn tell_form(&self)
+        ensures { IsInForm self.now }
+    {
+        let _inside = &self.tree;
     }
 
     /// How many methods there are, the root included.
@@ -221,14 +229,6 @@ impl Linked {
         self.members.keys.as_slice()[key as usize].name.as_str()
     }
 
-    /// Whether a key is one of static methods.
-    pub fn key_is_static(&self, key: u32) -> bool
-        requires { key < length self.now.keys }
-        ensures { At self.now.keys key (λ k. result ≡ k.is_static) }
-    {
-        self.members.keys.as_slice()[key as usize].is_static
-    }
-
     /// The texts that the methods use.
     pub fn texts(&self) -> &[Name]
         ensures { result.now ≡ self.now.texts }
@@ -264,25 +264,11 @@ impl Linked {
         self.indexes.stores(field)
     }
 
-    /// The places of the loads from an instance field, or for 0 from elements of arrays.
-    pub fn loads(&self, field: u32) -> &[Place]
-        ensures { AreThePlaces (IsAt (Loads field) (codes_in self.now)) result.now }
-    {
-        self.indexes.loads(field)
-    }
-
     /// The places of the stores into a static field.
     pub fn static_stores(&self, field: u32) -> &[Place]
         ensures { AreThePlaces (IsAt (StoresStatic field) (codes_in self.now)) result.now }
     {
         self.indexes.static_stores(field)
-    }
-
-    /// The places of the loads from a static field.
-    pub fn static_loads(&self, field: u32) -> &[Place]
-        ensures { AreThePlaces (IsAt (LoadsStatic field) (codes_in self.now)) result.now }
-    {
-        self.indexes.static_loads(field)
     }
 
     /// The indexes of a method's returns.

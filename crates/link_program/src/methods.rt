@@ -41,7 +41,7 @@ impl Methods {
         ensures put { OnOk result (methods_in self.new ≡ methods_in self.old ++ linked_method head body ∷ []) }
     {
         let at = self.heads.len();
-        if at + 1 >= u32::MAX as usize {
+        if at >= u32::MAX as usize {
             return Err(AllocError);
         }
         self.places.push(head.text.as_str(), at)?;

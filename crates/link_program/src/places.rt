@@ -13,16 +13,6 @@ pub struct FirstPlaces {
     places: Vec<u32>,
 }
 
-// The number of what stands at a place. There is room for 4,294,967,296 of them.
-fn number_of(at: usize) -> Result<u32, NoMemory>
-    ensures { IfOk result (λ number. number ≡ at) }
-{
-    match u32::try_from(at) {
-        Ok(number) => Ok(number),
-        Err(_) => Err(AllocError),
-    }
-}
-
 impl FirstPlaces {
     /// Of no text. Takes no memory.
     pub fn new(alloc: Global) -> Self
@@ -34,16 +24,18 @@ impl FirstPlaces {
         }
     }
 
-    /// A text comes behind the `at` texts of the list.
+    /// A text comes behind the `at` texts of the list. There is room for 4,294,967,295.
     pub fn push(&mut self, text: &str, at: usize) -> Result<(), NoMemory>
         ensures { OnOk result ((texts : List (List ℕ)) → at ≡ length texts → ArePlaces texts self.old → ArePlaces (texts ++ text.now ∷ []) self.new) }
     {
+        if at >= u32::MAX as usize {
+            return Err(AllocError);
+        }
         if self.texts.find(text).is_some() {
             return Ok(());
         }
-        let number = number_of(at)?;
         self.texts.add(text)?;
-        self.places.push(number)?;
+        self.places.push(at as u32)?;
         Ok(())
     }
 

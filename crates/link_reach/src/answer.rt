@@ -28,7 +28,7 @@ pub struct Reachable {
 }
 
 /// Why a program isn't accepted.
-#[derive(Debug, Drop)]
+#[derive(Clone, Copy, Debug, PartialEq, Eq)]
 pub enum NotReached {
     /// A rule refuses the method with this number, the root's being the one behind all others, at this index.
     Refused {

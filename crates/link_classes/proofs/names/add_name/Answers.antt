@@ -1,3 +1,4 @@
+use Rattle.link_rules.specs.Lists.{FirstSeen}
 use Rattle.link_classes.proofs.Numbering.{Keeps-adds, numbers_more}
 use Rattle.link_classes.proofs.names.add_name.Goals as goal
 
@@ -7,3 +8,6 @@ returns-clause-numbers c = λ names before.
 
 pub returns-clause-kept : goal.returns-clause-kept
 returns-clause-kept c = Keeps-adds c.args.texts.now c.add.new.self c.args.text.now c.in_ok-id.ensures.last
+
+pub returns-clause-seen : goal.returns-clause-seen
+returns-clause-seen c = λ seen before. FirstSeen.next before c.in_ok-id.ensures.last

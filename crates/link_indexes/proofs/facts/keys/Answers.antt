@@ -6,11 +6,5 @@ returns-in-Target c = rw c.in-Target.is c.targets_of.ensures
 pub returns-in-Stored : goal.returns-in-Stored
 returns-in-Stored c = rw c.in-Stored.is c.stored_by.ensures
 
-pub returns-in-Loaded : goal.returns-in-Loaded
-returns-in-Loaded c = rw c.in-Loaded.is c.loaded_by.ensures
-
 pub returns-in-StaticStored : goal.returns-in-StaticStored
 returns-in-StaticStored c = rw c.in-StaticStored.is c.static_stored_by.ensures
-
-pub returns-in-StaticLoaded : goal.returns-in-StaticLoaded
-returns-in-StaticLoaded c = rw c.in-StaticLoaded.is c.static_loaded_by.ensures

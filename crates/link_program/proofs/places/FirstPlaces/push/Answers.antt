@@ -1,4 +1,4 @@
-use Rattle.std.proofs.Common.{◌≡◌, ◌++◌, ◌∷◌, [], length, sym, subst, ◌∙◌}
+use Rattle.std.proofs.Common.{◌≡◌, ◌++◌, ◌∷◌, [], sym, subst, ◌∙◌}
 use Rattle.link_program.proofs.Placing.{adds_new, found_has, not_found, places_again, places_more}
 use Rattle.link_program.proofs.places.FirstPlaces.push.Goals as goal
 
@@ -10,7 +10,6 @@ returns-then-is_some c = λ texts at are.
 pub returns : goal.returns
 returns c = λ texts at are.
     let new = not_found _ c.find.result (sym c.is_some.ensures ∙ c.if-is_some.false) c.find.ensures.none in
-    let number : c.in_ok-number.number ≡ length texts = c.in_ok-number.ensures ∙ at in
     places_more texts c.args.text.now c.args.self.now (record { texts = c.add.new.self; places = c.push.new.self }) new
     (adds_new c.args.self.now.texts c.add.new.self c.args.text.now c.in_ok-add.ensures.last new)
-    (subst (λ n. c.push.new.self.items ≡ c.args.self.now.places.items ++ n ∷ []) number c.in_ok-push.ensures.items) are
+    (subst (λ n. c.push.new.self.items ≡ c.args.self.now.places.items ++ n ∷ []) at c.in_ok-push.ensures.items) are
