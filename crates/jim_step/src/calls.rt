@@ -4,7 +4,6 @@ ghost use Rattle.jim_step.specs.Frames.{frame_of, seen};
 ghost use Rattle.jim_step.specs.Plans.{IsCountable, args_of, listed, or_empty};
 ghost use Rattle.jim_step.specs.Sizes.{HasNumber};
 ghost use Rattle.link_rules.specs.Linked.{LinkedMethod};
-ghost use Rattle.link_rules.specs.WellLinked.{IsInForm};
 ghost use Rattle.step_rules.specs.Offers.{CallsOn, CallsWith, Enters, EntersBelow, EntersBy, Finds};
 ghost use Rattle.step_rules.specs.Shapes.{EachOf, FitsObject, FitsSlot, FitsValue};
 ghost use Rattle.step_rules.specs.Slots.{local_of, operands_of};
@@ -21,11 +20,11 @@ use step_rules::Value;
 
 // The number of the method with statements that look-up from a class finds.
 fn found(linked: &Linked, class: u32, key: u32) -> Option<u32>
-    requires form { IsInForm linked.now }
     requires class { class < length linked.now.classes }
     ensures some { IfSome result (λ number. (m : LinkedMethod) × Finds linked.now class key number m) }
     ensures none { IfNone result ((number : ℕ) (m : LinkedMethod) → Finds linked.now class key number m → ⊥) }
 {
+    linked.tell_form();
     let Some(row) = linked.tree().resolve(class, key) else {
         return None;
     };
@@ -40,7 +39,6 @@ fn found(linked: &Linked, class: u32, key: u32) -> Option<u32>
 
 // The method that look-up from a class finds is called.
 fn enter<'a>(linked: &Linked, class: u32, key: u32, this: Option<Value>) -> Plan<'a>
-    requires form { IsInForm linked.now }
     requires class { class < length linked.now.classes }
     ensures countable { IsCountable result }
     ensures row { (top : StepFrame) → Enters linked.now class key this (args_of linked.now top) (listed linked.now top result) }
@@ -59,12 +57,12 @@ fn enter_below<'a>(
     key: u32,
     this: Option<Value>,
 ) -> Plan<'a>
-    requires form { IsInForm linked.now }
     requires class { class < length linked.now.classes }
     requires from { from < length linked.now.classes }
     ensures countable { IsCountable result }
     ensures row { (top : StepFrame) → EntersBelow linked.now class from key this (args_of linked.now top) (listed linked.now top result) }
 {
+    linked.tell_form();
     if linked.tree().sub(from, class) {
         enter(linked, from, key, this)
     } else {
@@ -81,7 +79,6 @@ fn call_on<'a>(
     class: u32,
     key: u32,
 ) -> Plan<'a>
-    requires form { IsInForm linked.now }
     requires class { class < length linked.now.classes }
     requires of_object { object.now.class < length linked.now.classes }
     ensures countable { IsCountable result }
@@ -105,7 +102,6 @@ fn call_at<'a>(
     class: u32,
     key: u32,
 ) -> Plan<'a>
-    requires form { IsInForm linked.now }
     requires objects { EachOf (FitsObject linked.now (length heap.now)) heap.now }
     requires class { class < length linked.now.classes }
     requires receiver { FitsValue (length heap.now) receiver }
@@ -130,7 +126,6 @@ pub fn call<'a>(
     receiver: Option<u32>,
     args: &[Arg],
 ) -> Plan<'a>
-    requires form { IsInForm linked.now }
     requires objects { EachOf (FitsObject linked.now (length heap.now)) heap.now }
     requires class { class < length linked.now.classes }
     requires receiver { (x : ℕ) → FitsSlot (length heap.now) (local_of (frame_of frame.now) x) }

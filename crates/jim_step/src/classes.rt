@@ -1,6 +1,6 @@
 //! The classes of the objects that come to be though no statement names them.
 ghost use Rattle.jim_step.specs.Named.{AreNamed};
-ghost use Rattle.link_rules.specs.WellLinked.{HasClass, IsInForm};
+ghost use Rattle.link_rules.specs.WellLinked.{HasClass};
 ghost use Rattle.link_sites.specs.Sites.{IsNamedClass};
 
 use link_program::Linked;
@@ -27,9 +27,9 @@ fn named(linked: &Linked, name: &str) -> u32
 
 /// The classes of a linked program.
 pub fn classes_of(linked: &Linked) -> Classes
-    requires { IsInForm linked.now }
     ensures { AreNamed linked.now result }
 {
+    linked.tell_form();
     Classes {
         object: named(linked, "java.lang.Object"),
         string: named(linked, "java.lang.String"),

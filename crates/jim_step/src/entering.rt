@@ -90,7 +90,7 @@ pub fn enter(
     ensures err { OnErr result (IsSameState kept.old kept.new) }
     ensures few { OnOk result (length kept.old.frames.items + 1 < 2 ^ 32) }
 {
-    if kept.frames.len() + 1 >= u32::MAX as usize {
+    if kept.frames.len() >= u32::MAX as usize {
         return Err(AllocError);
     }
     let top = &kept.frames[kept.frames.len() - 1];

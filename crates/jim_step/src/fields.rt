@@ -1,7 +1,6 @@
 //! What loads and stores may do.
 ghost use Rattle.std.specs.Prelude.{◌≡◌, ◌≢◌, ◌<◌, ◌↔◌, ◌++◌, ◌∷◌, [], IsTrue, length, map};
 ghost use Rattle.jim_step.specs.Plans.{IsCountable, Lists, ListsOver};
-ghost use Rattle.link_rules.specs.WellLinked.{IsInForm};
 ghost use Rattle.link_sites.specs.Places.{HasCode};
 ghost use Rattle.link_sites.specs.Sites.{HasDeclared, IsArraySite, MakesArrays};
 ghost use Rattle.step_rules.specs.declared.parts.Value.TheVariants.{Null};
@@ -19,10 +18,10 @@ use step_rules::Value;
 
 // Whether the class is below that of the field.
 fn declares(linked: &Linked, class: u32, field: u32) -> bool
-    requires form { IsInForm linked.now }
     requires class { class < length linked.now.classes }
     ensures { IsTrue result ↔ HasDeclared linked.now class field }
 {
+    linked.tell_form();
     match linked.field_class(field) {
         Some(declaring) => linked.tree().sub(class, declaring),
         None => false,
@@ -54,7 +53,6 @@ fn is_array(linked: &Linked, site: Site) -> bool
 
 // A load from an object.
 fn load_from<'a>(linked: &Linked, object: &Object, to: u32, field: u32) -> Plan<'a>
-    requires form { IsInForm linked.now }
     requires class { object.now.class < length linked.now.classes }
     requires field { field ≢ 0 }
     ensures countable { IsCountable result }
@@ -69,7 +67,6 @@ fn load_from<'a>(linked: &Linked, object: &Object, to: u32, field: u32) -> Plan<
 
 /// A load from the object that the base holds.
 pub fn load<'a>(linked: &Linked, heap: &Heap, to: u32, field: u32, base: Option<Value>) -> Plan<'a>
-    requires form { IsInForm linked.now }
     requires objects { EachOf (FitsObject linked.now (length heap.now)) heap.now }
     requires field { field ≢ 0 }
     requires base { FitsSlot (length heap.now) base }
@@ -91,7 +88,6 @@ fn store_into<'a>(
     field: u32,
     stored: Value,
 ) -> Plan<'a>
-    requires form { IsInForm linked.now }
     requires class { object.now.class < length linked.now.classes }
     ensures countable { IsCountable result }
     ensures row { Lists result (Where (HasDeclared linked.now object.now.class field) (writes number field stored ∷ [])) }
@@ -111,7 +107,6 @@ pub fn store<'a>(
     base: Option<Value>,
     source: Option<Value>,
 ) -> Plan<'a>
-    requires form { IsInForm linked.now }
     requires objects { EachOf (FitsObject linked.now (length heap.now)) heap.now }
     requires base { FitsSlot (length heap.now) base }
     ensures countable { IsCountable result }

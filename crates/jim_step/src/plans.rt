@@ -6,7 +6,6 @@ ghost use Rattle.jim_step.specs.Plans.{IsCountable, code_of, listed};
 ghost use Rattle.jim_step.specs.Ready.{IsReady};
 ghost use Rattle.jim_step.specs.Sizes.{IsSmall};
 ghost use Rattle.link_rules.specs.Linked.{LinkedProgram};
-ghost use Rattle.link_rules.specs.WellLinked.{IsInForm};
 ghost use Rattle.link_sites.specs.Sites.{IsNamedClass};
 ghost use Rattle.step_rules.specs.Offers.{LoadsStatic, Offers, Row, UnwindsAt};
 ghost use Rattle.step_rules.specs.Shapes.{FitsPoint, IsCall};
@@ -42,7 +41,6 @@ fn call_row<'a>(
     statics: &[Value],
     code: &Code,
 ) -> Plan<'a>
-    requires form { IsInForm linked.now }
     requires fits { FitsPoint linked.now (seen (frame_of frame.now) heap.now statics.now) }
     requires here { code_of linked.now (frame_of frame.now) ≡ Some code.now }
     requires ready { IsReady linked.now code.now }
@@ -82,7 +80,6 @@ fn row<'a>(
     statics: &[Value],
     code: &'a Code,
 ) -> Plan<'a>
-    requires form { IsInForm linked.now }
     requires classes { AreNamed linked.now classes.now }
     requires fits { FitsPoint linked.now (seen (frame_of frame.now) heap.now statics.now) }
     requires next { frame.now.place.index + 1 < 2 ^ 32 }
@@ -128,12 +125,12 @@ fn row<'a>(
 
 // What an exception in flight at the statement of a frame does.
 fn unwinding<'a>(linked: &Linked, frame: &Frame, heap: &Heap, statics: &[Value]) -> Plan<'a>
-    requires form { IsInForm linked.now }
     requires fits { FitsPoint linked.now (seen (frame_of frame.now) heap.now statics.now) }
     requires raised { frame.now.place.raised ≡ true }
     ensures countable { IsCountable result }
     ensures row { UnwindsAt linked.now (seen (frame_of frame.now) heap.now statics.now) frame.now.thrown (listed linked.now (frame_of frame.now) result) }
 {
+    linked.tell_form();
     let Some(thrown) = frame.thrown else {
         return Plan::One(Effect::IllTyped);
     };
@@ -156,13 +153,13 @@ pub fn plan_of<'a>(
     heap: &'a Heap,
     statics: &[Value],
 ) -> Plan<'a>
-    requires form { IsInForm linked.now }
     requires small { IsSmall linked.now }
     requires classes { AreNamed linked.now classes.now }
     requires fits { FitsPoint linked.now (seen (frame_of frame.now) heap.now statics.now) }
     ensures countable { IsCountable result }
     ensures row { Offers linked.now (seen (frame_of frame.now) heap.now statics.now) (listed linked.now (frame_of frame.now) result) }
 {
+    linked.tell_form();
     if frame.place.raised {
         return unwinding(linked, frame, heap, statics);
     }

@@ -2,7 +2,6 @@
 ghost use Rattle.std.specs.Prelude.{◌≡◌, ◌<◌, length, true};
 ghost use Rattle.jim_step.specs.Sizes.{HasFewJumps, IsSmall, IsSmallMethod};
 ghost use Rattle.link_program.specs.Accessed.{At};
-ghost use Rattle.link_rules.specs.WellLinked.{IsInForm};
 ghost use Rattle.step_rules.specs.Shapes.{EachOf};
 
 use link_program::Linked;
@@ -41,8 +40,7 @@ fn is_small_method(linked: &Linked, method: u32) -> bool
 
 // Whether that is so with each method.
 fn are_small_methods(linked: &Linked) -> bool
-    ensures small { result ≡ true → EachOf IsSmallMethod linked.now.methods }
-    ensures form { IsInForm linked.now }
+    ensures { result ≡ true → EachOf IsSmallMethod linked.now.methods }
 {
     for method in 0..linked.methods() {
         if !is_small_method(linked, method) {
@@ -54,8 +52,7 @@ fn are_small_methods(linked: &Linked) -> bool
 
 /// Whether the statements of each method, the jumps of each statement and the constants have numbers.
 pub fn is_small(linked: &Linked) -> bool
-    ensures small { result ≡ true → IsSmall linked.now }
-    ensures form { result ≡ true → IsInForm linked.now }
+    ensures { result ≡ true → IsSmall linked.now }
 {
     let constants = linked.texts().len().checked_add(linked.class_texts().len());
     match constants {

@@ -6,7 +6,6 @@ ghost use Rattle.jim_step.specs.Named.{AreNamed};
 ghost use Rattle.jim_step.specs.Sizes.{IsSmall};
 ghost use Rattle.jim_step.specs.Steady.{IsSteady};
 ghost use Rattle.link_program.specs.Accessed.{At};
-ghost use Rattle.link_rules.specs.WellLinked.{IsInForm};
 ghost use Rattle.step_rules.specs.Runs.{IsFirstState, constants};
 ghost use Rattle.step_rules.specs.States.{new_frame as first_frame};
 
@@ -80,12 +79,12 @@ fn root_frame(alloc: Global, linked: &Linked, root: u32) -> Result<Frame, AllocE
 
 /// The state with which each run begins.
 pub fn first(alloc: Global, linked: &Linked, classes: &Classes) -> Result<Kept, AllocError>
-    requires form { IsInForm linked.now }
     requires small { IsSmall linked.now }
     requires named { AreNamed linked.now classes.now }
     ensures first { IfOk result (λ kept. IsFirstState linked.now (state_in kept)) }
     ensures steady { IfOk result (IsSteady linked.now classes.now) }
 {
+    linked.tell_form();
     let heap = first_heap(alloc, linked, classes)?;
     let statics = first_statics(alloc, linked)?;
     let root = root_frame(alloc, linked, linked.root())?;

@@ -3,7 +3,6 @@ ghost use Rattle.std.specs.Prelude.{◌≡◌, ℕ, ◌<◌, ◌↔◌, IfNone, 
 ghost use Rattle.jim_step.specs.Plans.{IsCountable, Lists, UnwindsBy};
 ghost use Rattle.class_tree.specs.Rows.{Sub};
 ghost use Rattle.link_rules.specs.Flow.{CoversPlace};
-ghost use Rattle.link_rules.specs.WellLinked.{IsInForm};
 ghost use Rattle.step_rules.specs.Offers.{IsCaughtAt, MayCatch};
 ghost use Rattle.step_rules.specs.Shapes.{EachOf};
 
@@ -13,17 +12,16 @@ use link_rules::Catch;
 
 // Whether a handler covers a statement and catches exceptions of a class.
 fn may_catch(linked: &Linked, catch_of: &Catch, index: u32, class: u32) -> bool
-    requires form { IsInForm linked.now }
     requires class { class < length linked.now.classes }
     requires caught { catch_of.now.class < length linked.now.classes }
     ensures { IsTrue result ↔ (CoversPlace catch_of.now index × Sub linked.now.rows class catch_of.now.class) }
 {
+    linked.tell_form();
     catch_of.from <= index && index < catch_of.to && linked.tree().sub(class, catch_of.class)
 }
 
 /// The index of the first handler that catches an exception of a class at a statement.
 pub fn handler(linked: &Linked, catches: &[Catch], index: u32, class: u32) -> Option<u32>
-    requires form { IsInForm linked.now }
     requires class { class < length linked.now.classes }
     requires caught { EachOf (λ c. c.class < length linked.now.classes) catches.now }
     ensures some { IfSome result (IsCaughtAt linked.now catches.now index class) }
@@ -45,7 +43,6 @@ pub fn unwind<'a>(
     object: u32,
     class: u32,
 ) -> Plan<'a>
-    requires form { IsInForm linked.now }
     requires class { class < length linked.now.classes }
     requires caught { EachOf (λ c. c.class < length linked.now.classes) catches.now }
     ensures countable { IsCountable result }

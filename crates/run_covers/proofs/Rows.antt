@@ -20,22 +20,9 @@ use Rattle.step_rules.specs.States.{Frame, HeapObject, Point}
 use Rattle.step_rules.specs.Offers.{returned}
 use Rattle.step_rules.specs.declared.parts.Value.TheVariants.{Null, Number, Object}
 use Rattle.jim_ast.specs.Lists.{Has}
+use Rattle.run_covers.specs.Found.{LooksFrom}
 use Rattle.run_covers.proofs.Heap.{object_real}
 use Rattle.run_covers.proofs.Offered.{AllOf, all_mapped, ill_typed, mapped, one_of, only, where_so, with_object, with_value}
-
--- an object of the heap has this class
-pub record HasObjectOf (heap : List HeapObject) (class : ℕ) : Type 0 where
-  pub number : ℕ
-  pub object : HeapObject
-  pub there : slice_get heap number ≡ Some object
-  pub of_class : object.class ≡ class
-
--- the class from which a call looks its method up
-abbrev pub LooksFrom : LinkedProgram → List HeapObject → Mode → ℕ → ℕ → Type 0
-LooksFrom p heap Static class from = from ≡ class
-LooksFrom p heap Special class from = from ≡ class
-LooksFrom p heap Virtual class from = Sub p.rows from class × HasObjectOf heap from
-LooksFrom p heap Interface class from = Sub p.rows from class × HasObjectOf heap from
 
 -- the statement is a call, and looks up the method of the frame
 pub record IsCalled (p : LinkedProgram) (at : Point) (frame : Frame) : Type 0 where

@@ -1,5 +1,5 @@
 -- Each run enters targets of its calls.
-use Rattle.std.proofs.Common.{◌≡◌, ℕ, List, Option, Some, None, length, slice_get, refl, sym, subst, inl, inr}
+use Rattle.std.proofs.Common.{◌≡◌, ℕ, List, Option, Some, None, All, length, slice_get, refl, sym, subst, inl, inr}
 use Rattle.class_tree.specs.Lookups.{Resolve}
 use Rattle.class_tree.specs.Rows.{Sub}
 use Rattle.jim_ast.specs.declared.syntax.Expr.TheVariants as expr
@@ -13,15 +13,19 @@ use Rattle.jim_ast.specs.declared.syntax.Stmt.TheVariants as stmt
 use Rattle.link_rules.specs.declared.code.Arg.{Arg}
 use Rattle.link_rules.specs.declared.code.Code.{Code}
 use Rattle.link_rules.specs.declared.code.Code.TheVariants as code
+use Rattle.jim_ast.specs.Lists.{Has}
+use Rattle.jim_ast.specs.declared.syntax.Program.{Program}
+use Rattle.link_rules.specs.Conditions.{IsRead}
 use Rattle.link_rules.specs.Codes.{IsCall, IsCode, IsMethodNumber, Scope}
-use Rattle.link_rules.specs.Linked.{IsLinkedClass, LinkedProgram, scope_of}
+use Rattle.link_rules.specs.Linked.{IsLinkedClass, LinkedMethod, LinkedProgram, Links, scope_of}
 use Rattle.link_rules.specs.Targets.{IsInstantiableAt, MayRun, Selects}
-use Rattle.link_rules.specs.WellLinked.{HasTarget, IsInstantiableIn, IsWellLinked}
+use Rattle.link_rules.specs.WellLinked.{HasTarget, IsInstantiableIn, IsWellLinked, IsWellLinkedCode, SuitsCall}
 use Rattle.link_rules.specs.World.{World}
-use Rattle.link_laws.proofs.Lists.{each_left, each_right, increasing_apart}
+use Rattle.link_laws.proofs.Lists.{at_all, each_left, each_right, increasing_apart}
 use Rattle.link_laws.proofs.Read.{read_method}
 use Rattle.link_laws.proofs.Stands.{IsMade, stands_at}
 use Rattle.link_laws.proofs.Whole.{links_well}
+use Rattle.link_sites.specs.Places.{CodeAt}
 use Rattle.link_sites.specs.declared.site.Site.TheVariants as site
 use Rattle.step_rules.specs.declared.parts.Value.{Value}
 use Rattle.step_rules.specs.Effects.{Effect, is_ill_typed, raises, throws, goes, gets, makes, writes, sets, calls, returns, handles, leaves}
@@ -29,8 +33,9 @@ use Rattle.step_rules.specs.Runs.{Run, begins, steps}
 use Rattle.step_rules.specs.States.{Frame, Point, State, new_object, place_of, written}
 use Rattle.step_rules.specs.Steps.{Becomes, Receives, ReceivesAt}
 use Rattle.run_covers.specs.Covers.{LinksAreCovered}
+use Rattle.run_covers.specs.Found.{HasFoundFor, HasObjectOf, LinksHaveAllFound, LooksFrom}
 use Rattle.run_covers.proofs.Heap.{IsReal, constants_real, joined_real, named_real, pushed_real, raised_real, replaced_real}
-use Rattle.run_covers.proofs.Rows.{HasObjectOf, IsCalled, IsSound, LooksFrom, offers_sound}
+use Rattle.run_covers.proofs.Rows.{IsCalled, IsSound, offers_sound}
 
 module _ (p : LinkedProgram) (well : IsWellLinked p) where
   -- a state with these objects has instantiable classes
@@ -117,16 +122,24 @@ module _ (w : World) (p : LinkedProgram) (made : IsMade w p) where
   may_run at real Virtual class from key row looks finds = (from, selects at real class from key row looks finds)
   may_run at real Interface class from key row looks finds = (from, selects at real class from key row looks finds)
 
+  -- a row that look-up finds is that of a target of the call
+  found_target : (at : Point) → IsReal p at.heap → (to : Option ℕ) (mode : Mode) (class key : ℕ) (receiver : Option ℕ) (args : List Arg) (targets : List ℕ)
+      → CodeAt p at.top.method at.top.index (code.Call to mode class key receiver args targets) → (from row : ℕ) → LooksFrom p at.heap mode class from
+      → Resolve p.rows from key (Some row) → (target : ℕ) × Has targets target × (slice_get p.method_rows target ≡ Some row)
+  found_target at real to mode class key receiver args targets here from row looks finds =
+      let m = stands_at w p made at.top.method here.method here.there in
+      let in_scope = scope_of w p m.0 m.1.linked.body in
+      let s = each_right (IsCode in_scope) m.1.linked.body.stmts here.method.code at.top.index
+      (code.Call to mode class key receiver args targets) m.1.linked.code here.here in
+      let call = in_call in_scope s.0 to mode class key receiver args targets s.2 in
+      let listed = (call.2.are_rows.each row).1 (may_run at real mode class from key row looks finds) in
+      let target = each_left (IsMethodNumber in_scope) call.2.rows targets listed.0 row call.2.numbered listed.1 in
+      (target.0, (listed.0, target.1), target.2)
+
   -- the method of a frame that is called is a target
   is_target : (at : Point) (frame : Frame) → IsReal p at.heap → IsCalled p at frame → HasTarget p at.top.method at.top.index frame.method
   is_target at frame real c =
-      let m = stands_at w p made at.top.method c.here.method c.here.there in
-      let in_scope = scope_of w p m.0 m.1.linked.body in
-      let s = each_right (IsCode in_scope) m.1.linked.body.stmts c.here.method.code at.top.index
-      (code.Call c.to c.mode c.class c.key c.receiver c.args c.targets) m.1.linked.code c.here.here in
-      let call = in_call in_scope s.0 c.to c.mode c.class c.key c.receiver c.args c.targets s.2 in
-      let listed = (call.2.are_rows.each c.finds.row).1 (may_run at real c.mode c.class c.from c.key c.finds.row c.looks c.finds.resolved) in
-      let target = each_left (IsMethodNumber in_scope) call.2.rows c.targets listed.0 c.finds.row call.2.numbered listed.1 in
+      let target = found_target at real c.to c.mode c.class c.key c.receiver c.args c.targets c.here c.from c.finds.row c.looks c.finds.resolved in
       let same : target.0 ≡ frame.method = increasing_apart p.method_rows made.link.methods.ordered target.0 frame.method c.finds.row target.2 c.finds.numbered in
       record {
         method = c.here.method;
@@ -139,16 +152,39 @@ module _ (w : World) (p : LinkedProgram) (made : IsMade w p) where
         args = c.args;
         targets = c.targets;
         call = c.here.here;
-        has = (listed.0, subst (λ n. slice_get c.targets listed.0 ≡ Some n) {x = target.0} same target.1);
+        has = subst (λ n. Has c.targets n) {x = target.0} same target.1;
       }
 
--- the law
+  -- what look-up finds is there
+  is_found : IsWellLinked p → (at : Point) → IsReal p at.heap → (c : Code) → CodeAt p at.top.method at.top.index c → HasFoundFor p at.heap c
+  is_found well at real (code.Call to mode class key receiver args targets) here = λ from looks row finds.
+      let target = found_target at real to mode class key receiver args targets here from row looks finds in
+      let codes = at_all (λ (m : LinkedMethod). All (IsWellLinkedCode p) m.code) p.methods at.top.method here.method well.codes here.there in
+      let suits = at_all (IsWellLinkedCode p) here.method.code at.top.index (code.Call to mode class key receiver args targets) codes here.here in
+      let callee = at_all (SuitsCall p receiver (length args)) targets target.1.0 target.0 suits.0 target.1.1 in (
+        target.0,
+        callee.method,
+        record { row = row; resolved = finds; numbered = target.2; there = callee.there; has_statements = callee.has_statements },
+      )
+  is_found well at real c here = tt
+
+-- a linked program is made of its world
+made_of : (input prelude : Program) (entry : List ℕ) (p : LinkedProgram) → IsRead input → IsRead prelude → (links : Links input prelude entry p)
+    → IsMade links.world p
+made_of input prelude entry p read read_prelude links = record {
+  link = links.linked;
+  rows = links.is_world.rows;
+  reads = read_method input prelude entry links.world links.is_world read read_prelude;
+}
+
+-- the laws
 pub links_covered : LinksAreCovered
 links_covered input prelude entry p read read_prelude nine links count at offered frame run offers has =
-    let made : IsMade links.world p = record {
-      link = links.linked;
-      rows = links.is_world.rows;
-      reads = read_method input prelude entry links.world links.is_world read read_prelude;
-    } in
     let well = links_well input prelude entry p read read_prelude nine links in
-    is_target links.world p made at frame (run_real p well count _ run) (offers_sound p well at offered (calls frame) offers has)
+    is_target links.world p (made_of input prelude entry p read read_prelude links) at frame (run_real p well count _ run)
+    (offers_sound p well at offered (calls frame) offers has)
+
+pub links_found : LinksHaveAllFound
+links_found input prelude entry p read read_prelude nine links count at c run here =
+    let well = links_well input prelude entry p read read_prelude nine links in
+    is_found links.world p (made_of input prelude entry p read read_prelude links) well at (run_real p well count _ run) c here

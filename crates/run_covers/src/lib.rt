@@ -1,9 +1,10 @@
-//! A law of linking and of runs: what linking gives as the targets of a call covers all methods that a run enters there.
+//! Laws of linking and of runs: what linking gives as the targets of a call covers all methods that a run enters there, and what a run looks up there
+//! is linked.
 //!
-//! It ties the targets of calls, found over classes before anything runs, to the look-up that the machine makes from the class of an object. This crate
-//! has no code; its one contract is the law.
+//! They tie the targets of calls, found over classes before anything runs, to the look-up that the machine makes from the class of an object. This
+//! crate has no code; its contracts are the laws.
 #![tactic(auto)]
 
 mod laws;
 
-pub use laws::links_are_covered;
+pub use laws::{links_are_covered, resolved_methods_are_linked};

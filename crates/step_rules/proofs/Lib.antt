@@ -4,3 +4,5 @@ pub mod Offering
 pub mod Shaping
 pub mod Firsts
 pub mod Determined
+pub mod Deciding
+pub mod Going

@@ -1,11 +1,11 @@
 -- What holds of steps and runs, whatever the program was linked from.
-use Rattle.std.specs.Prelude.{◌≡◌, ℕ}
+use Rattle.std.specs.Prelude.{◌≡◌, ℕ, ◌<◌}
 use Rattle.link_rules.specs.Linked.{LinkedProgram}
 use Rattle.link_rules.specs.WellLinked.{IsInForm}
-use Rattle.step_rules.specs.Runs.{Run}
+use Rattle.step_rules.specs.Runs.{IsFirstState, Run}
 use Rattle.step_rules.specs.Shapes.{HasShape}
-use Rattle.step_rules.specs.States.{State}
-use Rattle.step_rules.specs.Steps.{Choices, Step}
+use Rattle.step_rules.specs.States.{State, running}
+use Rattle.step_rules.specs.Steps.{Choices, HasChoices, Step}
 
 -- a state and a choice have at most one step
 abbrev pub StepIsDetermined : Type 0
@@ -18,3 +18,18 @@ ChoicesAreDetermined = (p : LinkedProgram) (s : State) (a b : ℕ) → IsInForm 
 -- each state of a run has the shape
 abbrev pub RunsKeepShape : Type 0
 RunsKeepShape = (p : LinkedProgram) (n : ℕ) (s : State) → IsInForm p → Run p n s → HasShape p s
+
+-- each program has a first state
+abbrev pub RunsBegin : Type 0
+RunsBegin = (p : LinkedProgram) → IsInForm p → (s : State) × IsFirstState p s
+
+-- a step is made from the state: it has a choice at least, and each choice leads to a state
+pub record HasSteps (p : LinkedProgram) (s : State) : Type 0 where
+  pub count : ℕ
+  pub choices : HasChoices p s count
+  pub not_none : 0 < count
+  pub each : (choice : ℕ) → choice < count → (new : State) × Step p s choice new
+
+-- each state of a run that hasn't ended has a step
+abbrev pub RunsGoOn : Type 0
+RunsGoOn = (p : LinkedProgram) (n : ℕ) (s : State) → IsInForm p → Run p n s → s.ending ≡ running → HasSteps p s

@@ -8,5 +8,5 @@
 mod laws;
 mod parts;
 
-pub use laws::steps_are_determined;
+pub use laws::{runs_go_on, steps_are_determined};
 pub use parts::{Moved, Slot, Value};

@@ -14,7 +14,7 @@ returns-in_default-method_of_row-clause-none c = λ number m finds.
     cc (some, c.in_default-method_of_row.is)
 
 pub code-requires : goal.code-requires
-code-requires c = numbered_below c.args.linked.now c.in-Some-method_of_row.number c.in-Some.row c.requires.form
+code-requires c = numbered_below c.args.linked.now c.in-Some-method_of_row.number c.in-Some.row c.tell_form.ensures
     ((c.method_of_row.ensures c.in-Some-method_of_row.number).0 c.in-Some-method_of_row.is)
 
 pub returns-then-is_empty-clause-none : goal.returns-then-is_empty-clause-none
@@ -30,7 +30,7 @@ pub returns-clause-some : goal.returns-clause-some
 returns-clause-some c =
     let numbered = (c.method_of_row.ensures c.in-Some-method_of_row.number).0 c.in-Some-method_of_row.is in
     let m = slice_get-there c.args.linked.now.methods c.in-Some-method_of_row.number
-    (numbered_below c.args.linked.now c.in-Some-method_of_row.number c.in-Some.row c.requires.form numbered) in
+    (numbered_below c.args.linked.now c.in-Some-method_of_row.number c.in-Some.row c.tell_form.ensures numbered) in
     let code = c.code.ensures m.0 m.1 in (
       m.0,
       record {

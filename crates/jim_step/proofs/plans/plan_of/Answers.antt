@@ -7,7 +7,7 @@ use Rattle.jim_step.proofs.plans.plan_of.Goals as goal
 
 pub row-requires-clause-ready : goal.row-requires-clause-ready
 row-requires-clause-ready c =
-    let h = here_of c.args.linked.now (seen (frame_of c.args.frame.now) c.args.heap.now c.args.statics.now) c.requires.form c.requires.small
+    let h = here_of c.args.linked.now (seen (frame_of c.args.frame.now) c.args.heap.now c.args.statics.now) c.tell_form.ensures c.requires.small
     c.requires.fits in
     let same : c.index-code-frame.result ≡ h.code = c.index-code-frame.is
     ∙ rw (c.code-code.ensures h.method h.there) (get_or_from_slice_get h.method.code c.args.frame.now.place.index h.code _ h.here) in
@@ -15,7 +15,7 @@ row-requires-clause-ready c =
 
 pub returns-clause-row : goal.returns-clause-row
 returns-clause-row c =
-    let h = here_of c.args.linked.now (seen (frame_of c.args.frame.now) c.args.heap.now c.args.statics.now) c.requires.form c.requires.small
+    let h = here_of c.args.linked.now (seen (frame_of c.args.frame.now) c.args.heap.now c.args.statics.now) c.tell_form.ensures c.requires.small
     c.requires.fits in
     let same : c.index-code-frame.result ≡ h.code = c.index-code-frame.is
     ∙ rw (c.code-code.ensures h.method h.there) (get_or_from_slice_get h.method.code c.args.frame.now.place.index h.code _ h.here) in

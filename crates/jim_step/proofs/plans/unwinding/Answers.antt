@@ -13,7 +13,7 @@ catches-catches-requires c =
 
 pub unwind-requires-clause-caught : goal.unwind-requires-clause-caught
 unwind-requires-clause-caught c = rw (c.catches-catches.ensures c.requires.fits.top.method c.requires.fits.top.there)
-    (caught_in c.args.linked.now c.args.frame.now.place.method c.requires.fits.top.method c.requires.form c.requires.fits.top.there)
+    (caught_in c.args.linked.now c.args.frame.now.place.method c.requires.fits.top.method c.tell_form.ensures c.requires.fits.top.there)
 
 pub returns-in-Object-clause-row : goal.returns-in-Object-clause-row
 returns-in-Object-clause-row c =

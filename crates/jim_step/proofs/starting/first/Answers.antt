@@ -7,7 +7,7 @@ use Rattle.jim_step.proofs.starting.first.Goals as goal
 
 pub returns-clause-first : goal.returns-clause-first
 returns-clause-first c =
-    let form = c.requires.form in
+    let form = c.tell_form.ensures in
     let same : form.number ≡ c.root.result = omega (arith, form.is_root.last, c.root.ensures) in
     let there : slice_get c.args.linked.now.methods c.root.result ≡ Some form.root = subst (λ k. slice_get c.args.linked.now.methods k ≡ Some form.root) same form.is_root.there in
     let frames = ap frames_of (c.in_ok-push.ensures.items ∙ ap (λ (l : List KeptFrame). l ++ c.in_ok-root.root ∷ []) c.new-frames.ensures.items) in
@@ -30,7 +30,7 @@ returns-clause-first c =
 
 pub returns-clause-steady : goal.returns-clause-steady
 returns-clause-steady c = record {
-  form = c.requires.form;
+  form = c.tell_form.ensures;
   small = c.requires.small;
   named = c.requires.named;
   shape = first_fits c.args.linked.now _ (returns-clause-first c);
