@@ -7,6 +7,7 @@ pub mod Words
 pub mod Standing
 pub mod Moves
 pub mod Waiting
+pub mod Agreeing
 pub mod Memory
 pub mod Effects
 pub mod Callers

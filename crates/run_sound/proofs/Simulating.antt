@@ -1,7 +1,5 @@
 -- Runs are simulated.
-use Rattle.std.proofs.Common.{◌≡◌, ℕ, ◌≤◌, ◌++◌, Some, List, [], ◌∷◌, length, slice_get, sym, ap, ◌∙◌, subst, inl, inr, arith}
-use Rattle.std.proofs.Math.Seq.{take-append_seam}
-use Rattle.std.proofs.lemmas.List.{take-append-le}
+use Rattle.std.proofs.Common.{◌≡◌, ℕ, ◌++◌, Some, List, [], ◌∷◌, slice_get, sym, ap, ◌∙◌, subst, inl, inr, arith}
 use Rattle.jim_ast.proofs.Places.{slice_get-below, slice_get-pushed}
 use Rattle.link_rules.specs.Linked.{LinkedProgram}
 use Rattle.link_rules.specs.WellLinked.{IsWellLinked}
@@ -19,14 +17,16 @@ use Rattle.step_rules.specs.declared.parts.Value.{Value}
 use Rattle.step_rules.specs.Runs.{Run, begins, steps}
 use Rattle.step_rules.specs.Slots.{Follows, here}
 use Rattle.step_rules.specs.States.{Frame, HeapObject, State}
+use Rattle.run_sound.specs.Agrees.{RunsAgree}
 use Rattle.run_sound.specs.Frames.{node_of, places_of, string_of}
 use Rattle.run_sound.specs.Links.{LinksAreSound}
 use Rattle.run_sound.specs.Simulated.{AreDemanded, Holds, IsAnswering, IsConstant, IsFound, IsSharing, IsSimulated, IsSimulatedInConstants, IsSimulatedInStatics}
+use Rattle.run_sound.proofs.Agreeing.{agrees}
 use Rattle.run_sound.proofs.Beginning.{kept_first}
 use Rattle.run_sound.proofs.Edges.{at_start}
 use Rattle.run_sound.proofs.Invariant.{HasConstants, IsKept, IsMemory, IsReached, IsTracked, Waits, more, none, sites_of}
 use Rattle.run_sound.proofs.Machine.{kept_step}
-use Rattle.run_sound.proofs.Waiting.{is_places}
+use Rattle.run_sound.proofs.Waiting.{is_places, string_below, string_top}
 use Rattle.run_sound.proofs.Words.{object_there, words_go_on}
 
 module _ (p : LinkedProgram) (q : Asked) where
@@ -34,14 +34,6 @@ module _ (p : LinkedProgram) (q : Asked) where
   pub kept_run : IsWellLinked p → IsCovered p → {count : ℕ} {s : State} → Run p count s → IsKept p q s
   kept_run well covered (begins {s} first) = kept_first p q s first
   kept_run well covered (steps {count} {choice} {s} {next} run step) = kept_step p q well covered count choice s next run (kept_run well covered run) step
-
-  -- the string of a frame is as it was, where one more is on top
-  string_below : (frames : List Frame) (top : Frame) (number : ℕ) → number ≤ length frames → string_of (frames ++ top ∷ []) number ≡ string_of frames number
-  string_below frames top number below = ap places_of (take-append-le number frames (top ∷ []) below)
-
-  -- the frame on top has the places of all others
-  string_top : (frames : List Frame) (top : Frame) → string_of (frames ++ top ∷ []) (length frames) ≡ places_of frames
-  string_top frames top = ap places_of (take-append_seam frames (top ∷ []))
 
   -- frames below one
   with_top : (sites : List Site) (below : List Frame) (top : Frame) (string : List Place) → string ≡ places_of below → IsTracked p q sites top string
@@ -87,6 +79,11 @@ module _ (p : LinkedProgram) (q : Asked) where
       let fields = subst (λ s. Fields p q s n []) object.2 reached.by_fields in
       let calls = subst (λ s. Calls p q s n string) object.2 reached.by_calls in
       words_go_on p q heap memory.objects follows n [] string object.0 object.1 fields calls demanded
+
+-- each state of a run agrees with the program
+pub runs_agree : (p : LinkedProgram) → IsWellLinked p → IsCovered p → RunsAgree p
+runs_agree p well covered count s run =
+    let nothing : Asked = record { targets = [] } in agrees p nothing well.form s (kept_run p nothing well covered run)
 
 -- the simulation
 pub runs_simulated : (p : LinkedProgram) → IsWellLinked p → IsCovered p → IsSimulated p
@@ -157,4 +154,11 @@ pub links_sound : LinksAreSound
 links_sound input prelude entry p read read_prelude nine links =
     let well = links_well input prelude entry p read read_prelude nine links in
     let covered = links_covered input prelude entry p read read_prelude nine links in
-    record { simulated = runs_simulated p well covered; answered = runs_answered p well covered; shared = runs_shared p well covered }
+    record {
+      agrees = runs_agree p well covered;
+      simulated = runs_simulated p well covered;
+      statics = statics_simulated p well covered;
+      constants = constants_simulated p well covered;
+      answered = runs_answered p well covered;
+      shared = runs_shared p well covered;
+    }

@@ -1,6 +1,7 @@
 -- The frames that wait.
-use Rattle.std.proofs.Common.{◌≡◌, ℕ, ◌++◌, Bool, false, List, [], ◌∷◌, refl, sym, ap, subst}
-use Rattle.std.proofs.lemmas.List.{map-append, reverse-append}
+use Rattle.std.proofs.Common.{◌≡◌, ℕ, ◌≤◌, ◌++◌, Bool, false, List, [], ◌∷◌, length, refl, sym, ap, subst}
+use Rattle.std.proofs.Math.Seq.{take-append_seam}
+use Rattle.std.proofs.lemmas.List.{map-append, reverse-append, take-append-le}
 use Rattle.link_rules.specs.Linked.{LinkedProgram}
 use Rattle.link_rules.specs.WellLinked.{HasTarget}
 use Rattle.link_sites.specs.declared.place.Place.{Place}
@@ -9,9 +10,17 @@ use Rattle.link_sites.specs.Places.{before}
 use Rattle.spds_rules.specs.Demand.{Asked}
 use Rattle.spds_rules.specs.Systems.{IsString, called, root}
 use Rattle.step_rules.specs.States.{Frame, place_of}
-use Rattle.run_sound.specs.Frames.{places_of}
+use Rattle.run_sound.specs.Frames.{places_of, string_of}
 use Rattle.run_sound.proofs.Invariant.{IsTracked, Waits, more, none}
 use Rattle.run_sound.proofs.Lists.{not_empty, same_parts}
+
+-- the string of a frame is as it was, where one more is on top
+pub string_below : (frames : List Frame) (top : Frame) (number : ℕ) → number ≤ length frames → string_of (frames ++ top ∷ []) number ≡ string_of frames number
+string_below frames top number below = ap places_of (take-append-le number frames (top ∷ []) below)
+
+-- the frame on top has the places of all others
+pub string_top : (frames : List Frame) (top : Frame) → string_of (frames ++ top ∷ []) (length frames) ≡ places_of frames
+string_top frames top = ap places_of (take-append_seam frames (top ∷ []))
 
 module _ (p : LinkedProgram) (q : Asked) (sites : List Site) where
   -- the string of the frame above them is one of its method's

@@ -1,4 +1,5 @@
 pub mod Frames
 pub mod Simulated
+pub mod Agrees
 pub mod Composed
 pub mod Links

@@ -1,6 +1,7 @@
 //! The laws.
 ghost use Rattle.link_rules.specs.WellLinked.{IsWellLinked};
 ghost use Rattle.run_covers.specs.Covers.{IsCovered};
+ghost use Rattle.run_sound.specs.Agrees.{RunsAgree};
 ghost use Rattle.run_sound.specs.Composed.{HasComposedMeets, HasComposedWords, HasIncludedStrings};
 ghost use Rattle.run_sound.specs.Links.{LinksAreSound};
 ghost use Rattle.run_sound.specs.Simulated.{IsAnswering, IsSharing, IsSimulated, IsSimulatedInConstants, IsSimulatedInStatics};
@@ -11,10 +12,15 @@ use link_program::Linked;
 /// static field or from a constant to an object, both systems have the object there. So what a local holds is of a site that the query of its node
 /// answers, and what two locals of one frame hold is of a site that both answer under one call string.
 ///
+/// Each state of the run also agrees with the program: its first frame is the root's, each other frame is of a method that the call below it has as a
+/// target, the string of each frame is a call string of its method, each object has the class of its site, and each write is of a field that the site
+/// has.
+///
 /// The program is well linked, and the targets of its calls cover what its runs do, as in each program that linking gives.
 pub fn simulated(linked: &Linked)
     requires well { IsWellLinked linked.now }
     requires covered { IsCovered linked.now }
+    ensures agrees { RunsAgree linked.now }
     ensures simulated { IsSimulated linked.now }
     ensures statics { IsSimulatedInStatics linked.now }
     ensures constants { IsSimulatedInConstants linked.now }
