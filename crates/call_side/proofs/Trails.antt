@@ -10,9 +10,10 @@ use Rattle.post_star.specs.declared.bases.BaseStep.{BaseStep}
 use Rattle.post_star.specs.Derivations.{Leads, step_of}
 use Rattle.weight_laws.specs.declared.reach.Reach.{Reach}
 use Rattle.call_side.specs.contracts.pairs.PairPartialEq.TheImpl as pairs
+use Rattle.call_side.specs.declared.homes.Homes.{Homes}
 use Rattle.call_side.specs.declared.origin.Origin.{Origin}
 use Rattle.call_side.specs.declared.pairs.Pair.{Pair}
-use Rattle.call_side.specs.Indexed.{AreHomes, ComesHome, MayComeHome}
+use Rattle.call_side.specs.Indexed.{AreHomes, ComesHome, IsHome, MayComeHome}
 use Rattle.call_side.specs.Search.{Asked, CameIn, IsEnd, IsShared, IsStart, IsTrail, MayCome, WalkBoth}
 use Rattle.call_side.specs.Trails.{AreBackward, AreKept, IsBack, IsTrailOf}
 use Rattle.call_side.specs.Words.{Walks}
@@ -102,6 +103,11 @@ module _ (steps : List BaseStep) (last : ℕ) where
   back_home bases origins homes (IsBack.comes {number} {origin} {marks} some rest) base there =
       let came = (homes.each number base (Some origin) there some).1 in
       (came.0, came.2, back_home bases origins homes rest came.0 came.1)
+
+  -- each base that leads home is one of those that are found
+  pub led_is_home : (h : Homes) → IsHome steps last h → (base : ℕ) (word : List ℕ) → Leads steps base word last → Has h.bases.keys base
+  led_is_home h home base [] leads = subst (Has h.bases.keys) (sym leads) home.has_last
+  led_is_home h home base (mark ∷ word) leads = home.closed (step_of base mark leads.0) leads.1 (led_is_home h home leads.0 word leads.2)
 
 module _ (steps : List BaseStep) (t : Cells Reach) where
   -- one word and then another

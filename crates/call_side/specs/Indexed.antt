@@ -45,17 +45,22 @@ ComesHome steps last bases number base (Some origin) = (origin.from < number) ×
 abbrev pub AreHomes : List BaseStep → ℕ → List ℕ → List (Option Origin) → Type 0
 AreHomes steps last bases origins = IsTrailOf (ComesHome steps last) bases origins
 
--- so they are, and the last base is one of them
+-- the base of each step that leads to one of the first bases, so many of them, is there
+abbrev pub AreSpread : List BaseStep → ℕ → List ℕ → Type 0
+AreSpread steps count bases = (number : ℕ) (step : BaseStep) → number < count → Has steps step → slice_get bases number ≡ Some step.below → Has bases step.base
+
+-- so they are, the last base is one of them, and so is each base that a step leads from to one of them: no base that leads home is left out
 pub record IsHome (steps : List BaseStep) (last : ℕ) (h : Homes) : Type 0 where
   pub ways : AreHomes steps last h.bases.keys h.origins.items
   pub has_last : Has h.bases.keys last
+  pub closed : (step : BaseStep) → Has steps step → Has h.bases.keys step.below → Has h.bases.keys step.base
 
 -- the steps are found by both keys
 pub record AreFiled (steps : List BaseStep) (by_base by_mark : Groups BaseStep) : Type 0 where
   pub bases : IsFiledBy base_key steps by_base
   pub marks : IsFiledBy mark_key steps by_mark
 
--- so they are, and of some bases a way to the last one is known
+-- so they are, and of each base that leads to the last one a way is known
 pub record AreIndexed (steps : List BaseStep) (last : ℕ) (by_base by_mark : Groups BaseStep) (h : Homes) : Type 0 where
   pub filed : AreFiled steps by_base by_mark
   pub homes : IsHome steps last h

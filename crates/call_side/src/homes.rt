@@ -2,7 +2,7 @@
 ghost use Rattle.std.specs.Prelude.{◌≡◌, ◌<◌, ◌^◌, ℕ, List, [], IfNone, IfOk, IfSome, OnOk, Some, length, slice_get};
 ghost use Rattle.auto_table.specs.Lists.{Has};
 ghost use Rattle.post_star.specs.declared.bases.BaseStep.{BaseStep as AStep};
-ghost use Rattle.call_side.specs.Indexed.{AreHomes, IsFiledBy, IsHome, MayComeHome, below_key};
+ghost use Rattle.call_side.specs.Indexed.{AreHomes, AreSpread, IsFiledBy, IsHome, MayComeHome, below_key};
 ghost use Rattle.call_side.specs.Trails.{AreBackward, AreKept, IsBack};
 
 use super::origin::{Origin, marks_back};
@@ -13,7 +13,7 @@ use post_star::by_key::ByKey;
 use post_star::key::Key;
 use std::alloc::Global;
 
-/// Bases that lead to the last one, each once, in the order in which they were found from there. The origin of a base is the first step of its way: its
+/// The bases that lead to the last one, each once, in the order in which they were found from there. The origin of a base is the first step of its way: its
 /// mark, and the number of the base below. The last base has none.
 #[derive(Drop)]
 pub struct Homes {
@@ -54,7 +54,7 @@ impl Homes {
         Ok(())
     }
 
-    /// The way from a base to the last one, where one is known. The last base has the empty one.
+    /// The way from a base to the last one, where the base is there. The last base has the empty one.
     pub fn way(&self, alloc: Global, base: u32) -> Result<Option<Vec<u32>>, NoMemory>
         requires backward { AreBackward self.now.origins.items }
         requires as_many { length self.now.origins.items ≡ length self.now.bases.keys }
@@ -82,6 +82,7 @@ fn file_below(alloc: Global, steps: &[BaseStep]) -> Result<ByKey<BaseStep>, NoMe
 // Puts the bases of the steps in, which lead to the base with the number.
 fn add_all(homes: &mut Homes, steps: &[BaseStep], number: usize) -> Result<(), NoMemory>
     ensures kept { OnOk result (AreKept homes.old.bases.keys homes.new.bases.keys) }
+    ensures there { OnOk result ((step : AStep) → Has steps.now step → Has homes.new.bases.keys step.base) }
     ensures homes { OnOk result ((all : List AStep) (last below : ℕ) → slice_get homes.old.bases.keys number ≡ Some below
         → ((step : AStep) → Has steps.now step → Has all step × (step.below ≡ below))
         → AreHomes all last homes.old.bases.keys homes.old.origins.items → AreHomes all last homes.new.bases.keys homes.new.origins.items) }
@@ -99,6 +100,8 @@ fn add_all(homes: &mut Homes, steps: &[BaseStep], number: usize) -> Result<(), N
 // Goes on from each base to those above it.
 fn spread(homes: &mut Homes, by_below: &ByKey<BaseStep>) -> Result<(), NoMemory>
     ensures kept { OnOk result (AreKept homes.old.bases.keys homes.new.bases.keys) }
+    ensures spread { OnOk result ((all : List AStep) → IsFiledBy below_key all by_below.now
+        → AreSpread all (length homes.new.bases.keys) homes.new.bases.keys) }
     ensures homes { OnOk result ((all : List AStep) (last : ℕ) → IsFiledBy below_key all by_below.now
         → AreHomes all last homes.old.bases.keys homes.old.origins.items → AreHomes all last homes.new.bases.keys homes.new.origins.items) }
 {
@@ -110,7 +113,7 @@ fn spread(homes: &mut Homes, by_below: &ByKey<BaseStep>) -> Result<(), NoMemory>
     Ok(())
 }
 
-/// Bases that lead to the last one, the last one among them.
+/// The bases that lead to the last one, the last one among them.
 pub fn find_homes(alloc: Global, steps: &[BaseStep], last: u32) -> Result<Homes, NoMemory>
     ensures { IfOk result (IsHome steps.now last) }
 {

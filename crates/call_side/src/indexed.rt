@@ -1,5 +1,5 @@
 //! Base steps with an index.
-ghost use Rattle.std.specs.Prelude.{◌≡◌, ◌↔◌, ℕ, [], IfNone, IfOk, IfSome, OnOk};
+ghost use Rattle.std.specs.Prelude.{◌≡◌, ◌↔◌, ℕ, List, [], IfNone, IfOk, IfSome, OnOk};
 ghost use Rattle.auto_table.specs.Lists.{Has};
 ghost use Rattle.post_star.specs.declared.bases.BaseStep.{BaseStep as AStep};
 ghost use Rattle.post_star.specs.Derivations.{Leads, step_of};
@@ -88,10 +88,10 @@ impl IndexedBases {
         }
     }
 
-    /// A word that leads from a base to the last one, where one is known: from the last one the empty word is.
+    /// A word that leads from a base to the last one; none where no word does.
     pub fn way(&self, alloc: Global, base: u32) -> Result<Option<Vec<u32>>, NoMemory>
         ensures some { IfOk result (λ r. IfSome r (λ way. Leads self.now.steps base way.items self.now.last)) }
-        ensures none { IfOk result (λ r. IfNone r (base ≡ self.now.last → ⊥)) }
+        ensures none { IfOk result (λ r. IfNone r ((word : List ℕ) → Leads self.now.steps base word self.now.last → ⊥)) }
     {
         self.homes.way(alloc, base)
     }

@@ -50,6 +50,7 @@ pub fn bases(alloc: Global, linked: &Linked, calls: &Calls) -> Result<Vec<BaseSt
     ensures strings { IfOk result (λ steps. AreStrings linked.now calls.now steps.items) }
     ensures led { IfOk result (λ steps. IsWellLinked linked.now → AreLed linked.now steps.items) }
 {
+    linked.tell_form();
     let mut steps = Vec::new(alloc);
     for target in 0..linked.methods() {
         add_steps(&mut steps, linked, calls, target)?;

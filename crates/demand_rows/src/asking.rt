@@ -3,11 +3,11 @@ ghost use Rattle.std.specs.Prelude.{Some};
 ghost use Rattle.spds_rules.specs.Edges.{IsEdge};
 ghost use Rattle.spds_rules.specs.Stores.{IsStore};
 
-use super::linked_of;
 use super::programs::TWO_CALLS;
-use super::spots::{Spot, are_these, node};
 use demand_walk::{DemandError, Graph, NoMemory, walk};
 use link_program::Linked;
+use linked_text::linked_of;
+use linked_text::spots::{Spot, are_these, node};
 use spds_nodes::{into, stores_of};
 use spds_rules::{Edge, Node, StoreAt, Var};
 use std::alloc::{AllocError, Global};

@@ -2,18 +2,18 @@
 ghost use Rattle.std.specs.Prelude.{All, IsTrue};
 ghost use Rattle.spds_rules.specs.Nodes.{IsNode};
 
-use super::linked_of;
 use super::programs::{
     ALL_SORTS, ESCAPES, INHERITED, NULL_RECEIVER, PASSED_BOX, RECURSION, SAME_TEXT, STATIC_BOX,
     STORED_NULL, TWO_BOXES, TWO_CALLS,
 };
-use super::spots::{Origin, Spot, node, site};
 use demand_set::{Demand, DemandError, demand};
 use jim_ast::NoMemory;
 use link_program::Linked;
 use link_sites::Site;
-use spds_nodes::{is_node, site_of};
-use spds_rules::{Node, Var};
+use linked_text::linked_of;
+use linked_text::spots::{Origin, Spot, node, site};
+use spds_nodes::is_node;
+use spds_rules::{EdgeKind, Node, Var};
 use std::alloc::{AllocError, Global};
 use std::test::Fail;
 
@@ -161,13 +161,27 @@ fn sites_are(sites: &[Site], origins: &[Origin]) -> bool {
             .all(|(found, origin)| *found == site(*origin))
 }
 
-// Whether each node has its number, and those at which objects come to be have the number of their site.
+// Whether some edge of the demand loads the field.
+fn is_loaded(found: &Demand, field: u32) -> bool {
+    found
+        .edges()
+        .iter()
+        .any(|edge| edge.kind == EdgeKind::Load(field))
+}
+
+// Whether the fields are those that edges load.
+fn are_loaded(found: &Demand) -> bool {
+    let all_listed = found.edges().iter().all(|edge| match edge.kind {
+        EdgeKind::Load(field) => found.fields().contains(&field),
+        _ => true,
+    });
+    all_listed && found.fields().iter().all(|field| is_loaded(found, *field))
+}
+
+// Whether each node has its number.
 fn are_numbered(found: &Demand) -> bool {
     for (number, node) in found.nodes().iter().enumerate() {
         if found.number_of(*node) != u32::try_from(number).ok() {
-            return false;
-        }
-        if found.site_number_of(*node).is_some() != site_of(*node).is_some() {
             return false;
         }
     }
@@ -182,7 +196,8 @@ fn fits(alloc: Global, linked: &Linked, targets: &[Node], case: &Case) -> Result
         Ok(found) => Ok(
             found.nodes().len() == case.nodes as usize
                 && sites_are(found.sites(), case.sites)
-                && are_numbered(&found),
+                && are_numbered(&found)
+                && are_loaded(&found),
         ),
         Err(DemandError::OverBudget { .. }) => Ok(false),
         Err(DemandError::NoMemory) => Err(AllocError),

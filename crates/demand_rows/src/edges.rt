@@ -1,7 +1,7 @@
 //! The edges that end in a node.
 use super::programs::{DISPATCH, ESCAPES, FRAMES, HEAP, TWO_CALLS};
 use super::rows::{Case, Row, first_wrong};
-use super::spots::{Link, Spot};
+use linked_text::spots::{Link, Spot};
 use spds_rules::Var;
 use std::test::Fail;
 

@@ -1,7 +1,7 @@
 //! Nodes, start nodes, stores, and the classes and fields of sites.
 use super::programs::{DISPATCH, FRAMES, HEAP, OBJECTS, TEXTS};
 use super::rows::{Case, Row, first_wrong};
-use super::spots::{Origin, Spot};
+use linked_text::spots::{Origin, Spot};
 use spds_rules::Var;
 use std::test::Fail;
 

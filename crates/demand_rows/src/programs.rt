@@ -126,11 +126,6 @@ return;
 }
 ";
 
-/// 0 `main`, which builds a list of three cells and reads it to its end.
-pub const THREE_CELLS: &str = "class N { N next; }
-class Main { static void main(java.lang.String[]) { N a, b, c, x, y, z; a = new N; b = new N; b.<N: N next> = a; c = new N; c.<N: N next> = b;
-x = c; y = x.<N: N next>; z = y.<N: N next>; return; } }";
-
 /// 0 `put`, 1 `main`.
 pub const PASSED_BOX: &str = "class Box { java.lang.Object v; } class A { }
 class Main { static void put(Box) { Box p, r; A o; p := @parameter0: Box; r = p; p = new Box; o = new A; r.<Box: java.lang.Object v> = o; return; }

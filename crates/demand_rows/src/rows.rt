@@ -1,8 +1,8 @@
 //! What is asked of a program, and what it answers.
-use super::linked_of;
-use super::spots::{Link, Origin, Spot, are_these, before, edge, node, site};
 use jim_ast::NoMemory;
 use link_program::Linked;
+use linked_text::linked_of;
+use linked_text::spots::{Link, Origin, Spot, are_these, before, edge, node, site};
 use spds_nodes::{has_field, into, is_node, site_class, starts_of, stores_of};
 use spds_rules::{Edge, Node, StoreAt, Var};
 use std::alloc::Global;

@@ -49,7 +49,7 @@ pub fn demand(
     ensures beyond { HasMore (Demanded linked.now (record { targets = targets.now })) budget → IsErr result }
     ensures enough { (b : ℕ) → HasAtMost (Demanded linked.now (record { targets = targets.now })) budget → result ≢ Err (DemandError.OverBudget b) }
 {
-    linked.methods();
+    linked.tell_form();
     let walk = walk_program(alloc, linked, targets, budget)?;
     Ok(Demand::of_walk(alloc, linked, walk)?)
 }

@@ -63,7 +63,7 @@ pub fn sort_sites(linked: &Linked, sites: &mut IndexSet<Site>) -> Result<(), NoM
     ensures len { OnOk result (length sites.new.keys ≡ length sites.old.keys) }
     ensures same { OnOk result ((s : AnySite) → Has sites.new.keys s ↔ Has sites.old.keys s) }
 {
-    linked.methods();
+    linked.tell_form();
     sites.sort_unstable_by(
         |a: &Site, b: &Site| -> Ordering
             ensures { result ≡ site_cmp linked.entry.now a.now b.now }

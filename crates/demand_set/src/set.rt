@@ -5,7 +5,7 @@ ghost use Rattle.link_sites.specs.declared.site.Site.{Site as DemandedSite};
 ghost use Rattle.spds_rules.specs.Demand.{AreAll};
 ghost use Rattle.spds_rules.specs.declared.node.Node.{Node as AnyNode};
 ghost use Rattle.spds_rules.specs.Answers.{AreSites};
-ghost use Rattle.spds_rules.specs.Nodes.{IsNode, site_of};
+ghost use Rattle.spds_rules.specs.Nodes.{IsNode};
 ghost use Rattle.demand_set.specs.Demands.{StartsAt};
 ghost use Rattle.demand_set.specs.Starts.{HasStart};
 
@@ -15,7 +15,6 @@ use indexmap::IndexSet;
 use jim_ast::{List, NoMemory};
 use link_program::Linked;
 use link_sites::Site;
-use spds_nodes::site_of;
 use spds_rules::{Edge, Node, StoreAt};
 use std::alloc::Global;
 use std::marker::Model;
@@ -128,15 +127,6 @@ impl Demand {
         ensures { (i : ℕ) → (result ≡ Some i) ↔ (slice_get self.now.nodes i ≡ Some node) }
     {
         let number = self.nodes.get_index_of(&node)?;
-        Some(number as u32)
-    }
-
-    /// The number of the site whose object comes to be at a node, where the site is one of these. Costs one look-up.
-    pub fn site_number_of(&self, node: Node) -> Option<u32>
-        ensures { (i : ℕ) → (result ≡ Some i) ↔ ((site : DemandedSite) × (site_of node ≡ Some site) × (slice_get self.now.sites i ≡ Some site)) }
-    {
-        let site = site_of(node)?;
-        let number = self.sites.get_index_of(&site)?;
         Some(number as u32)
     }
 

@@ -38,7 +38,7 @@ pub fn sites_of(alloc: Global, linked: &Linked, nodes: &[Node]) -> Result<IndexS
     ensures ordered { IfOk result (λ sites. AllPairs (Precedes linked.now) sites.keys) }
     ensures apart { IfOk result (λ sites. IsApart sites.keys) }
 {
-    linked.methods();
+    linked.tell_form();
     let mut sites = found_sites(alloc, nodes)?;
     sort_sites(linked, &mut sites)?;
     Ok(sites)

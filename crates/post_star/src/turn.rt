@@ -20,13 +20,13 @@ use std::collections::VecDeque;
 use weight_laws::Weight;
 
 /// What is told of each item that is worked on.
-pub trait Watch {
+pub(crate) trait Watch {
     fn takes(&mut self, item: Item);
 }
 
 /// Takes no notice.
 #[derive(Clone, Copy, Debug)]
-pub struct Unwatched;
+pub(crate) struct Unwatched;
 
 impl Watch for Unwatched {
     fn takes(&mut self, _item: Item) {}
@@ -274,7 +274,7 @@ fn turn<W: Weight>(
 }
 
 /// Works on all that waits. It ends, since each turn takes an item, and each item comes with a rise of a weight.
-pub fn run<W: Weight, V: Watch>(
+pub(crate) fn run<W: Weight, V: Watch>(
     alloc: Global,
     system: &System<'_, W>,
     table: &mut Table<W>,

@@ -158,7 +158,7 @@ impl<W: Weight> Work<W> {
     }
 
     /// As `settle`, and tells each item that is worked on.
-    pub fn settle_watched<V: Watch>(&mut self, watch: &mut V) -> Result<(), NoMemory>
+    pub(crate) fn settle_watched<V: Watch>(&mut self, watch: &mut V) -> Result<(), NoMemory>
         ensures ok { OnOk result (self.new ≡ record self.old { settled = true }) }
         ensures err { OnErr result (self.new ≡ record self.old { settled = false }) }
     {

@@ -69,8 +69,7 @@ fn push_into(
     ensures { OnOk result (IsAdded (IsEdgeInto linked.now node) edges.old.items edges.new.items) }
 {
     // The form of the program says that what the edges come from are nodes.
-    let methods = linked.methods();
-    prove!(0 < methods);
+    linked.tell_form();
     if node.place.raised {
         push_into_raised(edges, alloc, linked, node)
     } else {

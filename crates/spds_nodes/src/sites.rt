@@ -20,8 +20,7 @@ fn class_named(linked: &Linked, name: &str) -> Option<u32>
     ensures is { (class : ℕ) → (result ≡ Some class) ↔ IsNamedClass linked.now name.now class }
     ensures some { IsSome result }
 {
-    let methods = linked.methods();
-    prove!(0 < methods);
+    linked.tell_form();
     linked.class_number(name)
 }
 
@@ -142,8 +141,7 @@ fn has_declared(linked: &Linked, class: u32, field: u32) -> bool
     requires { class < length linked.now.classes }
     ensures { IsTrue result ↔ HasDeclared linked.now class field }
 {
-    let methods = linked.methods();
-    prove!(0 < methods);
+    linked.tell_form();
     match linked.field_class(field) {
         Some(declaring) => linked.tree().sub(class, declaring),
         None => false,
@@ -154,8 +152,7 @@ fn has_declared(linked: &Linked, class: u32, field: u32) -> bool
 fn class_has(linked: &Linked, site: Site, field: u32) -> bool
     ensures { IsTrue result ↔ ((class : ℕ) × IsSiteClass linked.now site class × HasDeclared linked.now class field) }
 {
-    let methods = linked.methods();
-    prove!(0 < methods);
+    linked.tell_form();
     match site_class(linked, site) {
         Some(class) => has_declared(linked, class, field),
         None => false,

@@ -44,7 +44,7 @@ impl Parts {
         self.stores[store as usize]
     }
 
-    /// The cell of the node with the number. A number of no node has itself.
+    /// The cell of the node with the number. What a number of no node gives is left open.
     pub fn cell_of(&self, node: u32) -> u32
         ensures { (cell : ℕ) → slice_get self.now.cells.items node ≡ Some cell → result ≡ cell }
     {

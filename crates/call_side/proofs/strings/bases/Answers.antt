@@ -10,16 +10,16 @@ pub returns-clause-steps : goal.returns-clause-steps
 returns-clause-steps c =
     let p = c.args.linked.now in
     let past : length p.methods ≤ c.loop-target.target = omega (arith, c.methods-target-end.ensures.count) in
-    steps_all p c.args.calls.now c.loop-target.target c.loop-target.steps.items c.methods-target-end.ensures.form past c.loop-target.invariant
+    steps_all p c.args.calls.now c.loop-target.target c.loop-target.steps.items c.tell_form.ensures past c.loop-target.invariant
 
 pub returns-clause-strings : goal.returns-clause-strings
 returns-clause-strings c =
     let p = c.args.linked.now in
     let past : length p.methods ≤ c.loop-target.target = omega (arith, c.methods-target-end.ensures.count) in
-    are_strings p c.args.calls.now c.loop-target.steps.items (steps_all p c.args.calls.now c.loop-target.target c.loop-target.steps.items c.methods-target-end.ensures.form past c.loop-target.invariant)
+    are_strings p c.args.calls.now c.loop-target.steps.items (steps_all p c.args.calls.now c.loop-target.target c.loop-target.steps.items c.tell_form.ensures past c.loop-target.invariant)
 
 pub returns-clause-led : goal.returns-clause-led
 returns-clause-led c =
     let p = c.args.linked.now in
     let past : length p.methods ≤ c.loop-target.target = omega (arith, c.methods-target-end.ensures.count) in
-    are_led p c.args.calls.now c.loop-target.steps.items (steps_all p c.args.calls.now c.loop-target.target c.loop-target.steps.items c.methods-target-end.ensures.form past c.loop-target.invariant) c.requires.counted
+    are_led p c.args.calls.now c.loop-target.steps.items (steps_all p c.args.calls.now c.loop-target.target c.loop-target.steps.items c.tell_form.ensures past c.loop-target.invariant) c.requires.counted

@@ -20,4 +20,4 @@ returns-clause-ordered c =
     let differ = differ-from_distinct (eq-value).it same_site self_site _ now.unique in
     let same = Has-same (eq-value).it same_site self_site _ _ now.reordered.2 in
     let sorted = sorted_by _ (site_cmp p) (site_total p) now.sorted (λ a r f' called. search rules) in
-    precedes_sorted p _ c.methods.ensures.form (λ i d h. c.requires.sites _ ((same _).0 (i, slice_get-get_or _ i d h))) differ sorted
+    precedes_sorted p _ c.tell_form.ensures (λ i d h. c.requires.sites _ ((same _).0 (i, slice_get-get_or _ i d h))) differ sorted

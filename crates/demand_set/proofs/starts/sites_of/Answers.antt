@@ -3,7 +3,7 @@ use Rattle.demand_set.proofs.starts.sites_of.Goals as goal
 
 pub sort_sites-requires : goal.sort_sites-requires
 sort_sites-requires c = record {
-  sites = λ s has. let p = (c.in_ok-sites.ensures.found s).0 has in node_site _ c.methods.ensures.form p.0 s (c.requires.nodes p.0 p.1) p.2;
+  sites = λ s has. let p = (c.in_ok-sites.ensures.found s).0 has in node_site _ c.tell_form.ensures p.0 s (c.requires.nodes p.0 p.1) p.2;
 }
 
 pub returns-clause-found : goal.returns-clause-found

@@ -9,11 +9,11 @@ returns-then-node c =
     let p = c.args.linked.now in
     let n = c.args.node in
     on_ok_weaker c.push_into_raised.result
-    (IsAdded-same (IsIntoRaised p n) (IsEdgeInto p n) _ _ (raised_parts p n c.methods-methods.ensures.form c.requires c.if-node.true)) c.push_into_raised.ensures
+    (IsAdded-same (IsIntoRaised p n) (IsEdgeInto p n) _ _ (raised_parts p n c.tell_form.ensures c.requires c.if-node.true)) c.push_into_raised.ensures
 
 pub returns-else-node : goal.returns-else-node
 returns-else-node c =
     let p = c.args.linked.now in
     let n = c.args.node in
     on_ok_weaker c.push_into_unraised.result
-    (IsAdded-same (IsIntoUnraised p n) (IsEdgeInto p n) _ _ (unraised_parts p n c.methods-methods.ensures.form c.requires c.if-node.false)) c.push_into_unraised.ensures
+    (IsAdded-same (IsIntoUnraised p n) (IsEdgeInto p n) _ _ (unraised_parts p n c.tell_form.ensures c.requires c.if-node.false)) c.push_into_unraised.ensures

@@ -1,6 +1,6 @@
 use Rattle.std.proofs.lemmas.Result.{IfOk-weaker}
-use Rattle.call_side.proofs.AtNode.{IfSome-weaker}
-use Rattle.call_side.proofs.Trails.{back_home, homes_backward}
+use Rattle.call_side.proofs.AtNode.{IfSome-weaker, if_none_weaker}
+use Rattle.call_side.proofs.Trails.{back_home, homes_backward, led_is_home}
 use Rattle.call_side.proofs.indexed.IndexedBases.way.Goals as goal
 
 pub way-requires-clause-backward : goal.way-requires-clause-backward
@@ -11,3 +11,9 @@ returns-clause-some c =
     let h = c.self.inside in
     rw (← c.self.view_is) (IfOk-weaker c.way.result _ _ (λ r. IfSome-weaker r _ _ (λ way back.
     back_home h.steps.items h.last h.homes.bases.keys h.homes.origins.items c.self.invariant.homes.ways back.2 c.args.base back.1)) c.way.ensures.some)
+
+pub returns-clause-none : goal.returns-clause-none
+returns-clause-none c =
+    let h = c.self.inside in
+    rw (← c.self.view_is) (IfOk-weaker c.way.result _ _ (λ r. if_none_weaker r (λ absent word leads.
+    absent (led_is_home h.steps.items h.last h.homes c.self.invariant.homes c.args.base word leads))) c.way.ensures.none)

@@ -1,4 +1,4 @@
-use Rattle.demand_rows.proofs.reading.joined.Goals as goal
+use Rattle.linked_text.proofs.reading.joined.Goals as goal
 
 pub link-requires-clause-nine : goal.link-requires-clause-nine
 link-requires-clause-nine c = c.declares_named.ensures.0 c.if-not-declares_named.false

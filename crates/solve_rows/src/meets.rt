@@ -2,13 +2,13 @@
 ghost use Rattle.link_rules.specs.WellLinked.{IsWellLinked};
 ghost use Rattle.spds_rules.specs.Nodes.{IsNode};
 
-use super::linked_of;
 use super::programs::{THREE_CELLS, TWO_BOXES};
-use super::spots::{Origin, Spot, before, node, site};
 use demand_set::{DemandError, demand};
 use jim_ast::NoMemory;
 use link_program::Linked;
 use link_sites::{Place, Site};
+use linked_text::linked_of;
+use linked_text::spots::{Origin, Spot, before, node, site};
 use spds_nodes::is_node;
 use spds_rules::{Node, Var};
 use spds_solve::{Met, solve};

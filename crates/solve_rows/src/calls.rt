@@ -1,0 +1,60 @@
+//! Calls by number, and the call strings of methods as base steps.
+use super::programs::TWO_CALLS;
+use call_side::{Calls, bases};
+use jim_ast::NoMemory;
+use link_program::Linked;
+use link_sites::Place;
+use linked_text::linked_of;
+use linked_text::spots::before;
+use post_star::BaseStep;
+use std::alloc::Global;
+use std::test::Fail;
+
+// Whether the two calls of `main` have the first numbers, both ways, and neither another statement nor a call with an exception in flight has one.
+fn are_numbered(calls: &Calls) -> bool {
+    let (first, second) = (before(1, 2), before(1, 3));
+    let in_flight = Place {
+        raised: true,
+        ..first
+    };
+    calls.mark_of(first) == Some(0)
+        && calls.mark_of(second) == Some(1)
+        && calls.call_of(0) == Some(first)
+        && calls.call_of(1) == Some(second)
+        && calls.mark_of(before(1, 4)).is_none()
+        && calls.mark_of(in_flight).is_none()
+        && calls.call_of(u32::MAX).is_none()
+}
+
+// Whether the method that both call leads to `main` by each of them, and `main` leads to the root by one call.
+fn are_strings(steps: &[BaseStep], root: u32) -> bool {
+    let called = [0, 1].map(|mark| BaseStep {
+        base: 0,
+        mark,
+        below: 1,
+    });
+    steps.len() == 3
+        && called.iter().all(|step| steps.contains(step))
+        && steps
+            .iter()
+            .any(|step| step.base == 1 && step.below == root)
+}
+
+fn is_right(alloc: Global, linked: &Linked) -> Result<bool, NoMemory> {
+    let calls = Calls::new(alloc, linked)?;
+    let steps = bases(alloc, linked, &calls)?;
+    Ok(are_numbered(&calls) && are_strings(&steps, linked.root()))
+}
+
+fn is_right_of(alloc: Global, text: &str) -> Result<bool, NoMemory> {
+    match linked_of(alloc, text) {
+        Some(linked) => is_right(alloc, &linked),
+        None => Ok(false),
+    }
+}
+
+#[test]
+fn numbers_both_ways(rt: HostRuntime) -> Result<(), Fail> {
+    assert!(rt; is_right_of(rt.alloc(), TWO_CALLS)?);
+    Ok(())
+}
