@@ -30,10 +30,10 @@ IfSome-long n None new P takes p = tt
 IfSome-long n (Some xs) None P takes p = absurd takes
 IfSome-long n (Some xs) (Some ys) P takes p = p xs (omega (arith, takes.0))
 
--- what holds of any bytes holds of those that were left
-pub IfSome-any : {A : Type 0} (o : Option A) (P : A → Type 0) → ((x : A) → P x) → IfSome o P
-IfSome-any (Some x) P p = p x
-IfSome-any None P p = tt
+-- so is said of the bytes that a command is about what is said of those that were left, where these are told
+pub IfSome-about : {A : Type 0} (o : Option A) (P : A → Type 0) (D : Type 0) → IfSome o P → (D → (x : A) → P x) → (x : A) → (o ≡ Some x) ⊎ D → P x
+IfSome-about {A} o P D h f x (inl e) = subst (λ (q : Option A). IfSome q P) e h
+IfSome-about o P D h f x (inr d) = f d x
 
 -- words that are at most one request have one status
 words_one : (words : List (List ℕ)) (bytes : List ℕ) → ((a b : Request) → IsRequest words a → IsRequest words b → a ≡ b)

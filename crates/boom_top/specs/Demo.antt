@@ -5,14 +5,14 @@ use Rattle.std.specs.Fmt.{decimal}
 use Rattle.link_rules.specs.Linked.{LinkedProgram}
 use Rattle.link_sites.specs.declared.site.Site.{Site}
 use Rattle.boom_words.specs.Requests.{PointsTo}
-use Rattle.demo_text.specs.Demo.{taken_local}
+use Rattle.demo_text.specs.Demo.{main_method, taken_local}
 use Rattle.report_text.specs.Answers.{count_lines}
 use Rattle.report_text.specs.Lines.{text_of}
 
 -- what is asked of the demo with so many boxes: what is taken from the last one, just before main returns, whatever it demands
 abbrev pub demo_asked : ℕ → PointsTo
 demo_asked boxes = record {
-  method = codes "<Demo: void main(java.lang.String[])>";
+  method = main_method;
   index = 4 * boxes;
   local = taken_local (boxes - 1);
   budget = 4294967295;

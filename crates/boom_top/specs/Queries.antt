@@ -1,11 +1,11 @@
 -- What a request asks of a text: the program that it spells and that is linked.
 use Rattle.std.specs.Prelude.{ℕ, ◌<◌, ◌≤◌, List, All, length}
+use Rattle.std.specs.Char.{IsAsciiDigit}
 use Rattle.jim_ast.specs.declared.syntax.Program.{Program}
 use Rattle.jim_parse.specs.Derives.{Spells}
-use Rattle.jim_prelude.specs.declared.TheConstants.{PRELUDE}
+use Rattle.jim_prelude.specs.Text.{prelude_text}
 use Rattle.link_rules.specs.Conditions.{DeclaresNine}
 use Rattle.link_rules.specs.Linked.{LinkedProgram, Links}
-use Rattle.boom_words.specs.Named.{IsDigit}
 use Rattle.boom_words.specs.Requests.{Question, Request, alias, demo, points_to, run}
 use Rattle.demo_text.specs.Demo.{demo_source}
 
@@ -27,13 +27,13 @@ IsDemo _ = ⊥
 
 -- what the parts of a question keep: the choices of a run are digits, and the demo has from 1 to 400 boxes
 abbrev pub IsFit : Question → Type 0
-IsFit (run asked) = All IsDigit asked.choices
+IsFit (run asked) = All IsAsciiDigit asked.choices
 IsFit (demo boxes) = (0 < boxes) × (boxes ≤ 400)
 IsFit _ = Unit {0}
 
 -- the stand-ins for Java's own classes: the program that their text spells. It declares the nine classes that linking needs
 pub record IsPrelude (prelude : Program) : Type 0 where
-  pub spelled : Spells PRELUDE.now prelude
+  pub spelled : Spells prelude_text prelude
   pub nine : DeclaresNine prelude
 
 -- the text of the stand-ins has no tokens, or these derive no program, or it doesn't declare the nine classes

@@ -1,5 +1,5 @@
 -- What a reply says of the runs of the machine, and when a request is answered.
-use Rattle.std.specs.Prelude.{◌≡◌, ℕ, List, [], ◌∷◌, Some, codes, slice_get}
+use Rattle.std.specs.Prelude.{◌≡◌, ◌⊎◌, ℕ, List, [], ◌∷◌, Some, codes, slice_get}
 use Rattle.std.specs.declared.option.Option.{Option}
 use Rattle.std.specs.Io.KnownBytes.{Appends}
 use Rattle.jim_ast.specs.Lists.{Has}
@@ -75,3 +75,7 @@ pub record IsAnswerable (words : List (List ℕ)) (bytes : List ℕ) : Type 0 wh
 -- the words ask nothing that is read: they are no command, or the demo's
 abbrev pub ReadsNothing : List (List ℕ) → Type 0
 ReadsNothing words = (r : Request) → IsRequest words r → IsDemo r.question
+
+-- the words are about these bytes: those that the source has left, where it tells them, or any, whatever it tells, where nothing is read
+abbrev pub AreAbout : List (List ℕ) → Option (List ℕ) → List ℕ → Type 0
+AreAbout words left bytes = (left ≡ Some bytes) ⊎ ReadsNothing words

@@ -8,7 +8,7 @@ ghost use Rattle.boom_top.specs.Replies.{IsPlaceReply};
 
 use super::query::{Reply, not_answered};
 use super::status::Status;
-use demo_text::{DEMO_METHOD, demo_index, demo_local};
+use demo_text::{demo_index, demo_local, demo_method};
 use jim_ast::NoMemory;
 use link_program::Linked;
 use query_core::{Answer, points_to};
@@ -51,7 +51,8 @@ fn local_reply(alloc: Global, boxes: u32, local: &str, linked: &Linked) -> Resul
     ensures { IfOk result (Makes (IsPlaceReply linked.now (demo_asked boxes) (λ n. IsDemoText linked.now boxes))) }
 {
     let index = demo_index(boxes);
-    match points_to(alloc, linked, DEMO_METHOD, index, local, u32::MAX) {
+    let method = demo_method();
+    match points_to(alloc, linked, method, index, local, u32::MAX) {
         Ok(answer) => summary(alloc, boxes, linked, &answer),
         Err(error) => not_answered(alloc, error),
     }

@@ -7,13 +7,7 @@ mod linked;
 mod query;
 mod reading;
 mod refusal;
-#[cfg(test)]
-mod refusal_tests;
-#[cfg(test)]
-mod row_tests;
 mod status;
-#[cfg(test)]
-mod tests;
 mod top;
 
 pub use query_core::Which;

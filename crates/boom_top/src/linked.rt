@@ -1,7 +1,7 @@
 //! The reply to a command about a program that is read: it is linked with the stand-ins for Java's own classes.
 ghost use Rattle.std.specs.Prelude.{◌≡◌, ◌≢◌, ◌≤◌, length, IfOk};
 ghost use Rattle.jim_parse.specs.Derives.{Spells};
-ghost use Rattle.jim_prelude.specs.declared.TheConstants.{PRELUDE as text_of_prelude};
+ghost use Rattle.jim_prelude.specs.Text.{prelude_text};
 ghost use Rattle.link_rules.specs.Conditions.{DeclaresNine, IsRead};
 ghost use Rattle.boom_words.specs.Commands.{question_of, request_of};
 ghost use Rattle.boom_top.specs.Parts.{Makes, Tells};
@@ -58,7 +58,7 @@ fn checked_reply(
     prelude: &Program,
 ) -> Result<Reply, NoMemory>
     requires input { IsRead input.now }
-    requires prelude { Spells text_of_prelude.now prelude.now }
+    requires prelude { Spells prelude_text prelude.now }
     requires fit { IsFit (question_of command.now.query) }
     ensures { IfOk result (Makes (IsProgramReply (request_of command.now) input.now)) }
 {

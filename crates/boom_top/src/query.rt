@@ -1,12 +1,12 @@
 //! The reply to a question about a linked program.
 ghost use Rattle.std.specs.Prelude.{◌≡◌, ℕ, All, IfOk, IsErr};
+ghost use Rattle.std.specs.Char.{IsAsciiDigit};
 ghost use Rattle.link_rules.specs.WellLinked.{IsWellLinked};
 ghost use Rattle.link_sites.specs.Sites.{IsSite};
 ghost use Rattle.query_core.specs.declared.places.Which.{Which as AWhich};
 ghost use Rattle.query_core.specs.Places.{IsPlaceOf};
 ghost use Rattle.spds_rules.specs.declared.node.Node.{Node as ANode};
 ghost use Rattle.report_text.specs.Answers.{IsAnswerText};
-ghost use Rattle.run_report.specs.Named.{IsDigit};
 ghost use Rattle.boom_words.specs.Commands.{points_to_of, question_of, run_of};
 ghost use Rattle.boom_top.specs.Parts.{Makes, Tells};
 ghost use Rattle.boom_top.specs.Queries.{IsFit};
@@ -128,7 +128,7 @@ fn run_reply(
     asked: &Running<'_>,
     linked: &Linked,
 ) -> Result<Reply, NoMemory>
-    requires { All IsDigit asked.now.choices.now }
+    requires { All IsAsciiDigit asked.now.choices.now }
     ensures { IfOk result (Makes (IsRunReply linked.now entry.now (run_of asked.now))) }
 {
     let text = run_text(alloc, linked, entry, asked.steps, asked.choices)?;

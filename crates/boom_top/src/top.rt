@@ -1,5 +1,5 @@
 //! The top call.
-ghost use Rattle.std.specs.Prelude.{◌≡◌, ◌≢◌, ◌⊎◌, ℕ, Err, List, length, map, IfErr, IfOk, IfSome, IsOk, string_bytes};
+ghost use Rattle.std.specs.Prelude.{◌≡◌, ◌≢◌, ◌⊎◌, ℕ, Err, List, Some, length, map, IfErr, IfOk, IfSome, IsOk, string_bytes};
 ghost use Rattle.std.specs.Io.KnownBytes.{Appends, IsAtEnd};
 ghost use Rattle.boom_io.specs.Causes.{Rose};
 ghost use Rattle.boom_io.specs.Whole.{AppendsProperPrefix};
@@ -10,7 +10,7 @@ ghost use Rattle.report_text.specs.Lines.{text_of};
 ghost use Rattle.boom_top.specs.Parts.{IsGiven, Makes, Sends, status_of};
 ghost use Rattle.boom_top.specs.Queries.{Accepted, IsDemo, IsFit};
 ghost use Rattle.boom_top.specs.Replies.{GivesUp, IsReply, IsReplyTo, IsSourceReply};
-ghost use Rattle.boom_top.specs.Runs.{CoversAllRuns, IsAnswerable, ReadsNothing};
+ghost use Rattle.boom_top.specs.Runs.{AreAbout, CoversAllRuns, IsAnswerable, ReadsNothing};
 
 use super::linked::text_reply;
 use super::query::{NoReply, Reply, refused};
@@ -77,7 +77,8 @@ fn command_reply<S: Source>(
     source: &mut S,
 ) -> Result<Reply, NoReply>
     requires { IsFit (question_of command.now.query) }
-    ensures reply { IfSome (S.left source.old) (λ bytes. IfOk result (Makes (IsReplyTo (request_of command.now) bytes))) }
+    ensures reply { (bytes : List ℕ) → (S.left source.old ≡ Some bytes) ⊎ IsDemo (question_of command.now.query)
+        → IfOk result (Makes (IsReplyTo (request_of command.now) bytes)) }
     ensures given { IfOk result (λ reply. IsGiven reply.status) }
     ensures unread { IsDemo (question_of command.now.query) → source.new ≡ source.old }
     ensures whole { IfOk result (λ reply. reply.status ≡ Status.Done → IsDemo (question_of command.now.query) ⊎ IsAtEnd (S.left source.new)) }
@@ -92,7 +93,8 @@ fn command_reply<S: Source>(
 
 // The reply to words.
 fn words_reply<S: Source>(alloc: Global, words: &[String], source: &mut S) -> Result<Reply, NoReply>
-    ensures reply { IfSome (S.left source.old) (λ bytes. IfOk result (Makes (IsReply (map string_bytes words.now) bytes))) }
+    ensures reply { (bytes : List ℕ) → AreAbout (map string_bytes words.now) (S.left source.old) bytes
+        → IfOk result (Makes (IsReply (map string_bytes words.now) bytes)) }
     // The words are at most one request.
     ensures one { IsOk result → (a b : Request) → IsRequest (map string_bytes words.now) a → IsRequest (map string_bytes words.now) b → a ≡ b }
     ensures usage { IfOk result (λ reply. reply.status ≡ Status.Usage → NoRequest (map string_bytes words.now)) }
@@ -123,7 +125,7 @@ fn words_reply<S: Source>(alloc: Global, words: &[String], source: &mut S) -> Re
 /// order: words, length, tokens, grammar, stand-ins, linking, place, budget. The first that fails is the status, and its line is the reply; else the
 /// status is `Done`. The reply is made whole before it is written.
 ///
-/// The clauses on replies speak of a source that tells the bytes it has left.
+/// The clauses on replies speak of a source that tells the bytes it has left, and of any source where nothing is read.
 pub fn boomer<S: Source, K: Sink>(
     alloc: Global,
     words: &[String],
@@ -131,19 +133,20 @@ pub fn boomer<S: Source, K: Sink>(
     sink: &mut K,
 ) -> Status
     // The status and the text are those of the definition; only a fault or want of memory is no reply.
-    ensures reply { IfSome (S.left source.old) (λ bytes. GivesUp result
-        ⊎ ((lines : List (List ℕ)) × IsReply (map string_bytes words.now) bytes result lines × Appends (K.written sink.old) (K.written sink.new) (text_of lines))) }
+    ensures reply { (bytes : List ℕ) → AreAbout (map string_bytes words.now) (S.left source.old) bytes → GivesUp result
+        ⊎ ((lines : List (List ℕ)) × IsReply (map string_bytes words.now) bytes result lines × Appends (K.written sink.old) (K.written sink.new) (text_of lines)) }
     // Each status comes exactly where it is the reply's, but for a fault or want of memory.
-    ensures exact { IfSome (S.left source.old) (λ bytes. (status : Status) (lines : List (List ℕ)) → IsReply (map string_bytes words.now) bytes status lines
-        → (result ≡ status) ⊎ GivesUp result) }
+    ensures exact { (bytes : List ℕ) → AreAbout (map string_bytes words.now) (S.left source.old) bytes
+        → (status : Status) (lines : List (List ℕ)) → IsReply (map string_bytes words.now) bytes status lines → (result ≡ status) ⊎ GivesUp result }
 
     // The headline: whatever a local holds in any frame that stands at the place, at the end of any run of the machine, of any length, its site is
     // printed; and two locals of a frame that hold one object are printed as aliases.
-    ensures sound { IfSome (S.left source.old) (λ bytes. result ≡ Status.Done → (r : Request) → IsRequest (map string_bytes words.now) r
-        → (a : Accepted r bytes) → CoversAllRuns a.linked r.question (K.written sink.old) (K.written sink.new)) }
+    ensures sound { (bytes : List ℕ) → AreAbout (map string_bytes words.now) (S.left source.old) bytes → result ≡ Status.Done
+        → (r : Request) → IsRequest (map string_bytes words.now) r
+        → (a : Accepted r bytes) → CoversAllRuns a.linked r.question (K.written sink.old) (K.written sink.new) }
     // What is there, with a budget of at least its demand's size, is answered where no read and no write fails and memory is found.
-    ensures complete { IfSome (S.left source.old) (λ bytes. IsAnswerable (map string_bytes words.now) bytes → ¬ Rose (S.faults source.old) (S.faults source.new)
-        → ¬ Rose (K.faults sink.old) (K.faults sink.new) → (result ≡ Status.Done) ⊎ (result ≡ Status.NoMemory)) }
+    ensures complete { (bytes : List ℕ) → AreAbout (map string_bytes words.now) (S.left source.old) bytes → IsAnswerable (map string_bytes words.now) bytes
+        → ¬ Rose (S.faults source.old) (S.faults source.new) → ¬ Rose (K.faults sink.old) (K.faults sink.new) → (result ≡ Status.Done) ⊎ (result ≡ Status.NoMemory) }
 
     // Words that are no command are refused as such whatever the source tells. They read nothing, and nor does the demo; an answer to other words rests
     // on all that was left.
@@ -157,8 +160,9 @@ pub fn boomer<S: Source, K: Sink>(
     ensures reads_told { result ≢ Status.ReadFault → S.faults source.new ≡ S.faults source.old }
     ensures writes_told { result ≢ Status.WriteFault → K.faults sink.new ≡ K.faults sink.old }
     ensures write_fault { result ≡ Status.WriteFault → Rose (K.faults sink.old) (K.faults sink.new) }
-    ensures prefix { IfSome (S.left source.old) (λ bytes. result ≡ Status.WriteFault → (status : Status) × (lines : List (List ℕ))
-        × IsReply (map string_bytes words.now) bytes status lines × AppendsProperPrefix (K.written sink.old) (K.written sink.new) (text_of lines)) }
+    ensures prefix { (bytes : List ℕ) → AreAbout (map string_bytes words.now) (S.left source.old) bytes → result ≡ Status.WriteFault
+        → (status : Status) × (lines : List (List ℕ)) × IsReply (map string_bytes words.now) bytes status lines
+        × AppendsProperPrefix (K.written sink.old) (K.written sink.new) (text_of lines) }
 {
     let made = words_reply(alloc, words, source);
     send(sink, made)

@@ -1,7 +1,7 @@
 -- What the words of a command line ask for.
 use Rattle.std.specs.Prelude.{◌≡◌, ℕ, ◌^◌, ◌<◌, ◌≤◌, ◌⊎◌, List, [], ◌∷◌, All, codes, length}
 use Rattle.std.specs.Fmt.{decimal}
-use Rattle.boom_words.specs.Named.{IsDigit}
+use Rattle.std.specs.Char.{IsAsciiDigit}
 
 -- what may a local hold: a method, an index, a local of it, and how many nodes may be demanded
 pub record PointsTo : Type 0 where
@@ -51,7 +51,7 @@ pub record IsAlias (words : List (List ℕ)) (entry : List ℕ) (asked : Alias) 
 -- the word for choices: a dash for none, or decimal digits, at most a thousand
 abbrev pub AreChoices : List ℕ → List ℕ → Type 0
 AreChoices word choices = ((word ≡ codes "-") × (choices ≡ []))
-    ⊎ ((word ≡ choices) × (0 < length choices) × (length choices ≤ 1000) × All IsDigit choices)
+    ⊎ ((word ≡ choices) × (0 < length choices) × (length choices ≤ 1000) × All IsAsciiDigit choices)
 
 -- the words of a `run` command, by position: the number of steps is decimal digits without a leading zero, at most a million
 pub record IsRun (words : List (List ℕ)) (entry : List ℕ) (asked : RunFor) : Type 0 where

@@ -1,7 +1,7 @@
 //! Words, read by position.
 ghost use Rattle.std.specs.Prelude.{◌≡◌, ◌^◌, ◌<◌, ◌↔◌, ◌∷◌, ℕ, List, Some, All, IfOk, IfSome, IsSomeAnd, IsTrue, codes, map, string_bytes};
 ghost use Rattle.std.specs.Fmt.{decimal};
-ghost use Rattle.boom_words.specs.Named.{IsDigit};
+ghost use Rattle.std.specs.Char.{IsAsciiDigit};
 ghost use Rattle.boom_words.specs.Requests.{AreChoices, IsRequest, Request};
 ghost use Rattle.boom_words.specs.Commands.{request_of};
 
@@ -84,7 +84,7 @@ fn number(alloc: Global, word: &str) -> Result<Option<u32>, NoMemory>
 
 // Whether all characters are decimal digits.
 fn are_digits(characters: &[u8]) -> bool
-    ensures { IsTrue result ↔ All IsDigit characters.now }
+    ensures { IsTrue result ↔ All IsAsciiDigit characters.now }
 {
     characters.iter().all(|c| c.is_ascii_digit())
 }

@@ -3,6 +3,10 @@ use Rattle.std.specs.Prelude.{ℕ, ◌++◌, List, [], ◌∷◌, codes, map}
 use Rattle.std.specs.Fmt.{decimal}
 use Rattle.std.specs.List.{concat, range_with_len}
 
+-- the text of the method that is asked
+abbrev pub main_method : List ℕ
+main_method = codes "<Demo: void main(java.lang.String[])>"
+
 -- the local of a box
 abbrev pub box_local : ℕ → List ℕ
 box_local k = codes "b" ++ decimal k

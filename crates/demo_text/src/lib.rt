@@ -5,7 +5,7 @@
 #![tactic(auto)]
 
 ghost use Rattle.std.specs.Prelude.{◌≡◌, ◌++◌, ◌*◌, ◌-◌, ◌^◌, ◌<◌, IfOk, OnOk, string_bytes};
-ghost use Rattle.demo_text.specs.Demo.{calls_of, declarations_of, demo_source, each_of, makes_of, statements_of, taken_local};
+ghost use Rattle.demo_text.specs.Demo.{calls_of, declarations_of, demo_source, each_of, main_method, makes_of, statements_of, taken_local};
 
 use std::alloc::{AllocError, Global};
 
@@ -14,12 +14,6 @@ mod tests;
 
 /// Memory that was asked for wasn't found.
 pub type NoMemory = AllocError;
-
-/// The class from which the program is linked.
-pub const DEMO_ENTRY: &str = "Demo";
-
-/// The text of the method that is asked.
-pub const DEMO_METHOD: &str = "<Demo: void main(java.lang.String[])>";
 
 // What stands before the declarations of `main`.
 const HEAD: &str = "\
@@ -127,6 +121,13 @@ pub fn demo_text(alloc: Global, count: u32) -> Result<String, NoMemory>
     push_all_statements(&mut text, count)?;
     text.push_str(END)?;
     Ok(text)
+}
+
+/// The text of the method that is asked.
+pub fn demo_method() -> &'static str
+    ensures { result.now ≡ main_method }
+{
+    "<Demo: void main(java.lang.String[])>"
 }
 
 /// The local of what is taken from the last of so many boxes, at least one.

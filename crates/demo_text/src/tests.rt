@@ -1,5 +1,5 @@
 //! Demos of one box and of two, by hand.
-use super::{DEMO_ENTRY, DEMO_METHOD, demo_index, demo_local, demo_text};
+use super::{demo_index, demo_local, demo_method, demo_text};
 use std::alloc::Global;
 use std::test::Fail;
 
@@ -82,8 +82,7 @@ fn spells_demos(rt: HostRuntime) -> Result<(), Fail> {
 
 #[test]
 fn asks_the_last_box(rt: HostRuntime) -> Result<(), Fail> {
-    assert_eq!(rt; DEMO_ENTRY, "Demo");
-    assert_eq!(rt; DEMO_METHOD, "<Demo: void main(java.lang.String[])>");
+    assert_eq!(rt; demo_method(), "<Demo: void main(java.lang.String[])>");
     for (count, local, index) in [(1, "x0", 4), (2, "x1", 8), (400, "x399", 1600)] {
         let name = demo_local(rt.alloc(), count)?;
         assert_eq!(rt; name.as_str(), local);

@@ -1,4 +1,6 @@
 //! The texts of replies: places and allocation sites of a linked program, and what is answered about them, as a user reads them.
+//!
+//! A call fails only where memory is wanting, and what stands in a text that it was to add to is then left open.
 #![tactic(auto)]
 
 mod answers;

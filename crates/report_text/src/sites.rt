@@ -32,8 +32,7 @@ fn push_made(text: &mut String, linked: &Linked, place: Place) -> Result<(), NoM
     requires { IsUnraised linked.now place Makes }
     ensures { OnOk result (AddsText (IsMadeAt linked.now place) (string_bytes text.old) (string_bytes text.new)) }
 {
-    let methods = linked.methods();
-    prove!(place.method < methods);
+    linked.tell_form();
     match linked.code(place.method)[place.index as usize] {
         Code::New { class, .. } => text.push_str(linked.class_name(class)),
         Code::NewArray { .. } => {

@@ -25,10 +25,6 @@ pub record IsRunTo (p : LinkedProgram) (digits : List ℕ) (steps made : ℕ) (s
   pub within : made ≤ steps
   pub sooner : made < steps → s.ending ≢ running
 
--- a character is a decimal digit
-abbrev pub IsDigit : ℕ → Type 0
-IsDigit c = (48 ≤ c) × (c < 58)
-
 -- the digits of decimal characters
 abbrev pub digits_of : List ℕ → List ℕ
 digits_of characters = map (λ c. c - 48) characters

@@ -1,7 +1,6 @@
 //! The runs of the command line: the run that a list of digits names, and the reply that tells how it stands.
 #![tactic(auto)]
 
-mod digits;
 mod ends;
 mod laws;
 mod locals;
@@ -11,6 +10,5 @@ mod report;
 #[cfg(test)]
 mod tests;
 
-pub use digits::are_digits;
 pub use laws::named_runs_are_one;
 pub use report::run_text;

@@ -1,7 +1,8 @@
 //! The run that digits name.
 ghost use Rattle.std.specs.Prelude.{◌≡◌, ◌-◌, ◌<◌, All, IfOk, min};
+ghost use Rattle.std.specs.Char.{IsAsciiDigit};
 ghost use Rattle.link_rules.specs.WellLinked.{IsInForm};
-ghost use Rattle.run_report.specs.Named.{IsDigit, IsRunTo, NamedStep, digits_of};
+ghost use Rattle.run_report.specs.Named.{IsRunTo, NamedStep, digits_of};
 ghost use Rattle.step_rules.specs.Runs.{IsFirstState};
 ghost use Rattle.step_rules.specs.States.{running};
 ghost use Rattle.step_rules.specs.Steps.{told};
@@ -28,7 +29,7 @@ pub(crate) struct Ran {
 // The choice that a digit names: one that is too large counts as the last.
 fn picked(count: u32, digit: u8) -> u32
     requires count { 1 < count }
-    requires digit { IsDigit digit }
+    requires digit { IsAsciiDigit digit }
     ensures { result ≡ min (digit - 48) (count - 1) }
 {
     u32::from(digit - b'0').min(count - 1)
@@ -42,7 +43,7 @@ fn advance(
     used: usize,
 ) -> Result<Advanced, NoMemory>
     requires form { IsInForm machine.old.program }
-    requires digits { All IsDigit digits.now }
+    requires digits { All IsAsciiDigit digits.now }
     requires running { machine.old.state.ending ≡ running }
     ensures program { machine.new.program ≡ machine.old.program }
     ensures step { IfOk result (λ a. NamedStep machine.old.program (digits_of digits.now) used machine.old.state a.used machine.new.state) }
@@ -67,7 +68,7 @@ pub(crate) fn run_to(
     digits: &[u8],
 ) -> Result<Ran, NoMemory>
     requires form { IsInForm machine.old.program }
-    requires digits { All IsDigit digits.now }
+    requires digits { All IsAsciiDigit digits.now }
     requires first { IsFirstState machine.old.program machine.old.state }
     ensures program { machine.new.program ≡ machine.old.program }
     ensures run { IfOk result (λ ran. IsRunTo machine.old.program (digits_of digits.now) steps ran.made machine.new.state) }

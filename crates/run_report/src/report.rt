@@ -1,9 +1,10 @@
 //! The reply about a run.
 ghost use Rattle.std.specs.Prelude.{◌≡◌, ◌++◌, ◌∷◌, [], All, IfOk, OnOk, codes, string_bytes};
+ghost use Rattle.std.specs.Char.{IsAsciiDigit};
 ghost use Rattle.std.specs.Fmt.{decimal};
 ghost use Rattle.link_rules.specs.WellLinked.{IsInForm};
 ghost use Rattle.report_text.specs.Lines.{text_of};
-ghost use Rattle.run_report.specs.Named.{IsDigit, digits_of};
+ghost use Rattle.run_report.specs.Named.{digits_of};
 ghost use Rattle.run_report.specs.Reports.{IsRunText};
 ghost use Rattle.step_rules.specs.Runs.{IsFirstState};
 
@@ -31,7 +32,7 @@ fn report(
     digits: &[u8],
 ) -> Result<Vec<u8>, NoMemory>
     requires form { IsInForm linked.now }
-    requires digits { All IsDigit digits.now }
+    requires digits { All IsAsciiDigit digits.now }
     requires program { machine.old.program ≡ linked.now }
     requires first { IsFirstState linked.now machine.old.state }
     ensures { IfOk result (λ text. IsRunText linked.now entry.now steps (digits_of digits.now) text.items) }
@@ -54,11 +55,10 @@ pub fn run_text(
     steps: u32,
     digits: &[u8],
 ) -> Result<Vec<u8>, NoMemory>
-    requires { All IsDigit digits.now }
+    requires { All IsAsciiDigit digits.now }
     ensures { IfOk result (λ text. IsRunText linked.now entry.now steps (digits_of digits.now) text.items) }
 {
-    // A read of the program tells the prover that it is in form.
-    let _ = linked.methods();
+    linked.tell_form();
     match start(alloc, linked) {
         Ok(mut machine) => report(alloc, linked, &mut machine, entry, steps, digits),
         Err(error) => Err(error),

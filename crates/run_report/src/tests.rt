@@ -1,9 +1,9 @@
 //! Replies about runs of a small program, by hand.
-ghost use Rattle.std.specs.Prelude.{All, IfSome};
+ghost use Rattle.std.specs.Prelude.{◌↔◌, All, IfSome, IsTrue};
+ghost use Rattle.std.specs.Char.{IsAsciiDigit};
 ghost use Rattle.link_rules.specs.Conditions.{IsRead};
-ghost use Rattle.run_report.specs.Named.{IsDigit};
 
-use super::{are_digits, run_text};
+use super::run_text;
 use jim_ast::{NoMemory, Program};
 use jim_link::{declares_named, link};
 use jim_parse::parse;
@@ -41,7 +41,7 @@ fn told_of(
 ) -> Result<Vec<u8>, NoMemory>
     requires input { IsRead input.now }
     requires prelude { IsRead prelude.now }
-    requires digits { All IsDigit digits.now }
+    requires digits { All IsAsciiDigit digits.now }
 {
     if !declares_named(prelude) {
         return Ok(Vec::new(alloc));
@@ -55,12 +55,19 @@ fn told_of(
 // The same with the stand-ins.
 fn told_with(alloc: Global, input: &Program, steps: u32, digits: &[u8]) -> Result<Vec<u8>, NoMemory>
     requires input { IsRead input.now }
-    requires digits { All IsDigit digits.now }
+    requires digits { All IsAsciiDigit digits.now }
 {
     let Some(prelude) = read(alloc, PRELUDE) else {
         return Ok(Vec::new(alloc));
     };
     told_of(alloc, input, &prelude, steps, digits)
+}
+
+// Whether all of the characters are decimal digits.
+fn are_digits(characters: &[u8]) -> bool
+    ensures { IsTrue result ↔ All IsAsciiDigit characters.now }
+{
+    characters.iter().all(|c| c.is_ascii_digit())
 }
 
 // The reply about a run of the program above.

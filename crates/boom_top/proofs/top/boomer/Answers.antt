@@ -1,7 +1,6 @@
 use Rattle.std.proofs.Common.{◌≡◌, ℕ, List, Option, map, string_bytes}
 use Rattle.boom_top.specs.declared.query.NoReply.TheVariants as none
 use Rattle.boom_top.specs.declared.status.Status.TheVariants as status
-use Rattle.boom_top.proofs.Both.{IfSome-one}
 use Rattle.boom_top.proofs.Sent.{IfOk-status, completely, exactly, only_memory, partly, read_lost, refused_words, replied, soundly, unsent_by, write_failed}
 use Rattle.boom_top.proofs.top.boomer.Given as given
 use Rattle.boom_top.proofs.top.boomer.Goals as goal
@@ -26,27 +25,27 @@ module _ (g : given.Over) (c : goal.After-send g) where
   words = map string_bytes c.args.words.now
 
 pub returns-clause-reply : goal.returns-clause-reply
-returns-clause-reply g c = IfSome-one _ _ _ c.words_reply-made.ensures.reply (λ bytes made.
-    replied (old g c) (new g c) (before g c) (now g c) c.send.result (same g c) (words g c) bytes c.words_reply-made.result c.send.ensures.sent c.send.ensures.unsent made)
+returns-clause-reply g c = λ bytes about. let made = c.words_reply-made.ensures.reply bytes about in
+    replied (old g c) (new g c) (before g c) (now g c) c.send.result (same g c) (words g c) bytes c.words_reply-made.result c.send.ensures.sent c.send.ensures.unsent made
 
 pub returns-clause-exact : goal.returns-clause-exact
-returns-clause-exact g c = IfSome-one _ _ _ c.words_reply-made.ensures.reply (λ bytes made.
+returns-clause-exact g c = λ bytes about. let made = c.words_reply-made.ensures.reply bytes about in
     exactly (old g c) (new g c) (before g c) (now g c) c.send.result (same g c) (words g c) bytes c.words_reply-made.result c.send.ensures.sent c.send.ensures.unsent made
-    c.words_reply-made.ensures.one)
+    c.words_reply-made.ensures.one
 
 pub returns-clause-sound : goal.returns-clause-sound
-returns-clause-sound g c = IfSome-one _ _ _ c.words_reply-made.ensures.reply (λ bytes made.
+returns-clause-sound g c = λ bytes about. let made = c.words_reply-made.ensures.reply bytes about in
     soundly (old g c) (new g c) (before g c) (now g c) c.send.result (same g c) (words g c) bytes c.words_reply-made.result c.send.ensures.sent c.send.ensures.unsent made
-    c.words_reply-made.ensures.one)
+    c.words_reply-made.ensures.one
 
 pub returns-clause-complete : goal.returns-clause-complete
-returns-clause-complete g c = IfSome-one _ _ _ c.words_reply-made.ensures.reply (λ bytes made.
+returns-clause-complete g c = λ bytes about. let made = c.words_reply-made.ensures.reply bytes about in
     completely (old g c) (new g c) (before g c) (now g c) c.send.result (same g c) (words g c) bytes c.words_reply-made.result c.send.ensures.sent c.send.ensures.unsent made
-    c.words_reply-made.ensures.one _ c.words_reply-made.ensures.fault)
+    c.words_reply-made.ensures.one _ c.words_reply-made.ensures.fault
 
 pub returns-clause-prefix : goal.returns-clause-prefix
-returns-clause-prefix g c = IfSome-one _ _ _ c.words_reply-made.ensures.reply (λ bytes made.
-    partly (old g c) (new g c) (before g c) (now g c) c.send.result (same g c) (words g c) bytes c.words_reply-made.result c.send.ensures.sent c.send.ensures.unsent made)
+returns-clause-prefix g c = λ bytes about. let made = c.words_reply-made.ensures.reply bytes about in
+    partly (old g c) (new g c) (before g c) (now g c) c.send.result (same g c) (words g c) bytes c.words_reply-made.result c.send.ensures.sent c.send.ensures.unsent made
 
 pub returns-clause-usage : goal.returns-clause-usage
 returns-clause-usage g c =

@@ -5,7 +5,7 @@ use Rattle.report_text.proofs.sites.push_made.Goals as goal
 pub class_name-requires : goal.class_name-requires
 class_name-requires c =
     let at = read_there _ c.args.place.method c.args.place.index _ c.code.result.now _ _ c.requires.1 c.code.ensures c.in-New.is in
-    (fits_code _ _ _ _ c.methods-methods.ensures.form at.0).1
+    (fits_code _ _ _ _ c.tell_form.ensures at.0).1
 
 pub element_text-requires : goal.element_text-requires
 element_text-requires c =
@@ -20,7 +20,7 @@ unreachable-requires c =
 pub returns-in-New : goal.returns-in-New
 returns-in-New c =
     let at = read_there _ c.args.place.method c.args.place.index _ c.code.result.now _ _ c.requires.1 c.code.ensures c.in-New.is in
-    let made = made_class _ c.args.place _ _ _ c.methods-methods.ensures.form at.0 c.class_name.ensures in
+    let made = made_class _ c.args.place _ _ _ c.tell_form.ensures at.0 c.class_name.ensures in
     search (rules, made)
 
 pub returns-in_ok-push_str-in-NewArray : goal.returns-in_ok-push_str-in-NewArray

@@ -1,6 +1,6 @@
 //! Commands over programs, with the replies found by hand.
-use super::{Status, Which, boomer};
 use boom_io::{MemSink, MemSource};
+use boom_top::{Status, Which, boomer};
 use jim_ast::Name;
 use link_rules::{LinkError, LinkKind};
 use std::alloc::Global;
@@ -246,8 +246,6 @@ fn refuses_texts(rt: HostRuntime) -> Result<(), Fail> {
 // Programs that a rule of linking refuses, and one that has the statement of such a program where no run comes.
 #[test]
 fn refuses_what_is_not_linked(rt: HostRuntime) -> Result<(), Fail> {
-    let twice =
-        "class A { } class A { } class Main { static void main(java.lang.String[]) { return; } }";
     let orphan = "class A extends B { }";
     let empty = "class Main { static void main(java.lang.String[]) { } }";
     let no_method =
@@ -262,16 +260,8 @@ demanded 2
 ";
     let falls_off = "refused NotLinked FallsOff <Main: void main(java.lang.String[])> 0\n";
     let undeclared = "refused NotLinked UndeclaredCallee <Main: void main(java.lang.String[])> 0\n";
-    let rows: [Row; 6] = [
+    let rows: [Row; 5] = [
         ("", "5", "y", "100", 6, "refused NotLinked NoEntry\n"),
-        (
-            twice,
-            "5",
-            "x",
-            "100",
-            6,
-            "refused NotLinked DuplicateClass A\n",
-        ),
         (
             orphan,
             "5",

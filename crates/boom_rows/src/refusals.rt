@@ -1,7 +1,7 @@
 //! Programs that linking refuses, one for each kind and for each two kinds that may stand together, with the replies found by hand. A row has the
 //! kinds that stand in it by their numbers, what is told, and the text.
-use super::boomer;
 use boom_io::{MemSink, MemSource};
+use boom_top::boomer;
 use std::alloc::{AllocError, Global};
 use std::process::Abort;
 use std::test::Fail;

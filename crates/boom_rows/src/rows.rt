@@ -2,13 +2,56 @@
 //!
 //! A row has the words of a command, with `;` between them, and behind ` | ` the lines of the reply, with `~` behind each. `@` stands for the text of `main`
 //! of the class `Main`. The status of a reply that is no refusal is 0.
-use super::boomer;
 use boom_io::{MemSink, MemSource};
+use boom_top::boomer;
 use std::alloc::{AllocError, Global};
 use std::process::Abort;
 use std::test::Fail;
 
 const METHOD: &str = "<Main: void main(java.lang.String[])>";
+
+// A loop with an allocation: the machine, a free choice at `if` and at the root's array.
+const LOOP: (&str, &str) = (
+    "class A { }
+class Main {
+static void main(java.lang.String[]) {
+A x, y;
+x = new A;
+y = x;
+label1:
+if 0 == 1 goto label2;
+x = new A;
+goto label1;
+label2:
+return;
+}
+}
+",
+    "run;Main;7;- | run Main~steps 7~end running~at @ 3~local x @ 0 new A~local y @ 0 new A~
+run;Main;100;001 | run Main~steps 9~end ended~
+run;Main;100;1 | run Main~steps 3~end uncaught root 1 raise java.lang.NegativeArraySizeException~",
+);
+
+// The same with one class twice.
+const TWICE: (&str, &str) = (
+    "class A { }
+class A { }
+class Main {
+static void main(java.lang.String[]) {
+A x, y;
+x = new A;
+y = x;
+label1:
+if 0 == 1 goto label2;
+x = new A;
+goto label1;
+label2:
+return;
+}
+}
+",
+    "points-to;Main;@;5;x;100 | refused NotLinked DuplicateClass A~",
+);
 
 // Two callers of one method: what one passes isn't given to the other.
 const CALLS: (&str, &str) = (
@@ -61,6 +104,22 @@ static N make(N) { N p, q; p := @parameter0: N; q = new N; q.<N: N next> = p; if
 label1: return q; }
 static void main(java.lang.String[]) { N x; x = staticinvoke <Main: N make(N)>(null); return; } }",
     "points-to;Main;@;1;x;100 | points-to @ 1 x~site <Main: N make(N)> 1 new N~sites 1~demanded 5~",
+);
+
+// A method that calls itself with what it was given.
+const ITSELF: (&str, &str) = (
+    "class A { } class Main {
+static java.lang.Object f(java.lang.Object) { java.lang.Object p; p := @parameter0: java.lang.Object; if 0 == 1 goto label1;
+p = staticinvoke <Main: java.lang.Object f(java.lang.Object)>(p); label1: return p; }
+static void main(java.lang.String[]) { java.lang.Object x, y; x = new A; y = staticinvoke <Main: java.lang.Object f(java.lang.Object)>(x); return; } }",
+    "points-to;Main;@;2;y;100 | points-to @ 2 y~site @ 0 new A~sites 1~demanded 7~",
+);
+
+// A store of null into another box than the one that is read: it demands nothing.
+const NOTHING: (&str, &str) = (
+    "class Box { java.lang.Object v; } class Main { static void main(java.lang.String[]) { Box a, c; java.lang.Object x; a = new Box; c = new Box;
+c.<Box: java.lang.Object v> = null; x = a.<Box: java.lang.Object v>; return; } }",
+    "points-to;Main;@;4;x;100 | points-to @ 4 x~sites 0~demanded 5~",
 );
 
 // An exception that passes through a method, and those that a store and a throw raise.
@@ -225,7 +284,9 @@ fn check_rows(rt: &(impl Abort + AllocGlobal), rows: (&str, &str)) -> Result<(),
 
 #[test]
 fn answers_calls_and_fields(rt: HostRuntime) -> Result<(), Fail> {
-    for rows in [CALLS, BOXES, NAMES, STATICS, RECURSION, DISPATCH, HELLO] {
+    for rows in [
+        CALLS, BOXES, NAMES, STATICS, RECURSION, ITSELF, NOTHING, DISPATCH, HELLO,
+    ] {
         check_rows(&rt, rows)?;
     }
     Ok(())
@@ -243,6 +304,7 @@ fn answers_aliases(rt: HostRuntime) -> Result<(), Fail> {
 
 #[test]
 fn runs(rt: HostRuntime) -> Result<(), Fail> {
+    check_rows(&rt, LOOP)?;
     check_rows(&rt, NULL)?;
     check_rows(&rt, RUNS)
 }
@@ -250,4 +312,9 @@ fn runs(rt: HostRuntime) -> Result<(), Fail> {
 #[test]
 fn shows_the_demo(rt: HostRuntime) -> Result<(), Fail> {
     check_rows(&rt, DEMO)
+}
+
+#[test]
+fn refuses_a_class_that_comes_twice(rt: HostRuntime) -> Result<(), Fail> {
+    check_rows(&rt, TWICE)
 }

@@ -1,0 +1,9 @@
+//! Commands over whole programs through the top call, with the replies found by hand.
+#![tactic(auto)]
+
+#[cfg(test)]
+mod commands;
+#[cfg(test)]
+mod refusals;
+#[cfg(test)]
+mod rows;
