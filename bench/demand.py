@@ -15,7 +15,7 @@ import tempfile
 
 from proved import ASKED, INIT, build
 
-USES = 'demand_rows jim_ast link_rules link_indexes link_program link_sites spds_rules spds_nodes demand_walk demand_set indexmap anyhow'
+USES = 'linked_text jim_ast link_rules link_indexes link_program link_sites spds_rules spds_nodes demand_walk demand_set indexmap anyhow'
 
 PROGRAM = r'''//! Links a program from standard input with the prelude, and tells how long the demand of the local `x` at the end of `main` takes, and what Linux
 //! says of the process before and after it.
@@ -24,7 +24,7 @@ PROGRAM = r'''//! Links a program from standard input with the prelude, and tell
 ghost use Rattle.spds_rules.specs.Nodes.{IsNode};
 
 use anyhow::Result;
-use demand_rows::linked_of;
+use linked_text::linked_of;
 use demand_set::{Demand, demand};
 use link_program::Linked;
 use link_sites::Place;

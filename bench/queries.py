@@ -152,7 +152,9 @@ def program_to_run():
     """The program that BOOMER names, or that of ./boomer, which is built by a call without words."""
     if 'BOOMER' in os.environ:
         return os.environ['BOOMER']
-    subprocess.run([os.path.join(TOP, 'boomer')], stdin=subprocess.DEVNULL, stdout=subprocess.DEVNULL, check=False)
+    built = subprocess.run([os.path.join(TOP, 'boomer')], stdin=subprocess.DEVNULL, stdout=subprocess.DEVNULL, check=False)
+    if built.returncode != 1:
+        sys.exit('there is no program of these sources')
     return os.path.join(TOP, 'crates', 'boomer', 'out', 'boomer')
 
 

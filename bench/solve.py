@@ -14,7 +14,7 @@ import tempfile
 from proved import ASKED, build
 from queries import TABLES
 
-USES = ('demand_rows jim_ast class_tree link_rules link_laws link_indexes link_program link_sites spds_rules spds_laws spds_nodes demand_walk demand_set spds_cells weight_laws auto_table '
+USES = ('linked_text jim_ast class_tree link_rules link_laws link_indexes link_program link_sites spds_rules spds_laws spds_nodes demand_walk demand_set spds_cells weight_laws auto_table '
         'post_star call_side spds_tables spds_solve indexmap anyhow')
 
 PROGRAM = r'''//! Links a program from standard input with the prelude, and tells of a local at the end of `main` how long its query takes to be solved, and how much
@@ -25,7 +25,7 @@ ghost use Rattle.link_rules.specs.WellLinked.{IsWellLinked};
 ghost use Rattle.spds_rules.specs.Nodes.{IsNode};
 
 use anyhow::Result;
-use demand_rows::linked_of;
+use linked_text::linked_of;
 use demand_set::{Demand, demand};
 use link_program::Linked;
 use link_sites::Place;
