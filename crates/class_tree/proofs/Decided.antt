@@ -1,15 +1,16 @@
 -- Sub-classing and method look-up are decided, whatever the rows: a path goes through rows that are there, and these are finitely many.
-use Rattle.std.proofs.Common.{◌≡◌, ℕ, zero, suc, ◌<◌, ◌⊎◌, ◌++◌, ◌==◌, ◌&&◌, Option, Some, None, List, [], ◌∷◌, length, map, slice_get, refl, sym, ap, ◌∙◌, subst, inl, inr, arith, eqb-true}
+use Rattle.std.proofs.Common.{◌≡◌, ◌≢◌, ℕ, zero, suc, ◌<◌, ◌⊎◌, ◌++◌, ◌==◌, ◌&&◌, Bool, true, false, true≢false, Option, Some, None, List, [], ◌∷◌, length, map, slice_get, refl, sym, ap, ◌∙◌, subst, inl, inr, arith, eqb-true}
 use Rattle.std.specs.List.{Contains}
 use Rattle.std.proofs.lemmas.Bool.{and_parts, cases_eq}
 use Rattle.class_tree.specs.Bodies.{has_body}
 use Rattle.class_tree.specs.declared.rows.ClassRow.{ClassRow}
 use Rattle.class_tree.specs.declared.rows.MethodRow.{MethodRow}
-use Rattle.class_tree.specs.Lookups.{Resolve, Upwards, ended, found, further, own_body}
+use Rattle.class_tree.specs.Lookups.{IsDefault, IsHolder, IsLowestHolder, OnPath, Resolve, Upwards, ambiguous, by_default, ended, found, further, nowhere, on_path, own_body, own_row}
 use Rattle.class_tree.specs.Paths.{Path, here, step}
 use Rattle.class_tree.specs.Rows.{HasParent, Rows, Step, Sub}
 use Rattle.class_tree.proofs.LawFacts.{path_append, position_first}
 use Rattle.class_tree.proofs.Parents.{parent-below}
+use Rattle.class_tree.proofs.Selected.{owned_row}
 
 -- the fact holds, or it doesn't
 abbrev pub IsDecided : Type 0 → Type 0
@@ -177,18 +178,25 @@ sub_decided rows = path_decided (Step rows.classes rows.implements) froms all
     all a b (inl parent) = in_left (below (length rows.classes)) firsts a (in_below (length rows.classes) a (parent-below rows.classes a b parent))
     all a b (inr interface) = in_right (below (length rows.classes)) firsts a (first_in rows.implements a b interface)
 
--- ---- method look-up
+-- ---- look-up along the parents
 
 module _ (rows : Rows) (key : ℕ) where
   -- look-up goes on from the class to its parent
   abbrev Goes : ℕ → ℕ → Type 0
   Goes c p = (own_body rows.methods c key ≡ None) × HasParent rows.classes c p
 
+  goes_decided : (a b : ℕ) → IsDecided (Goes a b)
+  goes_decided a b = both_decided (none_decided (own_body rows.methods a key)) (parent_decided rows.classes a b)
+
+  way_up_decided : (a b : ℕ) → IsDecided (Path Goes a b)
+  way_up_decided a b =
+      path_decided Goes (below (length rows.classes)) (λ a b go. in_below (length rows.classes) a (parent-below rows.classes a b go.1)) goes_decided a b
+
   -- the row of a method of this class is found
   abbrev Finds : ℕ → ℕ → Type 0
   Finds c row = own_body rows.methods c key ≡ Some row
 
-  finds_up : {c d : ℕ} (row : ℕ) → Path Goes c d → Finds d row → Resolve rows c key (Some row)
+  finds_up : {c d : ℕ} (row : ℕ) → Path Goes c d → Finds d row → OnPath rows c key (Some row)
   finds_up row here e = found (sym e)
   finds_up row (step go rest) e = further (sym go.0) go.1 (finds_up row rest e)
 
@@ -206,21 +214,159 @@ module _ (rows : Rows) (key : ℕ) where
       let names = and_parts (m.0.class == d) (m.0.key == key) parts.0 in
       (m.0, m.1, eqb-true m.0.class d names.0)
 
-  pub resolve_decided : (class row : ℕ) → IsDecided (Resolve rows class key (Some row))
-  resolve_decided class row =
+  pub on_path_decided : (class row : ℕ) → IsDecided (OnPath rows class key (Some row))
+  on_path_decided class row =
       same_decided (λ h. finds_up row h.2.0 h.2.1) owned
       (there_decided (λ (m : MethodRow). Path Goes class m.class × Finds m.class row) each rows.methods row)
     where
-      goes_decided : (a b : ℕ) → IsDecided (Goes a b)
-      goes_decided a b = both_decided (none_decided (own_body rows.methods a key)) (parent_decided rows.classes a b)
-
       each : (m : MethodRow) → IsDecided (Path Goes class m.class × Finds m.class row)
-      each m = both_decided
-          (path_decided Goes (below (length rows.classes)) (λ a b go. in_below (length rows.classes) a (parent-below rows.classes a b go.1)) goes_decided class m.class)
-          (some_decided (own_body rows.methods m.class key) row)
+      each m = both_decided (way_up_decided class m.class) (some_decided (own_body rows.methods m.class key) row)
 
-      owned : Resolve rows class key (Some row) → (m : MethodRow) × (slice_get rows.methods row ≡ Some m) × (Path Goes class m.class × Finds m.class row)
+      owned : OnPath rows class key (Some row) → (m : MethodRow) × (slice_get rows.methods row ≡ Some m) × (Path Goes class m.class × Finds m.class row)
       owned r =
           let up = found_up r row refl in
           let m = owner up.0 row up.2 in
           (m.0, m.1, (subst (λ c. Path Goes class c) (sym m.2) up.1, subst (λ c. Finds c row) (sym m.2) up.2))
+
+  -- the class is the last on the way, and has none either
+  abbrev Ends : ℕ → ClassRow → Type 0
+  Ends c row = (own_body rows.methods c key ≡ None) × (row.parent ≡ None)
+
+  ends_up : {c d : ℕ} {row : ClassRow} → Path Goes c d → slice_get rows.classes d ≡ Some row → Ends d row → OnPath rows c key None
+  ends_up {row} here there end = ended (sym end.0) (record { row = row; there = there; names = end.1 })
+  ends_up (step go rest) there end = further (sym go.0) go.1 (ends_up rest there end)
+
+  ended_up : {c : ℕ} {o : Option ℕ} → Upwards rows.classes (λ c r. r ≡ own_body rows.methods c key) c o → o ≡ None
+      → (d : ℕ) × (row : ClassRow) × (slice_get rows.classes d ≡ Some row) × (Path Goes c d × Ends d row)
+  ended_up (found {c} {r} e) is = cc
+  ended_up (further {c} {p} none parent rest) is = let up = ended_up rest is in (up.0, up.1, up.2, (step (sym none, parent) up.3.0, up.3.1))
+  ended_up (ended {c} none no_parent) is = (c, no_parent.row, no_parent.there, (here, (sym none, no_parent.names)))
+
+  pub off_path_decided : (class : ℕ) → IsDecided (OnPath rows class key None)
+  off_path_decided class =
+      same_decided (λ h. ends_up h.3.0 h.2 h.3.1) (λ off. ended_up off refl)
+      (anywhere_decided (λ (d : ℕ) (row : ClassRow). Path Goes class d × Ends d row) each rows.classes)
+    where
+      each : (d : ℕ) (row : ClassRow) → IsDecided (Path Goes class d × Ends d row)
+      each d row = both_decided (way_up_decided class d) (both_decided (none_decided (own_body rows.methods d key)) (none_decided row.parent))
+
+-- ---- the selection of a method
+
+-- whether an option has a number
+has_some_decided : (o : Option ℕ) → IsDecided ((n : ℕ) × (o ≡ Some n))
+has_some_decided None = inr (λ h. let e = h.1 in cc)
+has_some_decided (Some n) = inl (n, refl)
+
+true_decided : (b : Bool) → IsDecided (b ≡ true)
+true_decided true = inl refl
+true_decided false = inr (λ e. true≢false (sym e))
+
+not_decided : {P : Type 0} → IsDecided P → IsDecided (P → ⊥)
+not_decided (inl p) = inr (λ n. n p)
+not_decided (inr n) = inl n
+
+-- a list has the fact nowhere, or somewhere
+everywhere_decided : {X : Type 0} (P : ℕ → X → Type 0) → ((i : ℕ) (x : X) → IsDecided (P i x)) → (xs : List X)
+    → IsDecided ((i : ℕ) (x : X) → slice_get xs i ≡ Some x → P i x → ⊥)
+everywhere_decided P decide xs = same_decided (λ n i x e p. n (i, x, e, p)) (λ all h. all h.0 h.1 h.2 h.3) (not_decided (anywhere_decided P decide xs))
+
+module _ (rows : Rows) (class key : ℕ) where
+  holder_decided : (b : ℕ) → IsDecided (IsHolder rows class key b)
+  holder_decided b =
+      same_decided
+      (λ h. record { reached = h.0; class_row = h.1.0; there = h.1.1; is_interface = h.1.2; row = h.2.0; holds = h.2.1 })
+      (λ h. (h.reached, (h.class_row, h.there, h.is_interface), (h.row, h.holds)))
+      (both_decided (sub_decided rows class b) (both_decided
+          (there_decided (λ (row : ClassRow). row.interface ≡ true) (λ row. true_decided row.interface) rows.classes b)
+          (has_some_decided (own_row rows.methods b key))))
+
+  -- a holder with this number is below another
+  abbrev IsLower : ℕ → ℕ → ClassRow → Type 0
+  IsLower b other row = IsHolder rows class key other × Sub rows other b × (other ≡ b → ⊥)
+
+  lowest_decided : (b : ℕ) → IsDecided (IsLowestHolder rows class key b)
+  lowest_decided b =
+      same_decided (λ h. record { holder = h.0; lowest = only h.1 }) (λ h. (h.holder, λ i row there lower. lower.2 (h.lowest i lower.0 lower.1)))
+      (both_decided (holder_decided b) (everywhere_decided (IsLower b) each rows.classes))
+    where
+      each : (i : ℕ) (row : ClassRow) → IsDecided (IsLower b i row)
+      each i row = both_decided (holder_decided i) (both_decided (sub_decided rows i b) (not_decided (cases_eq i b)))
+
+      only : ((i : ℕ) (row : ClassRow) → slice_get rows.classes i ≡ Some row → IsLower b i row → ⊥)
+          → (other : ℕ) → IsHolder rows class key other → Sub rows other b → other ≡ b
+      only none other holder lower = elim (cases_eq other b) [ inl e ↦ e | inr apart ↦ absurd (none other holder.class_row holder.there (holder, lower, apart)) ]
+
+  -- a method with a body that is the first of a lowest holder
+  abbrev IsFirstOfLowest : ℕ → MethodRow → Type 0
+  IsFirstOfLowest row m = (has_body m.body ≡ true) × IsLowestHolder rows class key m.class × (own_row rows.methods m.class key ≡ Some row)
+
+  first_decided : (row : ℕ) (m : MethodRow) → IsDecided (IsFirstOfLowest row m)
+  first_decided row m = both_decided (true_decided (has_body m.body)) (both_decided (lowest_decided m.class) (some_decided (own_row rows.methods m.class key) row))
+
+  first_default : (row : ℕ) (m : MethodRow) → slice_get rows.methods row ≡ Some m → IsFirstOfLowest row m → IsDefault rows class key row
+  first_default row m there h = record { interface = m.class; lowest = h.1; first = h.2; method = m; there = there; bodied = h.0 }
+
+  default_first : (row : ℕ) → IsDefault rows class key row → (m : MethodRow) × (slice_get rows.methods row ≡ Some m) × IsFirstOfLowest row m
+  default_first row d =
+      let m = owned_row rows d.interface key row d.first in
+      let same : m.0 ≡ d.method = cc (m.1, d.there) in
+      let in_interface : d.method.class ≡ d.interface = subst (λ (x : MethodRow). x.class ≡ d.interface) same m.2 in
+      (d.method, d.there, (d.bodied,
+          subst (IsLowestHolder rows class key) (sym in_interface) d.lowest,
+          subst (λ c. own_row rows.methods c key ≡ Some row) (sym in_interface) d.first))
+
+  pub default_decided : (row : ℕ) → IsDecided (IsDefault rows class key row)
+  default_decided row =
+      same_decided (λ h. first_default row h.0 h.1 h.2) (default_first row) (there_decided (IsFirstOfLowest row) (first_decided row) rows.methods row)
+
+  -- a default method other than the one of this row
+  abbrev IsOther : ℕ → ℕ → MethodRow → Type 0
+  IsOther row i m = IsFirstOfLowest i m × (i ≡ row → ⊥)
+
+  only_decided : (row : ℕ) → IsDecided ((other : ℕ) → IsDefault rows class key other → other ≡ row)
+  only_decided row =
+      same_decided only (λ one i m there other. other.1 (one i (first_default i m there other.0)))
+      (everywhere_decided (IsOther row) (λ i m. both_decided (first_decided i m) (not_decided (cases_eq i row))) rows.methods)
+    where
+      only : ((i : ℕ) (m : MethodRow) → slice_get rows.methods i ≡ Some m → IsOther row i m → ⊥) → (other : ℕ) → IsDefault rows class key other → other ≡ row
+      only none other d =
+          let m = default_first other d in
+          elim (cases_eq other row) [ inl e ↦ e | inr apart ↦ absurd (none other m.0 m.1 (m.2, apart)) ]
+
+  -- there is a default method, or there is none
+  pub some_default_decided : IsDecided ((row : ℕ) × IsDefault rows class key row)
+  some_default_decided =
+      same_decided (λ h. (h.0, first_default h.0 h.1 h.2 h.3)) (λ h. let m = default_first h.0 h.1 in (h.0, m.0, m.1, m.2))
+      (anywhere_decided IsFirstOfLowest first_decided rows.methods)
+
+  -- a default method is the only one, or there is another
+  pub only_or_other : (row : ℕ) → IsDefault rows class key row
+      → ((other : ℕ) → IsDefault rows class key other → other ≡ row) ⊎ ((other : ℕ) × IsDefault rows class key other × (other ≢ row))
+  only_or_other row d = elim (anywhere_decided (IsOther row) (λ i m. both_decided (first_decided i m) (not_decided (cases_eq i row))) rows.methods) [
+    | inl h ↦ inr (h.0, first_default h.0 h.1 h.2 h.3.0, h.3.1)
+    | inr none ↦ inl (λ other e. let m = default_first other e in
+          elim (cases_eq other row) [ inl same ↦ same | inr apart ↦ absurd (none (other, m.0, m.1, (m.2, apart))) ])
+  ]
+
+  pub resolve_decided : (row : ℕ) → IsDecided (Resolve rows class key (Some row))
+  resolve_decided row =
+      same_decided resolved parts
+      (either_decided (on_path_decided rows key class row) (both_decided (off_path_decided rows key class) (both_decided (default_decided row) (only_decided row))))
+    where
+      IsOnly : Type 0
+      IsOnly = OnPath rows class key None × IsDefault rows class key row × ((other : ℕ) → IsDefault rows class key other → other ≡ row)
+
+      resolved : OnPath rows class key (Some row) ⊎ IsOnly → Resolve rows class key (Some row)
+      resolved (inl p) = on_path p
+      resolved (inr d) = by_default d.0 d.1 d.2
+
+      parts_of : (r : Option ℕ) → Resolve rows class key r → r ≡ Some row → OnPath rows class key (Some row) ⊎ IsOnly
+      parts_of r (on_path {row = a} p) e = let same : a ≡ row = cc in inl (subst (λ x. OnPath rows class key (Some x)) same p)
+      parts_of r (by_default {row = a} off d only) e =
+          let same : a ≡ row = cc in
+          inr (off, subst (IsDefault rows class key) same d, subst (λ x. (other : ℕ) → IsDefault rows class key other → other ≡ x) same only)
+      parts_of r (nowhere off none) e = cc
+      parts_of r (ambiguous two) e = cc
+
+      parts : Resolve rows class key (Some row) → OnPath rows class key (Some row) ⊎ IsOnly
+      parts p = parts_of (Some row) p refl

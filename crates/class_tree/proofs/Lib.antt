@@ -13,4 +13,5 @@ pub mod OrderFacts
 pub mod TreeFacts
 pub mod Building
 pub mod LawFacts
+pub mod Selected
 pub mod Decided

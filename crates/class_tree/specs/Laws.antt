@@ -3,7 +3,7 @@ use Rattle.std.specs.Prelude.{◌≡◌, ℕ, true, Option, Some, slice_get}
 use Rattle.class_tree.specs.Bodies.{has_body}
 use Rattle.class_tree.specs.declared.rows.MethodRow.{MethodRow}
 use Rattle.class_tree.specs.declared.rows.FieldRow.{FieldRow}
-use Rattle.class_tree.specs.Lookups.{OnPath, FieldOf}
+use Rattle.class_tree.specs.Lookups.{OnPath, Resolve, FieldOf}
 use Rattle.class_tree.specs.Paths.{Path}
 use Rattle.class_tree.specs.Rows.{Rows, HasParent, Sub}
 
@@ -30,6 +30,22 @@ PathFindsMethods = (rows : Rows) (class key row : ℕ) → OnPath rows class key
 -- and gives one answer
 abbrev pub PathGivesOneAnswer : Type 0
 PathGivesOneAnswer = (rows : Rows) (class key : ℕ) (r s : Option ℕ) → OnPath rows class key r → OnPath rows class key s → r ≡ s
+
+-- the row is that of a method with this key and a body, in a class or an interface that this one is below
+pub record IsMethodOver (rows : Rows) (class key row : ℕ) : Type 0 where
+  pub method : MethodRow
+  pub there : slice_get rows.methods row ≡ Some method
+  pub has_key : method.key ≡ key
+  pub bodied : has_body method.body ≡ true
+  pub above : Sub rows class method.class
+
+-- the method that a call on an object runs is such a row
+abbrev pub SelectionFindsMethods : Type 0
+SelectionFindsMethods = (rows : Rows) (class key row : ℕ) → Resolve rows class key (Some row) → IsMethodOver rows class key row
+
+-- and there is one answer
+abbrev pub SelectionGivesOneAnswer : Type 0
+SelectionGivesOneAnswer = (rows : Rows) (class key : ℕ) (r s : Option ℕ) → Resolve rows class key r → Resolve rows class key s → r ≡ s
 
 -- the row is that of a field with this key, in a class that this one is below
 pub record IsFieldAbove (rows : Rows) (class key row : ℕ) : Type 0 where

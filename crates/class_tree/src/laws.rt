@@ -1,4 +1,4 @@
-ghost use Rattle.class_tree.specs.Laws.{LookUpFindsFields, LookUpGivesOneAnswer, PathFindsMethods, PathGivesOneAnswer, SubIsReflexive, SubIsTransitive};
+ghost use Rattle.class_tree.specs.Laws.{LookUpFindsFields, LookUpGivesOneAnswer, PathFindsMethods, PathGivesOneAnswer, SelectionFindsMethods, SelectionGivesOneAnswer, SubIsReflexive, SubIsTransitive};
 
 /// Sub-classing is reflexive and transitive.
 pub fn sub_is_an_order()
@@ -11,6 +11,13 @@ pub fn sub_is_an_order()
 pub fn methods_are_found_above()
     ensures found { PathFindsMethods }
     ensures one { PathGivesOneAnswer }
+{}
+
+/// The method that a call on an object runs has the key and a body, and stands in a class or an
+/// interface that the object's class is below. No two answers are right.
+pub fn methods_are_selected_above()
+    ensures found { SelectionFindsMethods }
+    ensures one { SelectionGivesOneAnswer }
 {}
 
 /// A field that is found has the key, and stands in a class that the first one is below. No two

@@ -17,7 +17,7 @@ mod steps;
 mod tree;
 mod unknown;
 
-pub use laws::{fields_are_found_above, methods_are_found_above, sub_is_an_order};
+pub use laws::{fields_are_found_above, methods_are_found_above, methods_are_selected_above, sub_is_an_order};
 pub use rows::{BodyKind, ClassRow, FieldRow, MethodRow, TreeError};
 pub use tree::{Tree, build};
 

@@ -7,7 +7,8 @@ pub enum BodyKind {
     Plain,
     /// Code that isn't given. A look-up finds such a method.
     Native,
-    /// Nothing, as for an abstract method. A look-up goes on past such a method.
+    /// Nothing, as for an abstract method. A look-up along parents goes on past such a method; in an
+    /// interface it hides what the interfaces above have.
     Missing,
 }
 
@@ -32,7 +33,8 @@ impl BodyKind {
 pub struct ClassRow {
     /// The number of the parent.
     pub parent: Option<u32>,
-    /// Whether it is an interface. No look-up depends on it: the rows alone are followed.
+    /// Whether it is an interface, which default methods alone may come from. Look-ups along parents,
+    /// and of fields, don't depend on it.
     pub interface: bool,
 }
 

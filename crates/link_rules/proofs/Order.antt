@@ -12,7 +12,7 @@ rules = rule.DuplicateClass
     ∷ rule.DuplicateClass
     ∷ rule.UnknownParent
     ∷ rule.CyclicClass
-    ∷ rule.DefaultMethod
+    ∷ rule.NoEntry
     ∷ rule.NoEntry
     ∷ rule.DuplicateLocal
     ∷ rule.DuplicateLabel
@@ -31,6 +31,7 @@ rules = rule.DuplicateClass
     ∷ rule.UndeclaredCallee
     ∷ rule.BadArguments
     ∷ rule.NativeCallee
+    ∷ rule.AmbiguousDefault
     ∷ []
 
 -- the rule that has a rule's number is it
@@ -38,7 +39,6 @@ rule_of_number : (k : LinkKind) → get_or rules (number_of k) rule.NoEntry ≡ 
 rule_of_number rule.DuplicateClass = refl
 rule_of_number rule.UnknownParent = refl
 rule_of_number rule.CyclicClass = refl
-rule_of_number rule.DefaultMethod = refl
 rule_of_number rule.NoEntry = refl
 rule_of_number rule.DuplicateLocal = refl
 rule_of_number rule.DuplicateLabel = refl
@@ -57,6 +57,7 @@ rule_of_number rule.AbstractNew = refl
 rule_of_number rule.UndeclaredCallee = refl
 rule_of_number rule.BadArguments = refl
 rule_of_number rule.NativeCallee = refl
+rule_of_number rule.AmbiguousDefault = refl
 
 number_of-one : (j k : LinkKind) → number_of j ≡ number_of k → j ≡ k
 number_of-one j k e = sym (rule_of_number j) ∙ ap (λ n. get_or rules n rule.NoEntry) e ∙ rule_of_number k

@@ -2,8 +2,9 @@
 use Rattle.std.proofs.Common.{◌≡◌, ℕ, zero, suc, ◌<◌, ◌⊎◌, Some, List, [], ◌∷◌, ◌+◌, refl, sym, subst, ◌∙◌, slice_get, inl, inr, arith}
 use Rattle.std.specs.Prelude.{AllPairs, ◌↔◌}
 use Rattle.std.proofs.lemmas.Option.{get_or_from_slice_get}
-use Rattle.class_tree.specs.Lookups.{Resolve}
+use Rattle.class_tree.specs.Lookups.{OnPath, Resolve}
 use Rattle.class_tree.proofs.LawFacts.{path_one}
+use Rattle.class_tree.proofs.Selected.{selection_one}
 use Rattle.jim_ast.specs.Lists.{Has, IsApart}
 use Rattle.jim_ast.proofs.Places.{slice_get-below, slice_get-there}
 use Rattle.jim_ast.specs.declared.syntax.Mode.TheVariants.{Special, Virtual, Interface, Static}
@@ -58,6 +59,9 @@ module _ (R : ℕ → ℕ → Type 0) where
       (behind_first y ys q) in
       cc
 
+some_one : (a b : ℕ) → Some a ≡ Some b → a ≡ b
+some_one a b e = cc
+
 module _ (w : World) (class key : ℕ) where
   -- two methods don't come before each other where a class selects one: each class that selects it would stand behind another
   descends : (n a b receiver : ℕ) → ComesBefore w class key a b → ComesBefore w class key b a → receiver < n → Selects w class key receiver b → ⊥
@@ -77,27 +81,37 @@ module _ (w : World) (class key : ℕ) where
       (λ a h. (each a).1 ((each_too a).0 h))
       p q
 
-  -- rows of which each is found from the class itself are at most one
-  no_pair : (rows : List ℕ) → ((row : ℕ) → Has rows row → Resolve w.rows class key (Some row)) → IsApart rows → AllPairs (λ a b. ⊥) rows
-  no_pair rows found apart i j d before below =
-      let later = slice_get-there rows j below in
-      let earlier = slice_get-there rows i (omega arith) in
-      let same = path_one w.rows class key (Some earlier.0) (Some later.0) (found earlier.0 (i, earlier.1)) (found later.0 (j, later.1)) in
-      let here : slice_get rows j ≡ Some earlier.0 = cc (later.1, same) in
-      omega (arith, apart i j earlier.0 earlier.1 here)
+  module _ (Found : ℕ → Type 0) (one_found : (a b : ℕ) → Found a → Found b → a ≡ b) where
+    -- rows of which each is found where one alone may be are at most one
+    no_pair : (rows : List ℕ) → ((row : ℕ) → Has rows row → Found row) → IsApart rows → AllPairs (λ a b. ⊥) rows
+    no_pair rows found apart i j d before below =
+        let later = slice_get-there rows j below in
+        let earlier = slice_get-there rows i (omega arith) in
+        let same = one_found earlier.0 later.0 (found earlier.0 (i, earlier.1)) (found later.0 (j, later.1)) in
+        let here : slice_get rows j ≡ Some earlier.0 = cc (later.1, same) in
+        omega (arith, apart i j earlier.0 earlier.1 here)
 
-  alone : (one two : List ℕ) → ((row : ℕ) → Has one row ↔ Resolve w.rows class key (Some row)) → ((row : ℕ) → Has two row ↔ Resolve w.rows class key (Some row))
+    alone : (one two : List ℕ) → ((row : ℕ) → Has one row ↔ Found row) → ((row : ℕ) → Has two row ↔ Found row)
+        → IsApart one → IsApart two → one ≡ two
+    alone one two each each_too p q =
+        ordered_one (λ a b. ⊥) one two
+        (λ a b h k before after. before)
+        (λ a h. (each_too a).1 ((each a).0 h))
+        (λ a h. (each a).1 ((each_too a).0 h))
+        (no_pair one (λ row. (each row).0) p)
+        (no_pair two (λ row. (each_too row).0) q)
+
+  -- rows that look-up along the parents finds, and rows that selection finds
+  path_alone : (one two : List ℕ) → ((row : ℕ) → Has one row ↔ OnPath w.rows class key (Some row)) → ((row : ℕ) → Has two row ↔ OnPath w.rows class key (Some row))
       → IsApart one → IsApart two → one ≡ two
-  alone one two each each_too p q =
-      ordered_one (λ a b. ⊥) one two
-      (λ a b h k before after. before)
-      (λ a h. (each_too a).1 ((each a).0 h))
-      (λ a h. (each a).1 ((each_too a).0 h))
-      (no_pair one (λ row. (each row).0) p)
-      (no_pair two (λ row. (each_too row).0) q)
+  path_alone = alone (λ row. OnPath w.rows class key (Some row)) (λ a b p q. some_one a b (path_one w.rows class key (Some a) (Some b) p q))
+
+  selected_alone : (one two : List ℕ) → ((row : ℕ) → Has one row ↔ Resolve w.rows class key (Some row)) → ((row : ℕ) → Has two row ↔ Resolve w.rows class key (Some row))
+      → IsApart one → IsApart two → one ≡ two
+  selected_alone = alone (λ row. Resolve w.rows class key (Some row)) (λ a b p q. some_one a b (selection_one w.rows class key (Some a) (Some b) p q))
 
 pub order_one : HasOneOrder
-order_one w Static class key one two p q = alone w class key one two p.each q.each p.apart q.apart
-order_one w Special class key one two p q = alone w class key one two p.each q.each p.apart q.apart
+order_one w Static class key one two p q = path_alone w class key one two p.each q.each p.apart q.apart
+order_one w Special class key one two p q = selected_alone w class key one two p.each q.each p.apart q.apart
 order_one w Virtual class key one two p q = by_receivers w class key one two p.each q.each p.ordered q.ordered
 order_one w Interface class key one two p q = by_receivers w class key one two p.each q.each p.ordered q.ordered

@@ -2,7 +2,7 @@
 -- analysed ends, or where a name has no meaning.
 use Rattle.std.specs.Prelude.{◌≡◌, ◌≢◌, ℕ, ◌<◌, ◌≤◌, ◌⊎◌, List, [], Option, Some, None, true, IsTrue, codes, length, nat_eq, slice_get}
 use Rattle.std.specs.List.{starts_with}
-use Rattle.class_tree.specs.Lookups.{Declared, FieldOf, Resolve}
+use Rattle.class_tree.specs.Lookups.{Declared, FieldOf, IsAmbiguous, OnPath, Resolve}
 use Rattle.class_tree.specs.Rows.{Sub}
 use Rattle.class_tree.specs.declared.rows.BodyKind.TheVariants.{Native}
 use Rattle.jim_ast.specs.Lists.{Has}
@@ -26,7 +26,7 @@ use Rattle.link_rules.specs.Keys.{IsFieldKeyNumber, accessed_key}
 use Rattle.link_rules.specs.Lists.{IsRepeated}
 use Rattle.link_rules.specs.Names.{text_of}
 use Rattle.link_rules.specs.Statements.{Access, HasBody, PlainCallAt, StmtAt, access_of, call_of, locals_of, labels_of, new_of}
-use Rattle.link_rules.specs.Targets.{CallAt, Calls}
+use Rattle.link_rules.specs.Targets.{CallAt, Calls, IsInstantiableAt}
 use Rattle.link_rules.specs.World.{World, body_kind}
 
 -- two locals have one name
@@ -197,16 +197,33 @@ pub record MakesAbstract (w : World) (m : DeclaredMethod) (index : ℕ) : Type 0
   pub named : IsNamed w.classes name number
   pub not_concrete : (named.class.class.interface ≡ true) ⊎ (named.class.class.is_abstract ≡ true)
 
--- no method is found, or in the modes that look from the object's class no class above the named one declares one
+-- no method is found, several defaults apart, or in the modes that look from the object's class no class above the named one declares one
 abbrev pub FindsNone : World → Mode → ℕ → ℕ → Type 0
-FindsNone w Static class key = Resolve w.rows class key None
-FindsNone w Special class key = Resolve w.rows class key None
+FindsNone w Static class key = OnPath w.rows class key None
+FindsNone w Special class key = Resolve w.rows class key None × (IsAmbiguous w.rows class key → ⊥)
 FindsNone w Virtual class key = Declared w.rows class key → ⊥
 FindsNone w Interface class key = Declared w.rows class key → ⊥
 
 -- a method is called that isn't declared
 abbrev pub CallsUndeclared : World → DeclaredMethod → ℕ → Type 0
 CallsUndeclared w m index = (names : CallAt w m index) × FindsNone w names.at.call.mode names.class names.key
+
+-- an object of this class may be what the call is made on, and several default methods are there for it
+pub record FindsSeveralAt (w : World) (class key receiver : ℕ) : Type 0 where
+  pub instantiable : IsInstantiableAt w receiver
+  pub below : Sub w.rows receiver class
+  pub several : IsAmbiguous w.rows receiver key
+
+-- several default methods are there, of which none is below the others
+abbrev pub FindsSeveral : World → Mode → ℕ → ℕ → Type 0
+FindsSeveral w Static class key = ⊥
+FindsSeveral w Special class key = IsAmbiguous w.rows class key
+FindsSeveral w Virtual class key = (receiver : ℕ) × FindsSeveralAt w class key receiver
+FindsSeveral w Interface class key = (receiver : ℕ) × FindsSeveralAt w class key receiver
+
+-- a call for which several default methods are there
+abbrev pub CallsAmbiguous : World → DeclaredMethod → ℕ → Type 0
+CallsAmbiguous w m index = (names : CallAt w m index) × FindsSeveral w names.at.call.mode names.class names.key
 
 -- a call has more or fewer arguments than the method that it names has parameters
 abbrev pub HasWrongArguments : DeclaredMethod → ℕ → Type 0

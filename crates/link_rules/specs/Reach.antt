@@ -9,7 +9,7 @@ use Rattle.jim_ast.specs.declared.syntax.Stmt.TheVariants as stmt
 use Rattle.link_rules.specs.declared.refusal.LinkKind.{LinkKind}
 use Rattle.link_rules.specs.declared.refusal.LinkKind.TheVariants as rule
 use Rattle.link_rules.specs.Classes.{DeclaredMethod, IsNamed, methods_of}
-use Rattle.link_rules.specs.Faults.{AccessAt, CallsDynamically, CallsIn, CallsNative, CallsReflection, CallsUndeclared, FindsNoField, HandlesAtEnd, HasLocalTwice, HasWrongArguments, IsEmpty, JumpsNowhere, MakesObject, MakesAbstract, MakesNested, NamesNoClass, NamesNoLocal, NamesNoParam, NamesNoReceiver, RepeatsLabel, RunsOff, TakesNoResult, TrapsNoClass, TrapsNowhere, UsesThreads}
+use Rattle.link_rules.specs.Faults.{AccessAt, CallsAmbiguous, CallsDynamically, CallsIn, CallsNative, CallsReflection, CallsUndeclared, FindsNoField, HandlesAtEnd, HasLocalTwice, HasWrongArguments, IsEmpty, JumpsNowhere, MakesObject, MakesAbstract, MakesNested, NamesNoClass, NamesNoLocal, NamesNoParam, NamesNoReceiver, RepeatsLabel, RunsOff, TakesNoResult, TrapsNoClass, TrapsNowhere, UsesThreads}
 use Rattle.link_rules.specs.Keys.{IsMethodKeyNumber, MethodKey}
 use Rattle.link_rules.specs.Lists.{AreIncreasing}
 use Rattle.link_rules.specs.Names.{text_of}
@@ -37,6 +37,7 @@ RefusesAt w m index rule.AbstractNew = MakesAbstract w m index
 RefusesAt w m index rule.UndeclaredCallee = CallsUndeclared w m index
 RefusesAt w m index rule.BadArguments = HasWrongArguments m index ⊎ TakesNoResult m index
 RefusesAt w m index rule.NativeCallee = CallsNative w m index
+RefusesAt w m index rule.AmbiguousDefault = CallsAmbiguous w m index
 RefusesAt w m index _ = ⊥
 
 -- the rules that take a call its targets where they refuse it
@@ -49,6 +50,7 @@ TakesTargets rule.UnknownClass = Unit {0}
 TakesTargets rule.UndeclaredCallee = Unit {0}
 TakesTargets rule.BadArguments = Unit {0}
 TakesTargets rule.NativeCallee = Unit {0}
+TakesTargets rule.AmbiguousDefault = Unit {0}
 TakesTargets _ = ⊥
 
 -- the call at the index has this target: it may run the method, and no such rule refuses it. What a call may run has a body or is native, so

@@ -1,13 +1,12 @@
 -- Which rules refuse a program, which of them is first, and what is told of it.
-use Rattle.std.specs.Prelude.{◌≡◌, ℕ, ◌<◌, ◌⊎◌, List, [], Some, true, false, codes, slice_get}
+use Rattle.std.specs.Prelude.{◌≡◌, ℕ, ◌<◌, ◌⊎◌, List, [], Some, codes, slice_get}
 use Rattle.class_tree.specs.Rows.{IsOwnAncestor, NamesUnknown}
-use Rattle.class_tree.specs.declared.rows.BodyKind.TheVariants.{Plain}
 use Rattle.link_rules.specs.declared.refusal.LinkKind.{LinkKind}
 use Rattle.link_rules.specs.declared.refusal.LinkKind.TheVariants as rule
 use Rattle.link_rules.specs.Classes.{DeclaredClass, DeclaredMethod, IsNamed, class_name, method_text, methods_of}
 use Rattle.link_rules.specs.Reach.{AreInitialized, DeclaresBody, Reached, RefusesAt}
 use Rattle.link_rules.specs.Root.{main_key, root_number, root_of}
-use Rattle.link_rules.specs.World.{World, body_kind}
+use Rattle.link_rules.specs.World.{World}
 
 -- the class has the name of an earlier one. A class of the prelude never has
 pub record HasEarlierName (w : World) (number : ℕ) : Type 0 where
@@ -17,28 +16,17 @@ pub record HasEarlierName (w : World) (number : ℕ) : Type 0 where
   pub before : earlier < number
   pub same : IsNamed w.classes (class_name class) earlier
 
--- the method isn't static, has a body, and stands in an interface
-pub record IsDefaultMethod (w : World) (number : ℕ) : Type 0 where
-  pub method : DeclaredMethod
-  pub there : slice_get (methods_of w.classes) number ≡ Some method
-  pub class : DeclaredClass
-  pub in_class : slice_get w.classes method.class ≡ Some class
-  pub interface : class.class.interface ≡ true
-  pub plain : body_kind method ≡ Plain
-  pub not_static : method.decl.is_static ≡ false
-
 -- the method is `static void main(java.lang.String[])`, has a body, and stands in the class to begin with
 pub record IsEntry (w : World) (row : ℕ) : Type 0 where
   pub class : ℕ
   pub named : IsNamed w.classes w.entry class
   pub declares : DeclaresBody w class main_key row
 
--- the rules that refuse a program as a whole, each at the number of a class or of a method
+-- the rules that refuse a program as a whole, each at the number of a class
 abbrev pub RefusesWhole : World → LinkKind → ℕ → Type 0
 RefusesWhole w rule.DuplicateClass number = HasEarlierName w number
 RefusesWhole w rule.UnknownParent number = NamesUnknown w.rows.classes w.rows.implements number
 RefusesWhole w rule.CyclicClass number = IsOwnAncestor w.rows.classes w.rows.implements number
-RefusesWhole w rule.DefaultMethod number = IsDefaultMethod w number
 RefusesWhole w rule.NoEntry number = (number ≡ 0) × ((row : ℕ) → IsEntry w row → ⊥)
 RefusesWhole w _ number = ⊥
 
@@ -57,12 +45,11 @@ abbrev pub Refuses : World → Refusal → Type 0
 Refuses w (whole kind number) = RefusesWhole w kind number
 Refuses w (within number index kind) = (m : DeclaredMethod) × IsReachedAs w number m × RefusesAt w m index kind
 
--- the numbers of the rules
+-- the numbers of the rules. 4 was that of a rule that is no more, and isn't used again
 abbrev pub number_of : LinkKind → ℕ
 number_of rule.DuplicateClass = 1
 number_of rule.UnknownParent = 2
 number_of rule.CyclicClass = 3
-number_of rule.DefaultMethod = 4
 number_of rule.NoEntry = 5
 number_of rule.DuplicateLocal = 6
 number_of rule.DuplicateLabel = 7
@@ -81,6 +68,7 @@ number_of rule.AbstractNew = 19
 number_of rule.UndeclaredCallee = 20
 number_of rule.BadArguments = 21
 number_of rule.NativeCallee = 22
+number_of rule.AmbiguousDefault = 23
 
 -- the first two numbers are smaller, or the same and the second two are
 abbrev pub IsLexBelow : ℕ → Type 0 → ℕ → Type 0
@@ -108,9 +96,8 @@ abbrev pub IsTextOf : World → ℕ → List ℕ → Type 0
 IsTextOf w number text = ((m : DeclaredMethod) × (slice_get (methods_of w.classes) number ≡ Some m) × (text ≡ method_text m))
     ⊎ ((number ≡ root_number w) × (text ≡ codes "root"))
 
--- what is told of a refusal of the program: the class of the first three rules, the method of the fourth
+-- what is told of a refusal of the program: the class, or of the class to begin with nothing
 abbrev pub IsPlaceOf : World → LinkKind → ℕ → List ℕ → Type 0
-IsPlaceOf w rule.DefaultMethod number place = IsTextOf w number place
 IsPlaceOf w rule.NoEntry number place = place ≡ []
 IsPlaceOf w _ number place = IsNamed w.classes place number
 

@@ -1,6 +1,6 @@
 -- Which methods a call may run: class hierarchy analysis (Dean, Grove and Chambers 1995), over the classes of which objects are made.
 use Rattle.std.specs.Prelude.{◌≡◌, ℕ, ◌<◌, ◌⊎◌, ◌↔◌, List, [], ◌∷◌, Some, false, codes, slice_get, AllPairs}
-use Rattle.class_tree.specs.Lookups.{Resolve}
+use Rattle.class_tree.specs.Lookups.{OnPath, Resolve}
 use Rattle.class_tree.specs.Rows.{Sub}
 use Rattle.jim_ast.specs.Lists.{Has, IsApart}
 use Rattle.jim_ast.specs.declared.syntax.Mode.{Mode}
@@ -36,10 +36,11 @@ pub record Selects (w : World) (class key receiver row : ℕ) : Type 0 where
   pub below : Sub w.rows receiver class
   pub finds : Resolve w.rows receiver key (Some row)
 
--- what a call of static or special mode runs is found from the class that it names, in the other modes from the class of the object. That
--- special mode begins at the named class is this project's own rule: the Java Virtual Machine may begin at the calling class's parent
+-- what a call of static or special mode runs is found from the class that it names, in the other modes from the class of the object. A static call
+-- runs no default method. That special mode begins at the named class is this project's own rule: the Java Virtual Machine may begin at the calling
+-- class's parent
 abbrev pub MayRun : World → Mode → ℕ → ℕ → ℕ → Type 0
-MayRun w Static class key row = Resolve w.rows class key (Some row)
+MayRun w Static class key row = OnPath w.rows class key (Some row)
 MayRun w Special class key row = Resolve w.rows class key (Some row)
 MayRun w Virtual class key row = (receiver : ℕ) × Selects w class key receiver row
 MayRun w Interface class key row = (receiver : ℕ) × Selects w class key receiver row

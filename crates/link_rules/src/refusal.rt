@@ -5,7 +5,7 @@ ghost use Rattle.link_rules.specs.Refusals.{number_of};
 use jim_ast::Name;
 use thiserror::Error;
 
-/// The rules that refuse a program, by their numbers. The first five are of the program, the others of the code of a method that a run may
+/// The rules that refuse a program, by their numbers. The first four are of the program, the others of the code of a method that a run may
 /// reach.
 #[derive(Clone, Copy, Debug, PartialEq, Eq)]
 pub enum LinkKind {
@@ -15,8 +15,6 @@ pub enum LinkKind {
     UnknownParent = 2,
     /// A class is its own ancestor.
     CyclicClass = 3,
-    /// An interface has a method with a body that isn't static.
-    DefaultMethod = 4,
     /// The class to begin with isn't there, or doesn't itself declare a `static void main(java.lang.String[])` with a body.
     NoEntry = 5,
     /// Two locals have one name.
@@ -47,12 +45,14 @@ pub enum LinkKind {
     UnknownField = 18,
     /// An interface or an abstract class is made.
     AbstractNew = 19,
-    /// No method is found for a static or special call, or no class above the named one, nor itself, declares the method of another call.
+    /// No method is found for a static or special call, or neither the named class nor one above it declares the method of another call.
     UndeclaredCallee = 20,
     /// A call has more or fewer arguments than parameters, or takes a result where there is none.
     BadArguments = 21,
     /// A native method is called.
     NativeCallee = 22,
+    /// A class on which a call may look its method up has several default methods, of which none is the most specific.
+    AmbiguousDefault = 23,
 }
 
 impl LinkKind {
@@ -68,7 +68,7 @@ impl LinkKind {
 #[derive(Debug, Drop, Error)]
 pub enum LinkError {
     /// A rule refuses the program: the class, the method or, of `NoEntry`, nothing, and the index of the statement. The index is 0 for the first
-    /// five rules, and the number of statements for what is said of a trap.
+    /// four rules, and the number of statements for what is said of a trap.
     #[error("the program can't be linked")]
     Refused {
         kind: LinkKind,
