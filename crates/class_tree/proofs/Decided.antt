@@ -271,22 +271,32 @@ everywhere_decided : {X : Type 0} (P : ℕ → X → Type 0) → ((i : ℕ) (x :
 everywhere_decided P decide xs = same_decided (λ n i x e p. n (i, x, e, p)) (λ all h. all h.0 h.1 h.2 h.3) (not_decided (anywhere_decided P decide xs))
 
 module _ (rows : Rows) (class key : ℕ) where
+  -- the parts of a holder
+  abbrev HolderParts : ℕ → Type 0
+  HolderParts b = Sub rows class b × (((row : ClassRow) × (slice_get rows.classes b ≡ Some row) × (row.interface ≡ true))
+      × ((row : ℕ) × (own_row rows.methods b key ≡ Some row)))
+
+  holder_of : (b : ℕ) → HolderParts b → IsHolder rows class key b
+  holder_of b (reached, ((class_row, there, interface), (row, holds))) =
+      record { reached = reached; class_row = class_row; there = there; is_interface = interface; row = row; holds = holds }
+
+  parts_of_holder : (b : ℕ) → IsHolder rows class key b → HolderParts b
+  parts_of_holder b h = (h.reached, ((h.class_row, h.there, h.is_interface), (h.row, h.holds)))
+
   holder_decided : (b : ℕ) → IsDecided (IsHolder rows class key b)
   holder_decided b =
-      same_decided
-      (λ h. record { reached = h.0; class_row = h.1.0; there = h.1.1; is_interface = h.1.2; row = h.2.0; holds = h.2.1 })
-      (λ h. (h.reached, (h.class_row, h.there, h.is_interface), (h.row, h.holds)))
+      same_decided (holder_of b) (parts_of_holder b)
       (both_decided (sub_decided rows class b) (both_decided
           (there_decided (λ (row : ClassRow). row.interface ≡ true) (λ row. true_decided row.interface) rows.classes b)
           (has_some_decided (own_row rows.methods b key))))
 
   -- a holder with this number is below another
   abbrev IsLower : ℕ → ℕ → ClassRow → Type 0
-  IsLower b other row = IsHolder rows class key other × Sub rows other b × (other ≡ b → ⊥)
+  IsLower b other row = IsHolder rows class key other × (Sub rows other b × (other ≡ b → ⊥))
 
   lowest_decided : (b : ℕ) → IsDecided (IsLowestHolder rows class key b)
   lowest_decided b =
-      same_decided (λ h. record { holder = h.0; lowest = only h.1 }) (λ h. (h.holder, λ i row there lower. lower.2 (h.lowest i lower.0 lower.1)))
+      same_decided (λ h. record { holder = h.0; lowest = only h.1 }) (λ h. (h.holder, λ i row there lower. lower.1.1 (h.lowest i lower.0 lower.1.0)))
       (both_decided (holder_decided b) (everywhere_decided (IsLower b) each rows.classes))
     where
       each : (i : ℕ) (row : ClassRow) → IsDecided (IsLower b i row)
@@ -294,26 +304,26 @@ module _ (rows : Rows) (class key : ℕ) where
 
       only : ((i : ℕ) (row : ClassRow) → slice_get rows.classes i ≡ Some row → IsLower b i row → ⊥)
           → (other : ℕ) → IsHolder rows class key other → Sub rows other b → other ≡ b
-      only none other holder lower = elim (cases_eq other b) [ inl e ↦ e | inr apart ↦ absurd (none other holder.class_row holder.there (holder, lower, apart)) ]
+      only none other holder lower = elim (cases_eq other b) [ inl e ↦ e | inr apart ↦ absurd (none other holder.class_row holder.there (holder, (lower, apart))) ]
 
   -- a method with a body that is the first of a lowest holder
   abbrev IsFirstOfLowest : ℕ → MethodRow → Type 0
-  IsFirstOfLowest row m = (has_body m.body ≡ true) × IsLowestHolder rows class key m.class × (own_row rows.methods m.class key ≡ Some row)
+  IsFirstOfLowest row m = (has_body m.body ≡ true) × (IsLowestHolder rows class key m.class × (own_row rows.methods m.class key ≡ Some row))
 
   first_decided : (row : ℕ) (m : MethodRow) → IsDecided (IsFirstOfLowest row m)
   first_decided row m = both_decided (true_decided (has_body m.body)) (both_decided (lowest_decided m.class) (some_decided (own_row rows.methods m.class key) row))
 
   first_default : (row : ℕ) (m : MethodRow) → slice_get rows.methods row ≡ Some m → IsFirstOfLowest row m → IsDefault rows class key row
-  first_default row m there h = record { interface = m.class; lowest = h.1; first = h.2; method = m; there = there; bodied = h.0 }
+  first_default row m there h = record { interface = m.class; lowest = h.1.0; first = h.1.1; method = m; there = there; bodied = h.0 }
 
   default_first : (row : ℕ) → IsDefault rows class key row → (m : MethodRow) × (slice_get rows.methods row ≡ Some m) × IsFirstOfLowest row m
   default_first row d =
       let m = owned_row rows d.interface key row d.first in
       let same : m.0 ≡ d.method = cc (m.1, d.there) in
       let in_interface : d.method.class ≡ d.interface = subst (λ (x : MethodRow). x.class ≡ d.interface) same m.2 in
-      (d.method, d.there, (d.bodied,
+      (d.method, d.there, (d.bodied, (
           subst (IsLowestHolder rows class key) (sym in_interface) d.lowest,
-          subst (λ c. own_row rows.methods c key ≡ Some row) (sym in_interface) d.first))
+          subst (λ c. own_row rows.methods c key ≡ Some row) (sym in_interface) d.first)))
 
   pub default_decided : (row : ℕ) → IsDecided (IsDefault rows class key row)
   default_decided row =
@@ -354,17 +364,17 @@ module _ (rows : Rows) (class key : ℕ) where
       (either_decided (on_path_decided rows key class row) (both_decided (off_path_decided rows key class) (both_decided (default_decided row) (only_decided row))))
     where
       IsOnly : Type 0
-      IsOnly = OnPath rows class key None × IsDefault rows class key row × ((other : ℕ) → IsDefault rows class key other → other ≡ row)
+      IsOnly = OnPath rows class key None × (IsDefault rows class key row × ((other : ℕ) → IsDefault rows class key other → other ≡ row))
 
       resolved : OnPath rows class key (Some row) ⊎ IsOnly → Resolve rows class key (Some row)
       resolved (inl p) = on_path p
-      resolved (inr d) = by_default d.0 d.1 d.2
+      resolved (inr d) = by_default d.0 d.1.0 d.1.1
 
       parts_of : (r : Option ℕ) → Resolve rows class key r → r ≡ Some row → OnPath rows class key (Some row) ⊎ IsOnly
       parts_of r (on_path {row = a} p) e = let same : a ≡ row = cc in inl (subst (λ x. OnPath rows class key (Some x)) same p)
       parts_of r (by_default {row = a} off d only) e =
           let same : a ≡ row = cc in
-          inr (off, subst (IsDefault rows class key) same d, subst (λ x. (other : ℕ) → IsDefault rows class key other → other ≡ x) same only)
+          inr (off, (subst (IsDefault rows class key) same d, subst (λ x. (other : ℕ) → IsDefault rows class key other → other ≡ x) same only))
       parts_of r (nowhere off none) e = cc
       parts_of r (ambiguous two) e = cc
 
