@@ -87,12 +87,12 @@ acyclic_from_places Go places falls a (b, st, p) = absurd (omega (arith, falls a
 
 -- ---- the members of a key
 
-Contains-map : {X Y : Type 0} (f : X → Y) (xs : List X) (y : Y) → Contains (map f xs) y → (i : ℕ) × (x : X) × (slice_get xs i ≡ Some x) × (f x ≡ y)
+pub Contains-map : {X Y : Type 0} (f : X → Y) (xs : List X) (y : Y) → Contains (map f xs) y → (i : ℕ) × (x : X) × (slice_get xs i ≡ Some x) × (f x ≡ y)
 Contains-map f [] y m = absurd (omega (arith, m.1))
 Contains-map f (x ∷ xs) y (zero, h, e) = (0, x, refl, e)
 Contains-map f (x ∷ xs) y (suc k, h, e) = let p = Contains-map f xs y (k, omega (arith, h), e) in (suc p.0, p.1, p.2, p.3)
 
-Contains-mapped : {X Y : Type 0} (f : X → Y) (xs : List X) (i : ℕ) (x : X) → slice_get xs i ≡ Some x → Contains (map f xs) (f x)
+pub Contains-mapped : {X Y : Type 0} (f : X → Y) (xs : List X) (i : ℕ) (x : X) → slice_get xs i ≡ Some x → Contains (map f xs) (f x)
 Contains-mapped f [] i x e = cc
 Contains-mapped f (y ∷ ys) zero x e = let same : y ≡ x = cc in (0, omega arith, ap f same)
 Contains-mapped f (y ∷ ys) (suc i) x e = let m = Contains-mapped f ys i x e in (suc m.0, omega (arith, m.1), m.2)

@@ -287,8 +287,8 @@ module _ (rows : Rows) (class key : ℕ) where
   holder_decided b =
       same_decided (holder_of b) (parts_of_holder b)
       (both_decided (sub_decided rows class b) (both_decided
-          (there_decided (λ (row : ClassRow). row.interface ≡ true) (λ row. true_decided row.interface) rows.classes b)
-          (has_some_decided (own_row rows.methods b key))))
+      (there_decided (λ (row : ClassRow). row.interface ≡ true) (λ row. true_decided row.interface) rows.classes b)
+      (has_some_decided (own_row rows.methods b key))))
 
   -- a holder with this number is below another
   abbrev IsLower : ℕ → ℕ → ClassRow → Type 0
@@ -320,10 +320,17 @@ module _ (rows : Rows) (class key : ℕ) where
   default_first row d =
       let m = owned_row rows d.interface key row d.first in
       let same : m.0 ≡ d.method = cc (m.1, d.there) in
-      let in_interface : d.method.class ≡ d.interface = subst (λ (x : MethodRow). x.class ≡ d.interface) same m.2 in
-      (d.method, d.there, (d.bodied, (
-          subst (IsLowestHolder rows class key) (sym in_interface) d.lowest,
-          subst (λ c. own_row rows.methods c key ≡ Some row) (sym in_interface) d.first)))
+      let in_interface : d.method.class ≡ d.interface = subst (λ (x : MethodRow). x.class ≡ d.interface) same m.2 in (
+        d.method,
+        d.there,
+        (
+          d.bodied,
+          (
+            subst (IsLowestHolder rows class key) (sym in_interface) d.lowest,
+            subst (λ c. own_row rows.methods c key ≡ Some row) (sym in_interface) d.first,
+          ),
+        ),
+      )
 
   pub default_decided : (row : ℕ) → IsDecided (IsDefault rows class key row)
   default_decided row =
@@ -355,7 +362,7 @@ module _ (rows : Rows) (class key : ℕ) where
   only_or_other row d = elim (anywhere_decided (IsOther row) (λ i m. both_decided (first_decided i m) (not_decided (cases_eq i row))) rows.methods) [
     | inl h ↦ inr (h.0, first_default h.0 h.1 h.2 h.3.0, h.3.1)
     | inr none ↦ inl (λ other e. let m = default_first other e in
-          elim (cases_eq other row) [ inl same ↦ same | inr apart ↦ absurd (none (other, m.0, m.1, (m.2, apart))) ])
+        elim (cases_eq other row) [ inl same ↦ same | inr apart ↦ absurd (none (other, m.0, m.1, (m.2, apart))) ])
   ]
 
   pub resolve_decided : (row : ℕ) → IsDecided (Resolve rows class key (Some row))

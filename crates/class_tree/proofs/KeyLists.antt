@@ -52,7 +52,7 @@ keys_more members keys i d h known = All-more (λ (m : Member). Contains (insert
     (key_added keys (get_or members i d).key)
 
 -- keys with one index are one key
-key_same : (keys : List ℕ) (k q i : ℕ) → position (λ x. k == x) keys ≡ Some i → position (λ x. q == x) keys ≡ Some i → k ≡ q
+pub key_same : (keys : List ℕ) (k q i : ℕ) → position (λ x. k == x) keys ≡ Some i → position (λ x. q == x) keys ≡ Some i → k ≡ q
 key_same keys k q i e f =
     let a = position-Some (λ x. k == x) keys i 0 e in
     let b = position-Some (λ x. q == x) keys i 0 f in

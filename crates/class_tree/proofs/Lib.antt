@@ -14,4 +14,6 @@ pub mod TreeFacts
 pub mod Building
 pub mod LawFacts
 pub mod Selected
+pub mod Held
+pub mod Lowest
 pub mod Decided

@@ -33,6 +33,15 @@ position_from-next_if t u xs i d old new h passes was is = position_from-next (�
     and-true true = refl
     and-true false = refl
 
+-- the element fails the test
+pub position_from-next_not : {X : Type 0} (t : X → Bool) (xs : List X) (i : ℕ) (d : X) (old new : Option ℕ) → i < length xs → t (get_or xs i d) ≡ false
+    → old ≡ position_from t 0 (take i xs) → new ≡ old → new ≡ position_from t 0 (take (i + 1) xs)
+position_from-next_not t xs i d old new h fails was is = position_from-next t xs i d old new h was (is ∙ sym (option_or-none old) ∙ ap (λ b. option_or old (cond b (Some i) None)) (sym fails))
+  where
+    option_or-none : (r : Option ℕ) → option_or r None ≡ r
+    option_or-none None = refl
+    option_or-none (Some x) = refl
+
 -- it fails that test
 pub position_from-next_skip : {X : Type 0} (t u : X → Bool) (xs : List X) (i : ℕ) (d : X) (old new : Option ℕ) → i < length xs → u (get_or xs i d) ≡ false
     → old ≡ position_from (λ x. t x && u x) 0 (take i xs) → new ≡ old → new ≡ position_from (λ x. t x && u x) 0 (take (i + 1) xs)

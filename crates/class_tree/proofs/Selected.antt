@@ -1,12 +1,11 @@
 -- The method that a call on an object runs: what is found, and that there is one answer.
-use Rattle.std.proofs.Common.{◌≡◌, ℕ, ◌==◌, ◌&&◌, true, Option, Some, None, slice_get, refl, sym, subst, ◌∙◌, inl, inr, eqb-true}
+use Rattle.std.proofs.Common.{◌≡◌, ℕ, ◌==◌, ◌&&◌, Option, Some, None, slice_get, refl, sym, subst, ◌∙◌, inl, eqb-true}
 use Rattle.std.proofs.lemmas.Bool.{and_parts}
-use Rattle.class_tree.specs.Bodies.{has_body}
 use Rattle.class_tree.specs.declared.rows.MethodRow.{MethodRow}
 use Rattle.class_tree.specs.Laws.{IsMethodOver, SelectionFindsMethods, SelectionGivesOneAnswer}
 use Rattle.class_tree.specs.Lookups.{IsDefault, OnPath, Resolve, ambiguous, by_default, nowhere, on_path, own_row}
 use Rattle.class_tree.specs.Paths.{Path, here, step}
-use Rattle.class_tree.specs.Rows.{HasParent, Rows, Step, Sub}
+use Rattle.class_tree.specs.Rows.{HasParent, Rows, Sub}
 use Rattle.class_tree.proofs.LawFacts.{path_finds, path_one, position_first}
 
 some_or_none : (row : ℕ) → Some row ≡ None → ⊥
@@ -53,7 +52,7 @@ default_over rows class key row d =
       there = d.there;
       has_key = subst (λ (x : MethodRow). x.key ≡ key) same m.3;
       bodied = d.bodied;
-      above = subst (λ c. Sub rows class c) (sym (subst (λ (x : MethodRow). x.class ≡ d.interface) same m.2)) d.lowest.holder.reached
+      above = subst (λ c. Sub rows class c) (sym (subst (λ (x : MethodRow). x.class ≡ d.interface) same m.2)) d.lowest.holder.reached;
     }
 
 found_over : (rows : Rows) (class key : ℕ) (r : Option ℕ) → Resolve rows class key r → (row : ℕ) → r ≡ Some row → IsMethodOver rows class key row

@@ -1,15 +1,17 @@
 -- What a tree keeps of its rows.
-use Rattle.std.specs.Prelude.{◌≡◌, ℕ, ◌<◌, ◌↔◌, List, Some, length, map, slice_get, slice_index}
+use Rattle.std.specs.Prelude.{◌≡◌, ℕ, ◌<◌, ◌↔◌, List, Some, Contains, length, map, slice_get, slice_index}
 use Rattle.class_tree.specs.declared.key_spans.KeySpans.{KeySpans}
 use Rattle.class_tree.specs.declared.kept.KeptRows.{KeptRows}
 use Rattle.class_tree.specs.declared.members.Members.{Members}
+use Rattle.class_tree.specs.declared.rows.ClassRow.{ClassRow}
 use Rattle.class_tree.specs.declared.rows.MethodRow.{MethodRow}
 use Rattle.class_tree.specs.declared.rows.FieldRow.{FieldRow}
 use Rattle.class_tree.specs.declared.spans.Span.{Span}
 use Rattle.class_tree.specs.FirstRows.{row_at}
 use Rattle.class_tree.specs.Groups.{group}
+use Rattle.class_tree.specs.Holders.{AreHolders, IsInterface, holders_of}
 use Rattle.class_tree.specs.KeySpans.{IsKeyed, member_of_field, member_of_method, spans_of}
-use Rattle.class_tree.specs.Lookups.{own_body, own_field, Declared}
+use Rattle.class_tree.specs.Lookups.{own_body, own_field, own_row, Declared}
 use Rattle.class_tree.specs.Paths.{Path}
 use Rattle.class_tree.specs.Rows.{Rows, rows_of, NameClasses, NamesUnknown, IsOwnAncestor, Step, HasInterface, interfaces_of}
 use Rattle.class_tree.specs.Spans.{AreApart, Holds}
@@ -42,11 +44,19 @@ pub record ArePlaced (rows : Rows) (places : List ℕ) : Type 0 where
 abbrev pub rows_in : KeptRows → Rows
 rows_in k = rows_of k.classes.items k.implements.items k.methods.items k.fields.items
 
+-- an interface with a method of this key, whatever reaches it
+pub record HoldsMethod (rows : Rows) (interface key : ℕ) : Type 0 where
+  pub is_interface : IsInterface rows.classes interface
+  pub row : ℕ
+  pub own : own_row rows.methods interface key ≡ Some row
+
 -- what is kept of methods and fields, over the tables of all steps and of the interfaces alone
-pub record AreMembers (methods : List MethodRow) (fields : List FieldRow) (reach near : List (List Span)) (m : Members) : Type 0 where
+pub record AreMembers (classes : List ClassRow) (methods : List MethodRow) (fields : List FieldRow) (reach near : List (List Span)) (m : Members) : Type 0 where
   pub declares : IsKeyed (map member_of_method methods) reach m.declared
   pub near_fields : IsKeyed (map member_of_field fields) near m.near_fields
   pub bodies : (c k : ℕ) → row_at m.bodies c k ≡ own_body methods c k
+  pub interface_rows : (c k : ℕ) → IsInterface classes c → row_at m.interface_rows c k ≡ own_row methods c k
+  pub holders : AreHolders classes (map member_of_method methods) m.holders
   pub own_fields : (c k : ℕ) → row_at m.own_fields c k ≡ own_field fields c k
 
 -- the tables say what the rows say
@@ -60,6 +70,9 @@ pub record IsIndexed (rows : Rows) (interfaces : List (List ℕ)) (places : List
   pub declares : TellsOf (Declared rows) (length rows.classes) places members.declared
   pub near_fields : TellsOf (HasFieldNear rows) (length rows.classes) places members.near_fields
   pub bodies : (c k : ℕ) → row_at members.bodies c k ≡ own_body rows.methods c k
+  pub interface_rows : (c k : ℕ) → IsInterface rows.classes c → row_at members.interface_rows c k ≡ own_row rows.methods c k
+  pub holders_len : length members.holders.interfaces ≡ length members.holders.keys.keys
+  pub holders : (b k : ℕ) → Contains (holders_of members.holders k) b ↔ HoldsMethod rows b k
   pub fields : (c k : ℕ) → row_at members.own_fields c k ≡ own_field rows.fields c k
 
 -- the class is the first of those for which there is such a field

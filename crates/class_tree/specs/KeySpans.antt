@@ -15,7 +15,7 @@ abbrev pub member_of_field : FieldRow → Member
 member_of_field f = record { class = f.class; key = f.key }
 
 -- the list at an index, if there is one
-abbrev pub list_at : List (List Span) → Option ℕ → List Span
+abbrev pub list_at : {X : Type 0} → List (List X) → Option ℕ → List X
 list_at lists None = []
 list_at lists (Some i) = group lists i
 

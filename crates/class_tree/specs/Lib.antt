@@ -8,5 +8,7 @@ pub mod Rows
 pub mod Tables
 pub mod Spans
 pub mod KeySpans
+pub mod Holders
 pub mod Indexed
+pub mod Defaults
 pub mod Laws

@@ -1,10 +1,11 @@
-ghost use Rattle.std.specs.Prelude.{◌≡◌, ℕ, ◌==◌, ◌&&◌, ◌^◌, ◌<◌, length, Some, None, Option, IfOk, OnOk, cond, map};
+ghost use Rattle.std.specs.Prelude.{◌≡◌, ℕ, ◌==◌, ◌&&◌, ◌^◌, ◌<◌, length, All, Some, None, Option, IfOk, OnOk, cond, map};
 ghost use Rattle.std.specs.Option.{option_or, is_some};
-ghost use Rattle.class_tree.specs.Lookups.{own_body, own_field};
+ghost use Rattle.class_tree.specs.Holders.{IsInterface};
+ghost use Rattle.class_tree.specs.Lookups.{own_body, own_field, own_row};
 ghost use Rattle.class_tree.specs.FirstRows.{row_at, AddsRow};
 ghost use Rattle.class_tree.specs.KeySpans.{member_of_field, member_of_method};
 
-use super::rows::{FieldRow, MethodRow};
+use super::rows::{ClassRow, FieldRow, MethodRow};
 use std::alloc::{AllocError, Global};
 use std::collections::HashMap;
 
@@ -55,6 +56,25 @@ impl FirstRows {
         let mut rows = FirstRows::new(alloc);
         for (row, method) in methods.iter().enumerate() {
             if method.body.has_body() {
+                rows.add(method.class, method.key, row as u32)?;
+            }
+        }
+        Ok(rows)
+    }
+
+    /// The first rows of methods of interfaces, with a body or without.
+    pub fn of_interfaces(
+        alloc: Global,
+        classes: &[ClassRow],
+        methods: &[MethodRow],
+    ) -> Result<Self, AllocError>
+        requires few { length methods.now < 2 ^ 32 }
+        requires known { All (λ m. m.class < length classes.now) methods.now }
+        ensures { IfOk result (λ rows. (c k : ℕ) → IsInterface classes.now c → row_at rows c k ≡ own_row methods.now c k) }
+    {
+        let mut rows = FirstRows::new(alloc);
+        for (row, method) in methods.iter().enumerate() {
+            if classes[method.class as usize].interface {
                 rows.add(method.class, method.key, row as u32)?;
             }
         }

@@ -17,7 +17,8 @@ pub struct KeySpans {
     spans: Groups<Span>,
 }
 
-fn keys_of(alloc: Global, members: &[Member]) -> Result<IndexSet<u32>, AllocError>
+/// The keys of the members.
+pub fn keys_of(alloc: Global, members: &[Member]) -> Result<IndexSet<u32>, AllocError>
     ensures { IfOk result (λ keys. All (λ m. Contains keys.keys m.key) members.now) }
 {
     let mut keys: IndexSet<u32> = IndexSet::new(alloc);
@@ -27,8 +28,8 @@ fn keys_of(alloc: Global, members: &[Member]) -> Result<IndexSet<u32>, AllocErro
     Ok(keys)
 }
 
-// For each of the keys the classes of its members.
-fn classes_by_key(
+/// For each of the keys the classes of its members.
+pub fn classes_by_key(
     alloc: Global,
     members: &[Member],
     keys: &IndexSet<u32>,

@@ -5,6 +5,7 @@ mod cycles;
 mod finish;
 mod first_rows;
 mod groups;
+mod holders;
 mod kept;
 mod key_spans;
 mod laws;
@@ -17,7 +18,9 @@ mod steps;
 mod tree;
 mod unknown;
 
-pub use laws::{fields_are_found_above, methods_are_found_above, methods_are_selected_above, sub_is_an_order};
+pub use laws::{
+    fields_are_found_above, methods_are_found_above, methods_are_selected_above, sub_is_an_order,
+};
 pub use rows::{BodyKind, ClassRow, FieldRow, MethodRow, TreeError};
 pub use tree::{Tree, build};
 

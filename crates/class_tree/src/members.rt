@@ -1,12 +1,13 @@
-ghost use Rattle.std.specs.Prelude.{ℕ, ◌^◌, ◌<◌, length, All, IfOk};
+ghost use Rattle.std.specs.Prelude.{◌≡◌, ℕ, ◌^◌, ◌<◌, length, All, IfOk};
 ghost use Rattle.class_tree.specs.Groups.{group};
 ghost use Rattle.class_tree.specs.Indexed.{AreMembers};
 ghost use Rattle.class_tree.specs.Spans.{AreApart};
 
 use super::first_rows::{FirstRows, field_members, method_members};
 use super::groups::Groups;
+use super::holders::Holders;
 use super::key_spans::KeySpans;
-use super::rows::{FieldRow, MethodRow};
+use super::rows::{ClassRow, FieldRow, MethodRow};
 use super::spans::Span;
 use std::alloc::{AllocError, Global};
 
@@ -16,6 +17,8 @@ pub struct Members {
     pub declared: KeySpans,
     pub near_fields: KeySpans,
     pub bodies: FirstRows,
+    pub interface_rows: FirstRows,
+    pub holders: Holders,
     pub own_fields: FirstRows,
 }
 
@@ -24,6 +27,7 @@ impl Members {
     /// it is reached, and `near` of those from which it is reached by interfaces alone.
     pub fn new(
         alloc: Global,
+        classes: &[ClassRow],
         methods: &[MethodRow],
         fields: &[FieldRow],
         reach: &Groups<Span>,
@@ -31,11 +35,12 @@ impl Members {
     ) -> Result<Self, AllocError>
         requires few_methods { length methods.now < 2 ^ 32 }
         requires few_fields { length fields.now < 2 ^ 32 }
-        requires methods { All (λ m. m.class < length reach.now) methods.now }
+        requires len { length reach.now ≡ length classes.now }
+        requires methods { All (λ m. m.class < length classes.now) methods.now }
         requires fields { All (λ f. f.class < length near.now) fields.now }
         requires reach { (c : ℕ) → AreApart (group reach.now c) }
         requires near { (c : ℕ) → AreApart (group near.now c) }
-        ensures { IfOk result (AreMembers methods.now fields.now reach.now near.now) }
+        ensures { IfOk result (AreMembers classes.now methods.now fields.now reach.now near.now) }
     {
         let of_methods = method_members(alloc, methods)?;
         let of_fields = field_members(alloc, fields)?;
@@ -43,6 +48,8 @@ impl Members {
             declared: KeySpans::new(alloc, of_methods.as_slice(), reach)?,
             near_fields: KeySpans::new(alloc, of_fields.as_slice(), near)?,
             bodies: FirstRows::of_bodies(alloc, methods)?,
+            interface_rows: FirstRows::of_interfaces(alloc, classes, methods)?,
+            holders: Holders::new(alloc, classes, of_methods.as_slice())?,
             own_fields: FirstRows::of_fields(alloc, fields)?,
         })
     }

@@ -1,9 +1,10 @@
 ghost use Rattle.std.specs.Prelude.{◌≡◌, ℕ, ◌^◌, ◌<◌, ◌↔◌, length, All, IsTrue, IfOk, IfNone, IfSome, Some, Err};
-ghost use Rattle.class_tree.specs.Indexed.{HasFieldNear, IsFirstNear};
+ghost use Rattle.class_tree.specs.Defaults.{AreDefaults, IsDefaultFrom};
+ghost use Rattle.class_tree.specs.Indexed.{HasFieldNear, HoldsMethod, IsFirstNear};
 ghost use Rattle.class_tree.specs.Paths.{IsLeast};
 ghost use Rattle.class_tree.specs.Rows.{rows_of, NameClasses, NamesUnknown, IsOwnAncestor, Step, Sub, HasParent, interfaces_of};
 ghost use Rattle.class_tree.specs.Tables.{IsFinishing, Under};
-ghost use Rattle.class_tree.specs.Lookups.{own_body, Resolve, Declared, FieldHere, FieldOf};
+ghost use Rattle.class_tree.specs.Lookups.{own_body, Declared, FieldHere, FieldOf, IsAmbiguous, IsDefault, IsHolder, IsLowestHolder, OnPath, Resolve};
 
 use super::cycles::least_cyclic;
 use super::finish::{finish_order, tops_first};
@@ -21,7 +22,8 @@ use std::marker::Model;
 
 /// The hierarchy of the classes of some rows. Contracts see it as these rows. Its look-ups take no
 /// memory. `sub` and `declared` take a search in a short sorted list, `own_body` a hashed look-up,
-/// `resolve` and `field` one for each parent on the way.
+/// `on_path` and `field` one for each parent on the way. `resolve` and `ambiguous` go on from there
+/// to the interfaces that have a method with the key, where there are any.
 #[derive(Drop)]
 pub struct Tree {
     rows: KeptRows,
@@ -40,6 +42,14 @@ impl Model for Tree {
     ghost view = { λ t. rows_in t.rows };
 
     ghost invariant = { λ t. IsIndexed (rows_in t.rows) t.interfaces t.places.items t.reach t.members };
+}
+
+/// The default methods of a key, by their rows.
+#[derive(Clone, Copy)]
+enum Defaults {
+    Nothing,
+    One(u32),
+    Several,
 }
 
 /// The tree of the rows. A class is named by its index in `classes`, and `implements` has pairs of a
@@ -114,7 +124,7 @@ fn indexed(
     let places = places_of(alloc, below, order)?;
     let reach = reach_spans(alloc, below, order, places.as_slice())?;
     let near = near_spans(alloc, implements, below, order, places.as_slice())?;
-    let members = Members::new(alloc, methods, fields, &reach, &near)?;
+    let members = Members::new(alloc, classes, methods, fields, &reach, &near)?;
     let interfaces = interface_lists(alloc, classes.len(), implements)?;
     let rows = KeptRows::copy_of(alloc, classes, implements, methods, fields)?;
     Ok(Tree {
@@ -139,9 +149,9 @@ impl Tree {
 
     /// The row of the first method with this key and a body, from the class upwards by parents;
     /// within one class the first row. A row is an index in the list of methods.
-    pub fn resolve(&self, class: u32, key: u32) -> Option<u32>
+    pub fn on_path(&self, class: u32, key: u32) -> Option<u32>
         requires { class < length self.now.classes }
-        ensures { Resolve self.now class key result }
+        ensures { OnPath self.now class key result }
     {
         let mut at = class;
         loop {
@@ -153,6 +163,78 @@ impl Tree {
                 None => return None,
             }
         }
+    }
+
+    // Whether no other interface that the class reaches and that has a method of this key is below
+    // this one.
+    fn is_lowest(&self, class: u32, key: u32, interface: u32) -> bool
+        requires class { class < length self.now.classes }
+        requires holder { IsHolder self.now class key interface }
+        ensures { IsTrue result ↔ IsLowestHolder self.now class key interface }
+    {
+        for other in self.members.holders.of(key) {
+            if *other != interface && self.sub(class, *other) && self.sub(*other, interface) {
+                return false;
+            }
+        }
+        true
+    }
+
+    // The default method that comes from this interface.
+    fn default_from(&self, class: u32, key: u32, interface: u32) -> Option<u32>
+        requires class { class < length self.now.classes }
+        requires holder { HoldsMethod self.now interface key }
+        ensures { (row : ℕ) → (result ≡ Some row) ↔ IsDefaultFrom self.now class key interface row }
+    {
+        let row = self.members.interface_rows.get(interface, key)?;
+        let bodied = self.rows.methods[row as usize].body.has_body();
+        if bodied && self.sub(class, interface) && self.is_lowest(class, key, interface) {
+            Some(row)
+        } else {
+            None
+        }
+    }
+
+    fn defaults(&self, class: u32, key: u32) -> Defaults
+        requires { class < length self.now.classes }
+        ensures { AreDefaults (IsDefault self.now class key) result }
+    {
+        let mut found = Defaults::Nothing;
+        for interface in self.members.holders.of(key) {
+            if let Some(row) = self.default_from(class, key, *interface) {
+                match found {
+                    Defaults::Nothing => found = Defaults::One(row),
+                    Defaults::One(first) if first == row => {}
+                    _ => return Defaults::Several,
+                }
+            }
+        }
+        found
+    }
+
+    /// The row of the method that a call on an object of the class runs: the one along the parents,
+    /// or else the one default method that the interfaces reached from the class have. A row is an
+    /// index in the list of methods.
+    pub fn resolve(&self, class: u32, key: u32) -> Option<u32>
+        requires { class < length self.now.classes }
+        ensures { Resolve self.now class key result }
+    {
+        if let Some(row) = self.on_path(class, key) {
+            return Some(row);
+        }
+        match self.defaults(class, key) {
+            Defaults::One(row) => Some(row),
+            Defaults::Nothing | Defaults::Several => None,
+        }
+    }
+
+    /// Whether the parents have no method with this key and a body, and the interfaces more than one
+    /// default method.
+    pub fn ambiguous(&self, class: u32, key: u32) -> bool
+        requires { class < length self.now.classes }
+        ensures { IsTrue result ↔ IsAmbiguous self.now class key }
+    {
+        self.on_path(class, key).is_none() && matches!(self.defaults(class, key), Defaults::Several)
     }
 
     /// The row of the first method of the class itself with this key and a body.

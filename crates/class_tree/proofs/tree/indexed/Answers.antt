@@ -3,6 +3,7 @@ use Rattle.class_tree.specs.declared.rows.ClassRow.{ClassRow}
 use Rattle.class_tree.specs.Rows.{rows_of, HasInterface, IsOwnAncestor, Step}
 use Rattle.class_tree.specs.Tables.{ArePlaces, IsReach, Under}
 use Rattle.class_tree.proofs.Building.{step-below, interfaces_known, reach_map, acyclic_from_places, tells_declared, tells_near}
+use Rattle.class_tree.proofs.Held.{tells_holders}
 use Rattle.class_tree.proofs.tree.indexed.Goals as goal
 
 pub places_of-requires-clause-known : goal.places_of-requires-clause-known
@@ -20,8 +21,8 @@ near_spans-requires-clause-interface c = rw c.requires.len (interfaces_known c.a
 pub near_spans-requires-clause-below : goal.near_spans-requires-clause-below
 near_spans-requires-clause-below c = λ a b m. (c.requires.steps a b).1 (inr m)
 
-pub new-requires-clause-methods : goal.new-requires-clause-methods
-new-requires-clause-methods c = let len : length c.in_ok-reach.reach ≡ length c.args.classes.now = c.in_ok-reach.ensures.len ∙ c.requires.len in rw len c.requires.named.methods
+pub new-requires-clause-len : goal.new-requires-clause-len
+new-requires-clause-len c = c.in_ok-reach.ensures.len ∙ c.requires.len
 
 pub new-requires-clause-fields : goal.new-requires-clause-fields
 new-requires-clause-fields c = let len : length c.in_ok-near.near ≡ length c.args.classes.now = c.in_ok-near.ensures.len ∙ c.requires.len in rw len c.requires.named.fields
@@ -46,6 +47,9 @@ invariant_of-result c =
       declares = tells_declared (rows_of c.args.classes.now c.args.implements.now c.args.methods.now c.args.fields.now) _ _ _ c.requires.named reached c.in_ok-members.ensures.declares;
       near_fields = tells_near (rows_of c.args.classes.now c.args.implements.now c.args.methods.now c.args.fields.now) _ _ _ c.requires.named near c.in_ok-members.ensures.near_fields;
       bodies = c.in_ok-members.ensures.bodies;
+      interface_rows = c.in_ok-members.ensures.interface_rows;
+      holders_len = c.in_ok-members.ensures.holders.len;
+      holders = tells_holders (rows_of c.args.classes.now c.args.implements.now c.args.methods.now c.args.fields.now) _ c.in_ok-members.ensures.holders;
       fields = c.in_ok-members.ensures.own_fields;
     })
 

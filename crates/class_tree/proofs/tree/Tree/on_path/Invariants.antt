@@ -1,6 +1,6 @@
 use Rattle.std.proofs.Common.{ℕ, ◌<◌, Option, length, get_or}
 use Rattle.class_tree.specs.Lookups.{OnPath}
-use Rattle.class_tree.proofs.tree.Tree.resolve.Given as goal
+use Rattle.class_tree.proofs.tree.Tree.on_path.Given as goal
 
 abbrev pub invariant-loop-row : goal.invariant-loop-row
 invariant-loop-row l = record {

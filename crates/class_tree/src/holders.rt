@@ -1,0 +1,60 @@
+ghost use Rattle.std.specs.Prelude.{◌≡◌, ◌<◌, ◌↔◌, length, All, Contains, IfOk};
+ghost use Rattle.class_tree.specs.declared.first_rows.Member.{Member};
+ghost use Rattle.class_tree.specs.Holders.{AreHolders, IsInterface, holders_of};
+
+use super::first_rows::Member;
+use super::groups::Groups;
+use super::key_spans::{classes_by_key, keys_of};
+use super::rows::ClassRow;
+use indexmap::IndexSet;
+use std::alloc::{AllocError, Global};
+
+/// For each key the interfaces that have a method of it.
+#[derive(Drop)]
+pub struct Holders {
+    keys: IndexSet<u32>,
+    interfaces: Groups<u32>,
+}
+
+// Those of the members that are in interfaces.
+fn in_interfaces(
+    alloc: Global,
+    classes: &[ClassRow],
+    members: &[Member],
+) -> Result<Vec<Member>, AllocError>
+    requires { All (λ m. m.class < length classes.now) members.now }
+    ensures { IfOk result (λ found. (m : Member) → Contains found.items m ↔ Contains members.now m × IsInterface classes.now m.class) }
+{
+    let mut found = Vec::new(alloc);
+    for member in members {
+        if classes[member.class as usize].interface {
+            found.push(*member)?;
+        }
+    }
+    Ok(found)
+}
+
+impl Holders {
+    /// The interfaces of each key of the members.
+    pub fn new(alloc: Global, classes: &[ClassRow], members: &[Member]) -> Result<Self, AllocError>
+        requires { All (λ m. m.class < length classes.now) members.now }
+        ensures { IfOk result (AreHolders classes.now members.now) }
+    {
+        let found = in_interfaces(alloc, classes, members)?;
+        let keys = keys_of(alloc, found.as_slice())?;
+        let interfaces = classes_by_key(alloc, found.as_slice(), &keys)?;
+        Ok(Holders { keys, interfaces })
+    }
+
+    /// The interfaces with a method of this key. One with more such methods may stand there more
+    /// than once.
+    pub fn of(&self, key: u32) -> &[u32]
+        requires { length self.now.interfaces ≡ length self.now.keys.keys }
+        ensures { result.now ≡ holders_of self.now key }
+    {
+        match self.keys.get_index_of(&key) {
+            Some(at) => self.interfaces.get(at),
+            None => &[],
+        }
+    }
+}
