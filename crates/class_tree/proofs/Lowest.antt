@@ -1,5 +1,5 @@
 -- Default methods, one interface after the other.
-use Rattle.std.proofs.Common.{◌≡◌, ◌≢◌, ℕ, ◌+◌, ◌<◌, ◌≤◌, ◌⊎◌, ◌↔◌, Bool, true, false, true≢false, Option, Some, None, List, slice_get, get_or, length, refl, sym, ap, subst, ◌∙◌, inl, inr, arith}
+use Rattle.std.proofs.Common.{◌≡◌, ◌≢◌, ℕ, ◌+◌, ◌<◌, ◌≤◌, ◌⊎◌, ◌↔◌, Bool, true, true≢false, Option, Some, None, List, slice_get, get_or, length, refl, sym, ap, subst, ◌∙◌, inl, inr, arith}
 use Rattle.std.specs.List.{Contains}
 use Rattle.std.specs.Option.{is_some}
 use Rattle.std.proofs.lemmas.Bool.{cases_eq}
@@ -176,16 +176,6 @@ module _ (rows : Rows) (class key interface row : ℕ) (own : own_row rows.metho
         subst (IsDefaultFrom rows class key interface) same (record { lowest = lowest; first = own; method = m; there = there; bodied = bodied }),
     λ d. sym own ∙ d.first,
   )
-
-  -- without a body it is none
-  pub no_body : (m : MethodRow) → slice_get rows.methods row ≡ Some m → has_body m.body ≡ false → (r : ℕ) → IsDefaultFrom rows class key interface r → ⊥
-  no_body m there bodiless r d =
-      let same_row : row ≡ r = cc (own, d.first) in
-      let same : m ≡ d.method = cc (there, d.there, ap (slice_get rows.methods) same_row) in
-      true≢false (sym d.bodied ∙ sym (ap (λ (x : MethodRow). has_body x.body) same) ∙ bodiless)
-
-pub none_given : (rows : Rows) (class key interface : ℕ) → ((r : ℕ) → IsDefaultFrom rows class key interface r → ⊥) → (r : ℕ) → (None ≡ Some r) ↔ IsDefaultFrom rows class key interface r
-none_given rows class key interface none r = (λ e. cc, λ d. absurd (none r d))
 
 -- ---- what is selected
 

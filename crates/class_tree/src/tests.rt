@@ -175,3 +175,78 @@ fn fields(rt: HostRuntime) -> Result<(), Fail> {
     assert!(rt; holds);
     Ok(())
 }
+
+// 0 is the top. The interfaces 2 and 4 extend the interface 1, and 3 extends none. 5 implements 1 and
+// 2, and 6 is below it. 7 implements 2, 3 and 4, and 8 is below it.
+fn of_interfaces(alloc: Global, methods: &[MethodRow]) -> Result<Tree, TreeError>
+    requires few { length methods.now < 2 ^ 32 }
+    requires methods { All (λ m. m.class < 9) methods.now }
+    ensures { IfOk result (λ tree. length tree.classes ≡ 9) }
+{
+    let interface = ClassRow {
+        interface: true,
+        ..class(0)
+    };
+    let classes = [
+        TOP,
+        interface,
+        interface,
+        interface,
+        interface,
+        class(0),
+        class(5),
+        class(0),
+        class(7),
+    ];
+    let implements = [(2, 1), (4, 1), (5, 1), (5, 2), (7, 2), (7, 3), (7, 4)];
+    build(alloc, &classes, &implements, methods, &[])
+}
+
+// Key 10 is in 1 and in 2, 11 in 1 and without a body in 2, 12 in 2 and in 3.
+fn are_lowest(tree: &Tree) -> bool
+    requires { length tree.now.classes ≡ 9 }
+{
+    let lowest = tree.resolve(5, 10) == Some(1) && tree.resolve(7, 10) == Some(1);
+    let inherited = tree.resolve(6, 10) == Some(1) && tree.resolve(1, 10) == Some(0);
+    let hidden = tree.resolve(5, 11).is_none() && !tree.ambiguous(5, 11);
+    let two = tree.resolve(7, 12).is_none() && tree.ambiguous(7, 12);
+    let above_two = tree.resolve(8, 12) == Some(6) && !tree.ambiguous(8, 12);
+    lowest && inherited && hidden && two && above_two
+}
+
+// Key 13 is twice in 1, to which two ways lead from 8. 14 is native, 15 is in 5 without a body, and 16
+// stands for a static method.
+fn are_alone(tree: &Tree) -> bool
+    requires { length tree.now.classes ≡ 9 }
+{
+    let diamond = tree.resolve(8, 13) == Some(7) && !tree.ambiguous(8, 13);
+    let native = tree.resolve(5, 14) == Some(9);
+    let bodiless_in_class = tree.resolve(5, 15) == Some(10);
+    let off_path = tree.on_path(5, 16).is_none() && tree.on_path(1, 16) == Some(12);
+    let nowhere = tree.resolve(5, 17).is_none() && !tree.ambiguous(5, 17);
+    diamond && native && bodiless_in_class && off_path && nowhere
+}
+
+#[test]
+fn defaults(rt: HostRuntime) -> Result<(), Fail> {
+    let methods = [
+        method(1, 10, BodyKind::Plain),
+        method(2, 10, BodyKind::Plain),
+        method(1, 11, BodyKind::Plain),
+        method(2, 11, BodyKind::Missing),
+        method(2, 12, BodyKind::Plain),
+        method(3, 12, BodyKind::Plain),
+        method(8, 12, BodyKind::Plain),
+        method(1, 13, BodyKind::Plain),
+        method(1, 13, BodyKind::Plain),
+        method(1, 14, BodyKind::Native),
+        method(1, 15, BodyKind::Plain),
+        method(5, 15, BodyKind::Missing),
+        method(1, 16, BodyKind::Plain),
+    ];
+    let tree = of_interfaces(rt.alloc(), &methods)?;
+    let lowest = are_lowest(&tree);
+    let alone = are_alone(&tree);
+    assert!(rt; lowest && alone);
+    Ok(())
+}

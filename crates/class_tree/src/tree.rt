@@ -180,15 +180,19 @@ impl Tree {
         true
     }
 
-    // The default method that comes from this interface.
+    // The row of the default method that comes from this interface.
     fn default_from(&self, class: u32, key: u32, interface: u32) -> Option<u32>
         requires class { class < length self.now.classes }
         requires holder { HoldsMethod self.now interface key }
         ensures { (row : ℕ) → (result ≡ Some row) ↔ IsDefaultFrom self.now class key interface row }
     {
+        if !self.sub(class, interface) {
+            return None;
+        }
         let row = self.members.interface_rows.get(interface, key)?;
-        let bodied = self.rows.methods[row as usize].body.has_body();
-        if bodied && self.sub(class, interface) && self.is_lowest(class, key, interface) {
+        if self.rows.methods[row as usize].body.has_body()
+            && self.is_lowest(class, key, interface)
+        {
             Some(row)
         } else {
             None

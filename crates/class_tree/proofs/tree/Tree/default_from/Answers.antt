@@ -1,10 +1,9 @@
-use Rattle.std.proofs.Common.{◌≡◌, ◌<◌, Some, length, arith, refl, sym, subst, true≢false, ◌∙◌}
+use Rattle.std.proofs.Common.{◌≡◌, ◌<◌, Some, length, arith, refl, sym, subst, ◌∙◌}
 use Rattle.class_tree.specs.Lookups.{own_row}
 use Rattle.class_tree.specs.Rows.{Rows}
-use Rattle.class_tree.proofs.Lowest.{body_read, default_given, held_within, no_body, none_given, row_within}
+use Rattle.class_tree.proofs.Lowest.{body_read, default_given, held_within, row_within}
 use Rattle.class_tree.proofs.Selected.{owned_row}
 use Rattle.class_tree.proofs.tree.Tree.default_from.Goals as goal
-use Rattle.class_tree.proofs.tree.Tree.default_from.Goals.{else-bodied-via-then-bodied+then-sub+else-is_lowest, else-bodied-via-then-bodied+else-sub, else-bodied-via-else-bodied}
 
 pub index-requires : goal.index-requires
 index-requires c =
@@ -22,16 +21,4 @@ returns-then-is_lowest c =
     let own : own_row c.args.self.now.methods c.args.interface c.args.key ≡ Some c.in_ok-row.row = sym (c.in_ok-row.ensures ∙ ix.interface_rows c.args.interface c.args.key c.requires.holder.is_interface) in
     let m = owned_row c.args.self.now c.args.interface c.args.key c.in_ok-row.row own in
     default_given c.args.self.now c.args.class c.args.key c.args.interface c.in_ok-row.row own (c.if-is_lowest.ensures.0 refl) m.0 m.1
-    (body_read _ _ _ m.0 _ _ c.self.view_is m.1 c.index.ensures c.if-bodied.ensures)
-
-pub returns-else-bodied : goal.returns-else-bodied
-returns-else-bodied c =
-    let ix = rw c.self.view_is at c.self.invariant in
-    let own : own_row c.args.self.now.methods c.args.interface c.args.key ≡ Some c.in_ok-row.row = sym (c.in_ok-row.ensures ∙ ix.interface_rows c.args.interface c.args.key c.requires.holder.is_interface) in
-    let m = owned_row c.args.self.now c.args.interface c.args.key c.in_ok-row.row own in
-    none_given c.args.self.now c.args.class c.args.key c.args.interface (elim c.else-bodied.branch [
-      | else-bodied-via-then-bodied+then-sub+else-is_lowest w ↦ (λ r d. true≢false (sym (w.if-is_lowest.ensures.1 d.lowest)))
-      | else-bodied-via-then-bodied+else-sub w ↦ (λ r d. true≢false (sym (w.if-sub.ensures.1 d.lowest.holder.reached)))
-      | else-bodied-via-else-bodied w ↦ (λ r d. no_body c.args.self.now c.args.class c.args.key c.args.interface c.in_ok-row.row own m.0 m.1
-          (body_read _ _ _ m.0 _ _ c.self.view_is m.1 c.index.ensures w.if-bodied.ensures) r d)
-    ])
+    (body_read _ _ _ m.0 _ _ c.self.view_is m.1 c.index.ensures c.if-has_body.ensures)
