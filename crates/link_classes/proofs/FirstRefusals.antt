@@ -4,7 +4,7 @@ use Rattle.class_tree.specs.Paths.{IsLeast}
 use Rattle.class_tree.specs.Rows.{IsOwnAncestor, NamesUnknown}
 use Rattle.link_rules.specs.declared.refusal.LinkKind.{LinkKind}
 use Rattle.link_rules.specs.declared.refusal.LinkKind.TheVariants as rule
-use Rattle.link_rules.specs.Refusals.{HasEarlierName, IsBefore, IsDefaultMethod, IsEntry, IsFirst, Refusal, Refuses, RefusesWhole, number_of, whole, within}
+use Rattle.link_rules.specs.Refusals.{HasEarlierName, IsBefore, IsEntry, IsFirst, Refusal, Refuses, RefusesWhole, number_of, whole, within}
 use Rattle.link_rules.specs.World.{World}
 use Rattle.link_classes.specs.RowTables.{IsSound}
 
@@ -25,11 +25,6 @@ module _ (w : World) where
     where
       after : (k : LinkKind) (n : ℕ) → RefusesWhole w k n → 3 ≡ number_of k → rule.CyclicClass ≡ k
       after rule.CyclicClass n q e = refl
-      after k n q e = absurd (omega (arith, e))
-  same_rule rule.DefaultMethod k m n p q e = after k n q e
-    where
-      after : (k : LinkKind) (n : ℕ) → RefusesWhole w k n → 4 ≡ number_of k → rule.DefaultMethod ≡ k
-      after rule.DefaultMethod n q e = refl
       after k n q e = absurd (omega (arith, e))
   same_rule rule.NoEntry k m n p q e = after k n q e
     where
@@ -68,18 +63,11 @@ module _ (w : World) where
   none_below_3 single known j m r lower = omega (arith, lower)
 
   -- none of the first three rules refuses
-  pub none_below_4 : IsSound w → (j : LinkKind) (m : ℕ) → RefusesWhole w j m → number_of j < 4 → ⊥
-  none_below_4 sound rule.DuplicateClass m r lower = sound.single m r
-  none_below_4 sound rule.UnknownParent m r lower = sound.known m r
-  none_below_4 sound rule.CyclicClass m r lower = sound.acyclic m r
-  none_below_4 sound j m r lower = omega (arith, lower)
-
-  none_below_5 : IsSound w → ((m : ℕ) → IsDefaultMethod w m → ⊥) → (j : LinkKind) (m : ℕ) → RefusesWhole w j m → number_of j < 5 → ⊥
-  none_below_5 sound plain rule.DuplicateClass m r lower = sound.single m r
-  none_below_5 sound plain rule.UnknownParent m r lower = sound.known m r
-  none_below_5 sound plain rule.CyclicClass m r lower = sound.acyclic m r
-  none_below_5 sound plain rule.DefaultMethod m r lower = plain m r
-  none_below_5 sound plain j m r lower = omega (arith, lower)
+  pub none_below_5 : IsSound w → (j : LinkKind) (m : ℕ) → RefusesWhole w j m → number_of j < 5 → ⊥
+  none_below_5 sound rule.DuplicateClass m r lower = sound.single m r
+  none_below_5 sound rule.UnknownParent m r lower = sound.known m r
+  none_below_5 sound rule.CyclicClass m r lower = sound.acyclic m r
+  none_below_5 sound j m r lower = omega (arith, lower)
 
   pub first_duplicate : (n : ℕ) → IsLeast (HasEarlierName w) n → IsFirst w (whole rule.DuplicateClass n)
   first_duplicate n least = first_whole rule.DuplicateClass n least.holds none_below_1 least.first
@@ -91,17 +79,13 @@ module _ (w : World) where
       → IsLeast (IsOwnAncestor w.rows.classes w.rows.implements) n → IsFirst w (whole rule.CyclicClass n)
   first_cyclic n single known least = first_whole rule.CyclicClass n least.holds (none_below_3 single known) least.first
 
-  pub first_default : (n : ℕ) → IsSound w → IsLeast (IsDefaultMethod w) n → IsFirst w (whole rule.DefaultMethod n)
-  first_default n sound least = first_whole rule.DefaultMethod n least.holds (none_below_4 sound) least.first
-
-  pub first_no_entry : IsSound w → ((m : ℕ) → IsDefaultMethod w m → ⊥) → ((row : ℕ) → IsEntry w row → ⊥) → IsFirst w (whole rule.NoEntry 0)
-  first_no_entry sound plain none = first_whole rule.NoEntry 0 (refl, none) (none_below_5 sound plain) (λ m before r. omega (arith, before))
+  pub first_no_entry : IsSound w → ((row : ℕ) → IsEntry w row → ⊥) → IsFirst w (whole rule.NoEntry 0)
+  first_no_entry sound none = first_whole rule.NoEntry 0 (refl, none) (none_below_5 sound) (λ m before r. omega (arith, before))
 
   -- no rule refuses
-  pub none_refuses : IsSound w → ((m : ℕ) → IsDefaultMethod w m → ⊥) → (row : ℕ) → IsEntry w row → (j : LinkKind) (m : ℕ) → RefusesWhole w j m → ⊥
-  none_refuses sound plain row entry rule.DuplicateClass m r = sound.single m r
-  none_refuses sound plain row entry rule.UnknownParent m r = sound.known m r
-  none_refuses sound plain row entry rule.CyclicClass m r = sound.acyclic m r
-  none_refuses sound plain row entry rule.DefaultMethod m r = plain m r
-  none_refuses sound plain row entry rule.NoEntry m r = r.1 row entry
-  none_refuses sound plain row entry j m r = r
+  pub none_refuses : IsSound w → (row : ℕ) → IsEntry w row → (j : LinkKind) (m : ℕ) → RefusesWhole w j m → ⊥
+  none_refuses sound row entry rule.DuplicateClass m r = sound.single m r
+  none_refuses sound row entry rule.UnknownParent m r = sound.known m r
+  none_refuses sound row entry rule.CyclicClass m r = sound.acyclic m r
+  none_refuses sound row entry rule.NoEntry m r = r.1 row entry
+  none_refuses sound row entry j m r = r

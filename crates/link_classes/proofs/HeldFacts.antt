@@ -1,16 +1,12 @@
 -- What follows from what is kept of the classes.
-use Rattle.std.proofs.Common.{◌≡◌, ℕ, ◌<◌, ◌≤◌, ◌⊎◌, All, List, Option, Some, None, IfNone, IfSome, Err, length, slice_get, get_or, refl, sym, ap, subst, ◌∙◌, inl, inr, arith}
+use Rattle.std.proofs.Common.{◌≡◌, ℕ, ◌<◌, ◌≤◌, ◌⊎◌, List, Option, Some, None, IfNone, IfSome, Err, length, refl, sym, ap, subst, inl, inr, arith}
 use Rattle.std.specs.declared.result.Result.{Result}
-use Rattle.std.specs.Option.{option_map}
 use Rattle.std.proofs.lemmas.Bool.{cases_order}
-use Rattle.std.proofs.lemmas.Option.{slice_get-get_or, slice_get-map}
 use Rattle.class_tree.specs.Rows.{Step}
-use Rattle.link_rules.specs.Classes.{DeclaredClass, IsNamed, methods_of}
+use Rattle.link_rules.specs.Classes.{IsNamed}
 use Rattle.link_rules.specs.World.{AreRows, World}
-use Rattle.link_classes.specs.declared.seen.MethodIn.{MethodIn}
 use Rattle.link_classes.specs.RowTables.{IsSound}
-use Rattle.link_classes.specs.Seen.{IsFirstNamed, seen_method, seen_methods}
-use Rattle.link_classes.proofs.NumberedMembers.{method_class}
+use Rattle.link_classes.specs.Seen.{IsFirstNamed}
 
 -- the first class of a name is the only one
 pub single_named : (w : World) → IsSound w → (text : List ℕ) (o : Option ℕ) → IsFirstNamed w.classes text o
@@ -42,15 +38,6 @@ step_to w sound rows a b step = elim (below_or_not b (length w.rows.classes)) [
   | inl below ↦ omega (arith, below, rows.class_rows.as_many)
   | inr beyond ↦ absurd (sound.known a (b, step, beyond))
 ]
-
--- the class of each method is there
-pub methods_named : (classes : List DeclaredClass) (ms : List MethodIn) → seen_methods ms ≡ methods_of classes → (n : ℕ) → n ≡ length classes
-    → All (λ (m : MethodIn). m.class < n) ms
-methods_named classes ms same n counted k d below =
-    let there : slice_get (methods_of classes) k ≡ Some (seen_method (get_or ms k d)) =
-    subst (λ xs. slice_get xs k ≡ Some (seen_method (get_or ms k d))) same
-    (slice_get-map seen_method ms k ∙ ap (option_map seen_method) (slice_get-get_or ms k d below)) in
-    omega (arith, method_class classes k (seen_method (get_or ms k d)) there, counted)
 
 -- a fact of an option's value, and of its lack
 pub if_some : {X : Type 0} (o : Option X) (P : X → Type 0) → ((x : X) → o ≡ Some x → P x) → IfSome o P

@@ -2,6 +2,7 @@
 ghost use Rattle.std.specs.Prelude.{◌≡◌, ◌≤◌, ◌<◌, ◌↔◌, ℕ, List, Some, Err, All, IfOk, IfNone, IfSome, IsTrue, length, slice_get};
 ghost use Rattle.jim_ast.specs.declared.names.NameId.{NameId as ANameId};
 ghost use Rattle.link_rules.specs.declared.refusal.LinkKind.{LinkKind as AKind};
+ghost use Rattle.link_rules.specs.declared.refusal.LinkKind.TheVariants as rule;
 ghost use Rattle.class_tree.specs.Rows.{Step};
 ghost use Rattle.link_rules.specs.Classes.{DeclaredClass, IsNamed, class_name, fields_of, methods_of};
 ghost use Rattle.link_rules.specs.Conditions.{IsRead, field_sig_names, method_sig_names, AreWithin};
@@ -18,7 +19,6 @@ ghost use Rattle.link_classes.specs.Seen.{seen_class, seen_field, seen_method};
 
 use super::bodies::{declared_body, field_number, initializer_number, main_number, method_number};
 use super::checks::checked_tree;
-use super::defaults::first_default;
 use super::instantiable::is_instantiable;
 use super::keys::{field_key_in, method_key_in};
 use super::member_tables::{FieldTable, MethodTable};
@@ -51,13 +51,6 @@ impl From<AllocError> for NoClasses {
     fn from(_error: AllocError) -> Self {
         NoClasses::NoMemory
     }
-}
-
-/// A rule that refuses the program as a whole, at a class or a method.
-#[derive(Clone, Copy, Debug, PartialEq, Eq)]
-pub struct Refused {
-    pub kind: LinkKind,
-    pub number: u32,
 }
 
 /// The root: its names by their numbers among all names, and what it declares.
@@ -151,27 +144,13 @@ impl<'a> Classes<'a> {
         })
     }
 
-    /// What the other two rules of the program refuse first: a default method, or that there is no entry.
-    pub fn refusal(&self) -> Option<Refused>
-        ensures some { IfSome result (λ r. IsFirst self.now.world (whole r.kind r.number)) }
-        ensures none { IfNone result ((kind : AKind) (number : ℕ) → RefusesWhole self.now.world kind number → ⊥) }
+    /// Whether there is a method to begin with, as the last rule of the program asks.
+    pub fn has_entry(&self) -> bool
+        ensures passed { IsTrue result → (kind : AKind) (number : ℕ) → RefusesWhole self.now.world kind number → ⊥ }
+        ensures refused { (IsTrue result → ⊥) → IsFirst self.now.world (whole rule.NoEntry 0) }
     {
-        if let Some(number) = first_default(
-            self.order.classes.as_slice(),
-            self.methods.as_slice(),
-        ) {
-            return Some(Refused {
-                kind: LinkKind::DefaultMethod,
-                number,
-            });
-        }
-        match self.entry_row() {
-            Some(_) => None,
-            None => Some(Refused {
-                kind: LinkKind::NoEntry,
-                number: 0,
-            }),
-        }
+        let _inside = &self.order;
+        self.entry_row().is_some()
     }
 
     // The method that the program begins with.

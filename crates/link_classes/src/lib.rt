@@ -5,7 +5,6 @@
 mod bodies;
 mod checks;
 mod classes;
-mod defaults;
 mod instantiable;
 mod keys;
 mod member_tables;
@@ -19,7 +18,7 @@ mod rows;
 mod seen;
 mod tables;
 
-pub use classes::{Classes, NoClasses, Refused, Root, root_method};
+pub use classes::{Classes, NoClasses, Root, root_method};
 pub use names::AllNames;
 pub use order::ClassOrder;
 pub use seen::{ClassIn, FieldIn, MethodIn};

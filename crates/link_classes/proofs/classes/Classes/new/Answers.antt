@@ -11,7 +11,7 @@ use Rattle.link_classes.specs.Numbered.{AreNumbers, fixed_names}
 use Rattle.link_classes.specs.RowTables.{IsSound, world_in}
 use Rattle.link_classes.specs.Seen.{seen_classes, seen_method}
 use Rattle.link_classes.specs.Tables.{KnowsMethods}
-use Rattle.link_classes.proofs.FirstRefusals.{none_below_4}
+use Rattle.link_classes.proofs.FirstRefusals.{none_below_5}
 use Rattle.link_classes.proofs.HeldFacts.{same_error}
 use Rattle.link_classes.proofs.classes.Classes.new.Goals as goal
 
@@ -58,4 +58,4 @@ invariant_of-result c =
 pub returns-clause-passed : goal.returns-clause-passed
 returns-clause-passed c = λ kind number among refuses.
     let sound = subst (λ (r : Rows). IsSound (world_of c.in_ok-order.order r c.args.entry.now)) (sym c.in_ok-tree.ensures.tree) (c.in_ok-tree.ensures.sound c.args.entry.now) in
-    none_below_4 (world_of c.in_ok-order.order c.in_ok-tree.tree c.args.entry.now) sound kind number refuses (omega (arith, among))
+    none_below_5 (world_of c.in_ok-order.order c.in_ok-tree.tree c.args.entry.now) sound kind number refuses (omega (arith, among))
