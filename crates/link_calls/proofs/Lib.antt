@@ -1,4 +1,4 @@
-pub mod Found
+pub mod Below
 pub mod Keys
 pub mod Pairs
 pub mod Selecting

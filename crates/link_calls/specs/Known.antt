@@ -1,28 +1,32 @@
 -- What is known of calls on objects.
-use Rattle.std.specs.Prelude.{ℕ, ◌==◌, ◌&&◌, Bool, Option, IfSome}
-use Rattle.std.specs.Global.{Vec}
+use Rattle.std.specs.Prelude.{◌≡◌, ◌↔◌, ℕ, ◌==◌, ◌&&◌, Bool, List, [], ◌∷◌, Option, Some, None, IfSome, IsTrue}
 use Rattle.std.specs.HashMap as hash
 use Rattle.jim_ast.specs.declared.syntax.Mode.{Mode}
-use Rattle.jim_ast.specs.declared.syntax.Mode.TheVariants.{Special, Virtual, Interface, Static}
+use Rattle.jim_ast.specs.declared.syntax.Mode.TheVariants.{Virtual}
+use Rattle.link_rules.specs.Faults.{FindsSeveral}
 use Rattle.link_rules.specs.Targets.{AreTargetRows}
 use Rattle.link_rules.specs.World.{World}
+use Rattle.link_calls.specs.declared.finding.Found.{Found}
 use Rattle.link_calls.specs.declared.targets.Asked.{Asked}
 use Rattle.link_calls.specs.declared.targets.Known.{Known}
+
+-- the row alone, or nothing
+abbrev pub HasAtMost : Option ℕ → List ℕ → Type 0
+HasAtMost (Some row) rows = rows ≡ row ∷ []
+HasAtMost None rows = rows ≡ []
+
+-- the methods that a call may run, and whether several default methods are there for it
+pub record IsFound (w : World) (mode : Mode) (class key : ℕ) (found : Found) : Type 0 where
+  pub targets : AreTargetRows w mode class key found.rows.items
+  pub is_several : IsTrue found.several ↔ FindsSeveral w mode class key
 
 abbrev pub is_same_pair : Asked → Asked → Bool
 is_same_pair a b = (a.class == b.class) && (a.key == b.key)
 
 -- what is known of a class and a key
-abbrev pub known_at : Known → ℕ → ℕ → Option (Vec ℕ)
-known_at known class key = hash.get is_same_pair known.rows (record { class = class; key = key })
+abbrev pub known_at : Known → ℕ → ℕ → Option Found
+known_at known class key = hash.get is_same_pair known.found (record { class = class; key = key })
 
--- what is known are the methods that a call on an object may run
+-- what is known is what a call on an object runs
 abbrev pub AreKnown : World → Known → Type 0
-AreKnown w known = (class key : ℕ) → IfSome (known_at known class key) (λ rows. AreTargetRows w Virtual class key rows.items)
-
--- a call of this mode runs what is found from the class that it names
-abbrev pub FindsByName : Mode → Type 0
-FindsByName Static = Unit {0}
-FindsByName Special = Unit {0}
-FindsByName Virtual = ⊥
-FindsByName Interface = ⊥
+AreKnown w known = (class key : ℕ) → IfSome (known_at known class key) (IsFound w Virtual class key)

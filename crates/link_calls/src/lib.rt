@@ -2,7 +2,10 @@
 #![tactic(auto)]
 
 mod fields;
+mod finding;
+mod selection;
 mod targets;
 
 pub use fields::find_field;
+pub use finding::Found;
 pub use targets::Targets;

@@ -1,14 +1,12 @@
 //! The methods that calls may run.
-ghost use Rattle.std.specs.Prelude.{◌≡◌, ◌<◌, ◌+◌, ℕ, All, IfOk, IfSome, IfNone, OnOk, length, Some};
-ghost use Rattle.class_tree.specs.Lookups.{Resolve};
-ghost use Rattle.link_rules.specs.Targets.{AreTargetRows, Selects};
-ghost use Rattle.jim_ast.specs.declared.syntax.Mode.{Mode as AMode};
+ghost use Rattle.std.specs.Prelude.{◌≡◌, ◌<◌, All, IfOk, IfSome, length};
+ghost use Rattle.link_rules.specs.Targets.{AreTargetRows};
 ghost use Rattle.jim_ast.specs.declared.syntax.Mode.TheVariants.{Virtual};
-ghost use Rattle.link_calls.specs.Known.{AreKnown, FindsByName};
+ghost use Rattle.link_calls.specs.Known.{AreKnown, IsFound};
 ghost use Rattle.link_rules.specs.World.{AreRows, World as AWorld};
 ghost use Rattle.link_rules.specs.Classes.{methods_of};
 
-use indexmap::IndexSet;
+use super::finding::{Found, by_name, by_objects, by_path};
 use jim_ast::{Mode, NoMemory};
 use link_classes::Classes;
 use std::alloc::Global;
@@ -25,7 +23,7 @@ struct Asked {
 /// What is known of calls on objects.
 #[derive(Drop)]
 struct Known {
-    rows: HashMap<Asked, Vec<u32>>,
+    found: HashMap<Asked, Found>,
 }
 
 impl Known {
@@ -34,22 +32,22 @@ impl Known {
         ensures { (w : AWorld) → AreKnown w result }
     {
         Known {
-            rows: HashMap::new(alloc),
+            found: HashMap::new(alloc),
         }
     }
 
     // What is known of the pair.
-    fn get(&self, class: u32, key: u32) -> Option<&Vec<u32>>
-        ensures { (w : AWorld) → AreKnown w self.now → IfSome result (λ rows. AreTargetRows w Virtual class key rows.now.items) }
+    fn get(&self, class: u32, key: u32) -> Option<&Found>
+        ensures { (w : AWorld) → AreKnown w self.now → IfSome result (λ found. IsFound w Virtual class key found.now) }
     {
-        self.rows.get(&Asked { class, key })
+        self.found.get(&Asked { class, key })
     }
 
     // Keeps what is known of the pair.
-    fn put(&mut self, class: u32, key: u32, rows: Vec<u32>) -> Result<(), NoMemory>
-        ensures { (w : AWorld) → AreKnown w self.old → AreTargetRows w Virtual class key rows.items → AreKnown w self.new }
+    fn put(&mut self, class: u32, key: u32, found: Found) -> Result<(), NoMemory>
+        ensures { (w : AWorld) → AreKnown w self.old → IsFound w Virtual class key found → AreKnown w self.new }
     {
-        self.rows.insert(Asked { class, key }, rows)?;
+        self.found.insert(Asked { class, key }, found)?;
         Ok(())
     }
 }
@@ -72,46 +70,6 @@ impl<'a> Model for Targets<'a> {
     ghost view = { λ t. t.classes.now };
 
     ghost invariant = { λ t. AreKnown t.classes.now.world t.known };
-}
-
-// The method that an object of the class `receiver` runs, where it may have objects and is below the class.
-fn selected(classes: &Classes, class: u32, key: u32, receiver: u32) -> Option<u32>
-    requires class { class < length classes.now.world.classes }
-    requires receiver { receiver < length classes.now.world.classes }
-    ensures some { IfSome result (Selects classes.now.world class key receiver) }
-    ensures none { IfNone result ((row : ℕ) → Selects classes.now.world class key receiver row → ⊥) }
-{
-    let tree = classes.tree();
-    if classes.is_instantiable(receiver) && tree.sub(receiver, class) {
-        return tree.resolve(receiver, key);
-    }
-    None
-}
-
-// The methods that objects below the class select, in the order of the classes that select them first.
-fn by_objects(alloc: Global, classes: &Classes, class: u32, key: u32) -> Result<Vec<u32>, NoMemory>
-    requires { class < length classes.now.world.classes }
-    ensures { IfOk result (λ rows. AreTargetRows classes.now.world Virtual class key rows.items) }
-{
-    let mut rows = IndexSet::new(alloc);
-    for receiver in 0..classes.class_count() {
-        if let Some(row) = selected(classes, class, key, receiver) {
-            rows.insert(row)?;
-        }
-    }
-    Vec::from_slice(alloc, rows.as_slice())
-}
-
-// What is found from the class that the call names.
-fn by_name(alloc: Global, classes: &Classes, class: u32, key: u32) -> Result<Vec<u32>, NoMemory>
-    requires { class < length classes.now.world.classes }
-    ensures { IfOk result (λ rows. (mode : AMode) → FindsByName mode → AreTargetRows classes.now.world mode class key rows.items) }
-{
-    let mut rows = Vec::new(alloc);
-    if let Some(row) = classes.tree().resolve(class, key) {
-        rows.push(row)?;
-    }
-    Ok(rows)
 }
 
 // The rows are those of the classes.
@@ -140,19 +98,34 @@ impl<'a> Targets<'a> {
         self.classes
     }
 
-    // The methods that a call on an object may run.
-    fn of_objects(&mut self, class: u32, key: u32) -> Result<Vec<u32>, NoMemory>
+    // What a call on an object runs.
+    fn of_objects(&mut self, class: u32, key: u32) -> Result<Found, NoMemory>
         requires { class < length self.old.world.classes }
-        ensures rows { IfOk result (λ rows. AreTargetRows self.old.world Virtual class key rows.items) }
+        ensures found { IfOk result (IsFound self.old.world Virtual class key) }
         ensures same { self.new ≡ self.old }
     {
-        if let Some(rows) = self.known.get(class, key) {
-            return rows.clone();
+        if let Some(found) = self.known.get(class, key) {
+            return found.copy();
         }
-        let rows = by_objects(self.alloc, self.classes, class, key)?;
-        let copy = rows.clone()?;
-        self.known.put(class, key, rows)?;
+        let found = by_objects(self.alloc, self.classes, class, key)?;
+        let copy = found.copy()?;
+        self.known.put(class, key, found)?;
         Ok(copy)
+    }
+
+    /// What a call of this mode, class and key may run, and whether several default methods are there for it: the caller's own.
+    pub fn found(&mut self, mode: Mode, class: u32, key: u32) -> Result<Found, NoMemory>
+        requires { class < length self.old.world.classes }
+        ensures found { IfOk result (IsFound self.old.world mode class key) }
+        ensures within { IfOk result (λ found. All (λ row. row < length (methods_of self.old.world.classes)) found.rows.items) }
+        ensures same { self.new ≡ self.old }
+    {
+        tell_rows(self.classes);
+        match mode {
+            Mode::Static => by_path(self.alloc, self.classes, class, key),
+            Mode::Special => by_name(self.alloc, self.classes, class, key),
+            Mode::Virtual | Mode::Interface => self.of_objects(class, key),
+        }
     }
 
     /// The rows of the methods that a call of this mode, class and key may run, each once, in the order of the classes that select them first: a
@@ -163,10 +136,7 @@ impl<'a> Targets<'a> {
         ensures within { IfOk result (λ rows. All (λ row. row < length (methods_of self.old.world.classes)) rows.items) }
         ensures same { self.new ≡ self.old }
     {
-        tell_rows(self.classes);
-        match mode {
-            Mode::Static | Mode::Special => by_name(self.alloc, self.classes, class, key),
-            Mode::Virtual | Mode::Interface => self.of_objects(class, key),
-        }
+        let found = self.found(mode, class, key)?;
+        Ok(found.rows)
     }
 }

@@ -1,6 +1,6 @@
 use Rattle.std.proofs.Common.{subst}
 use Rattle.class_tree.specs.Lookups.{FieldOf}
-use Rattle.link_calls.proofs.Found.{found_below}
+use Rattle.link_calls.proofs.Below.{found_below}
 use Rattle.link_calls.proofs.fields.find_field.Goals as goal
 
 pub returns-clause-within : goal.returns-clause-within

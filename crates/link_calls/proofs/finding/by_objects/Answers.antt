@@ -1,22 +1,34 @@
-use Rattle.std.proofs.Common.{IfOk, ◌≡◌, sym, subst, eqb, eqb-true, eq-eqb, refl, arith}
+use Rattle.std.proofs.Common.{refl, sym, subst, ◌∙◌, eqb, eqb-true, eq-eqb, arith}
 use Rattle.jim_ast.specs.Lists.{Adds}
+use Rattle.link_calls.specs.Selected.{IsSelected}
 use Rattle.link_calls.proofs.Keys.{Adds-insert_key}
-use Rattle.link_calls.proofs.Selecting.{selected_next, selected_same, found_ok}
-use Rattle.link_calls.proofs.targets.by_objects.Goals as goal
-use Rattle.link_calls.proofs.targets.by_objects.Goals.{in-Some+in_ok-insert, in_default}
+use Rattle.link_calls.proofs.Selecting.{found_of_all, selected_next, selected_same, selected_several}
+use Rattle.link_calls.proofs.finding.by_objects.Goals as goal
+use Rattle.link_calls.proofs.finding.by_objects.Goals.{in-Method+in_ok-insert-in-Method, in-Several, in-Nothing}
 
 pub loop-receiver-preserved : goal.loop-receiver-preserved
-loop-receiver-preserved c = elim c.match-selected.branch [
-  | in-Some+in_ok-insert w ↦
-      let w0 = c.args.classes.now.world in
-      let adds : Adds c.loop-receiver.rows.keys w.in-Some.row w.insert.new.self.keys =
-      subst (Adds c.loop-receiver.rows.keys w.in-Some.row) (sym w.in_ok-insert.ensures.keys) (Adds-insert_key eqb eqb-true (λ x. eq-eqb x x refl) c.loop-receiver.rows.keys w.in-Some.row) in
-      let next = selected_next w0 c.args.class c.args.key c.loop-receiver.receiver w.in-Some.row c.loop-receiver.rows.keys w.insert.new.self.keys c.loop-receiver.invariant w.in-Some.ensures.some adds in
-      rw w.rows-is next
-  | in_default w ↦
-      let same = selected_same c.args.classes.now.world c.args.class c.args.key c.loop-receiver.receiver c.loop-receiver.rows.keys w.in_default.ensures.none c.loop-receiver.invariant in
-      rw w.rows-is same
-]
+loop-receiver-preserved c =
+    let w0 = c.args.classes.now.world in
+    let class = c.args.class in
+    let key = c.args.key in
+    let at = c.loop-receiver in
+    elim c.match-selected.branch [
+      | in-Method+in_ok-insert-in-Method w ↦
+          let adds : Adds at.rows.keys w.in-Method.row w.insert.new.self.keys =
+          subst (Adds at.rows.keys w.in-Method.row) (sym w.in_ok-insert-in-Method.ensures.keys) (Adds-insert_key eqb eqb-true (λ x. eq-eqb x x refl) at.rows.keys w.in-Method.row) in
+          let selects = subst (IsSelected w0 class key at.receiver) w.in-Method.is c.selected.ensures in
+          let next = selected_next w0 class key at.receiver w.in-Method.row at.rows.keys w.insert.new.self.keys at.several at.invariant selects.0 adds selects.1 in
+          rw (w.rows-is, w.several-is) next
+      | in-Several w ↦
+          let selects = subst (IsSelected w0 class key at.receiver) w.in-Several.is c.selected.ensures in
+          rw (w.rows-is, w.several-is) (selected_several w0 class key at.receiver at.rows.keys at.several selects at.invariant)
+      | in-Nothing w ↦
+          let selects = subst (IsSelected w0 class key at.receiver) w.in-Nothing.is c.selected.ensures in
+          rw (w.rows-is, w.several-is) (selected_same w0 class key at.receiver at.rows.keys at.several selects at.invariant)
+    ]
 
 pub returns : goal.returns
-returns c = found_ok c.args.classes.now.world c.args.class c.args.key c.loop-receiver.receiver c.loop-receiver.rows.keys c.from_slice.result (omega (arith, c.loop-receiver-test.false, c.loop-receiver.auto.receiver-end, c.class_count-receiver-end.ensures)) c.loop-receiver.invariant (subst (λ ks. IfOk c.from_slice.result (λ v. v.items ≡ ks)) c.as_slice.ensures.keys c.from_slice.ensures.items)
+returns c =
+    let at = c.loop-receiver in
+    found_of_all c.args.classes.now.world c.args.class c.args.key at.receiver at.rows.keys at.several _
+    (omega (arith, c.loop-receiver-test.false, at.auto.receiver-end, c.class_count-receiver-end.ensures)) at.invariant (c.in_ok-rows.ensures.items ∙ c.as_slice.ensures.keys) refl

@@ -1,0 +1,40 @@
+//! The method that an object of one class runs.
+ghost use Rattle.std.specs.Prelude.{◌<◌, length};
+ghost use Rattle.link_calls.specs.Selected.{IsSelected, IsSelection};
+
+use link_classes::Classes;
+
+/// What selection from a class gives.
+#[derive(Clone, Copy, Debug, PartialEq, Eq)]
+pub(crate) enum Selection {
+    /// No method, or no class to select one.
+    Nothing,
+    Method(u32),
+    /// Several default methods, of which none is the most specific.
+    Several,
+}
+
+// What is selected from the class.
+pub(crate) fn select(classes: &Classes, class: u32, key: u32) -> Selection
+    requires { class < length classes.now.world.classes }
+    ensures { IsSelection classes.now.world.rows class key result }
+{
+    let tree = classes.tree();
+    match tree.resolve(class, key) {
+        Some(row) => Selection::Method(row),
+        None if tree.ambiguous(class, key) => Selection::Several,
+        None => Selection::Nothing,
+    }
+}
+
+// What an object of the class `receiver` selects, where it may have objects and is below the class.
+pub(crate) fn selected(classes: &Classes, class: u32, key: u32, receiver: u32) -> Selection
+    requires class { class < length classes.now.world.classes }
+    requires receiver { receiver < length classes.now.world.classes }
+    ensures { IsSelected classes.now.world class key receiver result }
+{
+    if classes.is_instantiable(receiver) && classes.tree().sub(receiver, class) {
+        return select(classes, receiver, key);
+    }
+    Selection::Nothing
+}
