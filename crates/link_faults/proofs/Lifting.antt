@@ -22,7 +22,7 @@ use Rattle.link_rules.specs.Targets.{CallAt}
 use Rattle.link_rules.specs.World.{World}
 use Rattle.link_faults.specs.Progress.{RefusesBody}
 use Rattle.link_faults.specs.Parts.{AreNamed, plain_call}
-use Rattle.link_faults.specs.Sites.{AssignsVoid, FindsNo, HasWrongCount, IsBadIdentity, IsMissing, IsNested, IsNestedExpr, IsNotConcrete, IsRet, IsUndeclared, IsUndeclaredCall, IsVoidCall, IsVoidExpr, RefusesStmt, RunsNative}
+use Rattle.link_faults.specs.Sites.{AssignsVoid, FindsNo, HasWrongCount, IsAmbiguousCall, IsBadIdentity, IsMissing, IsNested, IsNestedExpr, IsNotConcrete, IsRet, IsUndeclared, IsUndeclaredCall, IsVoidCall, IsVoidExpr, RefusesStmt, RunsNative}
 use Rattle.link_faults.proofs.BodyFaults.{one_body}
 use Rattle.link_faults.proofs.StmtParts.{and_some, is_call_of, missing_by_parts, missing_local, plain_call_is, some_and}
 
@@ -110,6 +110,9 @@ module _ (w : World) (m : DeclaredMethod) (body : Body) (in_body : HasBody m bod
       let runs = c.2.1 in
       let native = c.2.2 in
       record { row = c.2.0; calls = record { names = named_call s there c.0 c.1 runs.0 runs.1 runs.2; runs = runs.3 }; callee = native.0; there = native.1; native = native.2 }
+  refuses_at s there rule.AmbiguousDefault h =
+      let c = some_and (plain_call s) (IsAmbiguousCall w m.names) h in
+      (named_call s there c.0 c.1 c.2.0 c.2.1 c.2.2, c.2.3)
   refuses_at s there _ h = absurd h
 
   -- a statement of the method is one of the body
@@ -178,6 +181,8 @@ module _ (w : World) (m : DeclaredMethod) (body : Body) (in_body : HasBody m bod
       let c = h.calls.names in
       inr (refused rule.NativeCallee c.at.here (and_some (plain_call c.at.stmt) (RunsNative w m.names) c.at.call (plain_call_is c.at.stmt c.at.call c.at.is_call)
       (h.row, (c.class, c.key, names c, h.calls.runs), (h.callee, h.there, h.native))))
+  refused_there rule.AmbiguousDefault (c, h) =
+      inr (refused rule.AmbiguousDefault c.at.here (and_some (plain_call c.at.stmt) (IsAmbiguousCall w m.names) c.at.call (plain_call_is c.at.stmt c.at.call c.at.is_call) (c.class, c.key, names c, h)))
   refused_there _ h = absurd h
 
   -- and what refuses the body refuses the method

@@ -3,9 +3,10 @@ use Rattle.std.proofs.Common.{◌≡◌, ℕ, Bool, true, false, not, ◌<◌, �
 use Rattle.std.specs.Prelude.{◌↔◌}
 use Rattle.std.proofs.lemmas.Bool.{false≢true}
 use Rattle.std.proofs.lemmas.List.{get_or-map}
-use Rattle.class_tree.specs.Lookups.{FieldOf, Resolve}
+use Rattle.class_tree.specs.Lookups.{FieldOf, OnPath, Resolve}
 use Rattle.class_tree.specs.Rows.{Rows, Sub}
 use Rattle.class_tree.proofs.LawFacts.{look_up_one, path_one}
+use Rattle.class_tree.proofs.Selected.{selection_one}
 use Rattle.jim_ast.specs.declared.names.NameId.{NameId}
 use Rattle.jim_ast.proofs.Places.{slice_get-below}
 use Rattle.link_rules.specs.Classes.{DeclaredClass, IsDeclared, IsNamed, fields_of}
@@ -98,8 +99,14 @@ pub finds_no_none : (w : World) (names : List (List ℕ)) (a : Access) → Looks
 finds_no_none w names a none = no (λ (h : FindsNo w names a). none_named w.classes (text_of names a.sig.class) none (h.class, h.is_class))
 
 -- whether method look-up finds none
+none_found : (Finds : Option ℕ → Type 0) → ((r s : Option ℕ) → Finds r → Finds s → r ≡ s) → (o : Option ℕ) (b : Bool) → Finds o → is_some o ≡ not b → IsTrue b ↔ Finds None
+none_found Finds one None true finds e = yes finds
+none_found Finds one (Some row) false finds e = no (λ none. let same = one None (Some row) none finds in cc (same))
+none_found Finds one None false finds e = absurd (false≢true e)
+none_found Finds one (Some row) true finds e = absurd (true≢false e)
+
+pub path_none : (rows : Rows) (class key : ℕ) (o : Option ℕ) (b : Bool) → OnPath rows class key o → is_some o ≡ not b → IsTrue b ↔ OnPath rows class key None
+path_none rows class key o b finds e = none_found (OnPath rows class key) (λ r s p q. path_one rows class key r s p q) o b finds e
+
 pub resolve_none : (rows : Rows) (class key : ℕ) (o : Option ℕ) (b : Bool) → Resolve rows class key o → is_some o ≡ not b → IsTrue b ↔ Resolve rows class key None
-resolve_none rows class key None true finds e = yes finds
-resolve_none rows class key (Some row) false finds e = no (λ none. let same = path_one rows class key None (Some row) none finds in cc (same))
-resolve_none rows class key None false finds e = absurd (false≢true e)
-resolve_none rows class key (Some row) true finds e = absurd (true≢false e)
+resolve_none rows class key o b finds e = none_found (Resolve rows class key) (λ r s p q. selection_one rows class key r s p q) o b finds e

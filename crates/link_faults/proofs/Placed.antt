@@ -10,7 +10,7 @@ use Rattle.jim_ast.specs.declared.syntax.Stmt.{Stmt}
 use Rattle.jim_ast.specs.declared.syntax.Trap.{Trap}
 use Rattle.link_rules.specs.Classes.{methods_of}
 use Rattle.link_rules.specs.Conditions.{AreWithin, field_sig_names, method_names, stmt_names}
-use Rattle.link_rules.specs.Faults.{FindsNone}
+use Rattle.link_rules.specs.Faults.{FindsNone, FindsSeveral}
 use Rattle.link_rules.specs.Keys.{HasMethodKey, called_key}
 use Rattle.link_rules.specs.Statements.{HasBody, PlainCall, access_of}
 use Rattle.link_rules.specs.Targets.{MayRun}
@@ -26,7 +26,7 @@ use Rattle.link_faults.specs.AtSite.{IsSite, names_of, world_of}
 use Rattle.link_faults.specs.Callees.{IsCallWithin, IsCallee, IsCalleeIf, IsCalleeOf}
 use Rattle.link_faults.specs.Progress.{AsksForName}
 use Rattle.link_faults.specs.Parts.{AreNamed, plain_call, seen_access, seen_call}
-use Rattle.link_faults.specs.Sites.{IsNativeRow, IsUndeclaredCall, RunsNative, RunsRow}
+use Rattle.link_faults.specs.Sites.{IsAmbiguousCall, IsNativeRow, IsUndeclaredCall, RunsNative, RunsRow}
 use Rattle.link_rules.proofs.OneWorld.{first_or_one}
 use Rattle.link_faults.proofs.StmtParts.{some_and}
 use Rattle.link_faults.proofs.Within.{in_access, in_call, in_new, in_stmt, in_trap}
@@ -58,6 +58,12 @@ module _ (w : World) (names : List (List ℕ)) (c : PlainCall) (k : Callee) (s :
   native_by b is = (
     λ e. let h = is.0 e in (h.0, (runs_row h.0).0 h.1, h.2),
     λ (h : RunsNative w names c). is.1 (h.0, (runs_row h.0).1 h.1, h.2),
+  )
+
+  pub ambiguous_by : IsTrue k.several ↔ IsAmbiguousCall w names c
+  ambiguous_by = (
+    λ e. (k.class, k.key, s.named, s.is_several.0 e),
+    λ (h : IsAmbiguousCall w names c). s.is_several.1 (subst (λ a. FindsSeveral w c.mode a k.key) (named_class h.2) (subst (λ q. FindsSeveral w c.mode h.0 q) (named_key h.2) h.3)),
   )
 
 module _ (x : Site) (s : IsSite x) where

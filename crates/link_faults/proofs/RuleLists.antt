@@ -18,14 +18,14 @@ use Rattle.std.proofs.lemmas.Bool.{false≢true, true≢false}
 use Rattle.link_faults.proofs.Scans.{no, yes}
 
 -- the rules have the numbers from 8 on
-numbers : map number_of rules_of_stmts ≡ range_with_len 8 15
+numbers : map number_of rules_of_stmts ≡ range_with_len 8 16
 numbers = refl
 
 number_at : (i : ℕ) (kind : LinkKind) → slice_get rules_of_stmts i ≡ Some kind → number_of kind ≡ 8 + i
 number_at i kind is =
-    let below : i < 15 = slice_get-below rules_of_stmts i kind is in
+    let below : i < 16 = slice_get-below rules_of_stmts i kind is in
     let here = get_or_from_slice_get rules_of_stmts i kind kind is in
-    ap number_of (sym here) ∙ sym (get_or-map number_of rules_of_stmts i kind 0 below) ∙ ap (λ ns. get_or ns i 0) numbers ∙ get_or-range_with_len 8 15 i 0 below
+    ap number_of (sym here) ∙ sym (get_or-map number_of rules_of_stmts i kind 0 below) ∙ ap (λ ns. get_or ns i 0) numbers ∙ get_or-range_with_len 8 16 i 0 below
 
 -- a rule that refuses a statement stands there
 place_of : (x : Site) (kind : LinkKind) → Refuses x kind → (8 ≤ number_of kind) × (slice_get rules_of_stmts (number_of kind - 8) ≡ Some kind)
@@ -44,6 +44,7 @@ place_of x rule.AbstractNew h = (omega arith, refl)
 place_of x rule.UndeclaredCallee h = (omega arith, refl)
 place_of x rule.BadArguments h = (omega arith, refl)
 place_of x rule.NativeCallee h = (omega arith, refl)
+place_of x rule.AmbiguousDefault h = (omega arith, refl)
 place_of x _ h = absurd h
 
 -- the first of all rules on statements is the one with the least number
@@ -71,6 +72,7 @@ takes_place rule.UnknownClass h = (4, refl)
 takes_place rule.UndeclaredCallee h = (5, refl)
 takes_place rule.BadArguments h = (6, refl)
 takes_place rule.NativeCallee h = (7, refl)
+takes_place rule.AmbiguousDefault h = (8, refl)
 takes_place _ h = absurd h
 
 pub keeps_by : (x : Site) (o : Option LinkKind) (b : Bool) → IsFirstAmong x rules_of_targets o → is_some o ≡ not b → IsTrue b ↔ Keeps x

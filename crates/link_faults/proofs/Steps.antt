@@ -136,6 +136,7 @@ module _ (w : World) (m : DeclaredMethod) (body : Body) (in_body : HasBody m bod
   not_beside i rule.UndeclaredCallee takes below h = h
   not_beside i rule.BadArguments takes below h = h
   not_beside i rule.NativeCallee takes below h = h
+  not_beside i rule.AmbiguousDefault takes below h = h
   not_beside i _ takes below h = absurd takes
 
   -- the targets of the statement's call are those of the method there
@@ -268,6 +269,7 @@ module _ (w : World) (m : DeclaredMethod) where
   refused_in i rule.BadArguments (inl h) = (h.0.here.body, h.0.here.in_body)
   refused_in i rule.BadArguments (inr h) = (h.here.body, h.here.in_body)
   refused_in i rule.NativeCallee h = let c = h.calls.names.at in (c.here.body, c.here.in_body)
+  refused_in i rule.AmbiguousDefault h = (h.0.at.here.body, h.0.at.here.in_body)
   refused_in i _ h = absurd h
 
   asked_in : (i : ℕ) (name : List ℕ) → Touches m i name → (body : Body) × HasBody m body

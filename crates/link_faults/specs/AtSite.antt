@@ -81,6 +81,7 @@ rules_of_stmts = rule.UnknownLabel
     ∷ rule.UndeclaredCallee
     ∷ rule.BadArguments
     ∷ rule.NativeCallee
+    ∷ rule.AmbiguousDefault
     ∷ []
 
 -- the rules that take a call its targets
@@ -93,6 +94,7 @@ rules_of_targets = rule.UnknownLocal
     ∷ rule.UndeclaredCallee
     ∷ rule.BadArguments
     ∷ rule.NativeCallee
+    ∷ rule.AmbiguousDefault
     ∷ []
 
 -- of the rules the first, by their places, that refuses the statement

@@ -20,7 +20,7 @@ use Rattle.link_rules.specs.declared.refusal.LinkKind.{LinkKind}
 use Rattle.link_rules.specs.declared.refusal.LinkKind.TheVariants as rule
 use Rattle.link_rules.specs.Bodies.{HasNoLabel, IsLabel, MayFollow}
 use Rattle.link_rules.specs.Classes.{DeclaredMethod, IsDeclared, IsNamed, fields_of, methods_of}
-use Rattle.link_rules.specs.Faults.{FindsNone, IsOfThreads, IsReflective}
+use Rattle.link_rules.specs.Faults.{FindsNone, FindsSeveral, IsOfThreads, IsReflective}
 use Rattle.link_rules.specs.Keys.{IsFieldKeyNumber, accessed_key}
 use Rattle.link_rules.specs.Names.{text_of}
 use Rattle.link_rules.specs.Statements.{Access, PlainCall, access_of, call_of, labels_of, new_of, operands}
@@ -124,6 +124,10 @@ pub record IsNotConcrete (w : World) (name : List ℕ) : Type 0 where
 abbrev pub IsUndeclaredCall : World → List (List ℕ) → PlainCall → Type 0
 IsUndeclaredCall w names c = (class : ℕ) × (key : ℕ) × AreNamed w names c class key × FindsNone w c.mode class key
 
+-- several default methods are there for the call
+abbrev pub IsAmbiguousCall : World → List (List ℕ) → PlainCall → Type 0
+IsAmbiguousCall w names c = (class : ℕ) × (key : ℕ) × AreNamed w names c class key × FindsSeveral w c.mode class key
+
 -- the call may run this method
 abbrev pub RunsRow : World → List (List ℕ) → PlainCall → ℕ → Type 0
 RunsRow w names c row = (class : ℕ) × (key : ℕ) × AreNamed w names c class key × MayRun w c.mode class key row
@@ -157,4 +161,5 @@ RefusesStmt w m body index s rule.AbstractNew = IsSomeAnd (new_of s) (λ class. 
 RefusesStmt w m body index s rule.UndeclaredCallee = IsSomeAnd (plain_call s) (IsUndeclaredCall w m.names)
 RefusesStmt w m body index s rule.BadArguments = IsSomeAnd (plain_call s) HasWrongCount ⊎ AssignsVoid s
 RefusesStmt w m body index s rule.NativeCallee = IsSomeAnd (plain_call s) (RunsNative w m.names)
+RefusesStmt w m body index s rule.AmbiguousDefault = IsSomeAnd (plain_call s) (IsAmbiguousCall w m.names)
 RefusesStmt w m body index s _ = ⊥

@@ -1,7 +1,8 @@
 //! What a call names and may run, and the rules on it.
 ghost use Rattle.std.specs.Prelude.{◌≡◌, ◌<◌, ◌↔◌, ℕ, None, All, IfOk, IsTrue, length};
-ghost use Rattle.class_tree.specs.Lookups.{Resolve};
+ghost use Rattle.class_tree.specs.Lookups.{OnPath, Resolve};
 ghost use Rattle.jim_ast.specs.Lists.{Has};
+ghost use Rattle.jim_ast.specs.declared.syntax.Mode.TheVariants.{Special};
 ghost use Rattle.link_rules.specs.Classes.{methods_of};
 ghost use Rattle.link_rules.specs.Conditions.{AreWithin, method_sig_names};
 ghost use Rattle.link_rules.specs.Faults.{FindsNone};
@@ -18,12 +19,13 @@ use link_calls::Targets;
 use link_classes::{Classes, MethodIn};
 use std::alloc::Global;
 
-/// The class and the key that a call names, and the methods that it may run.
+/// The class and the key that a call names, the methods that it may run, and whether several default methods are there for it.
 #[derive(Drop)]
 pub(crate) struct Callee {
     pub(crate) class: u32,
     pub(crate) key: u32,
     pub(crate) rows: Vec<u32>,
+    pub(crate) several: bool,
 }
 
 // What a call names and may run, where its class is declared.
@@ -43,16 +45,37 @@ pub(crate) fn callee_of(
         return Ok(None);
     };
     let key = classes.called(alloc, method.ids, call.mode, call.sig)?;
-    let rows = targets.rows(call.mode, class, key)?;
-    Ok(Some(Callee { class, key, rows }))
+    let found = targets.found(call.mode, class, key)?;
+    Ok(Some(Callee {
+        class,
+        key,
+        rows: found.rows,
+        several: found.several,
+    }))
 }
 
 // Whether look-up along the parents finds no method with a body.
+fn is_off_path(classes: &Classes, class: u32, key: u32) -> bool
+    requires { class < length classes.now.world.classes }
+    ensures { IsTrue result ↔ OnPath classes.now.world.rows class key None }
+{
+    classes.tree().on_path(class, key).is_none()
+}
+
+// Whether no method is selected from the class.
 fn resolves_none(classes: &Classes, class: u32, key: u32) -> bool
     requires { class < length classes.now.world.classes }
     ensures { IsTrue result ↔ Resolve classes.now.world.rows class key None }
 {
     classes.tree().resolve(class, key).is_none()
+}
+
+// Whether no method is there to be selected from the class: also not several of which none is.
+fn selects_none(classes: &Classes, class: u32, key: u32) -> bool
+    requires { class < length classes.now.world.classes }
+    ensures { IsTrue result ↔ FindsNone classes.now.world Special class key }
+{
+    resolves_none(classes, class, key) && !classes.tree().ambiguous(class, key)
 }
 
 // Whether a call of this mode finds no method.
@@ -61,8 +84,8 @@ pub(crate) fn finds_none(classes: &Classes, mode: Mode, class: u32, key: u32) ->
     ensures { IsTrue result ↔ FindsNone classes.now.world mode class key }
 {
     match mode {
-        Mode::Special => resolves_none(classes, class, key),
-        Mode::Static => resolves_none(classes, class, key),
+        Mode::Special => selects_none(classes, class, key),
+        Mode::Static => is_off_path(classes, class, key),
         Mode::Virtual => !classes.tree().declared(class, key),
         Mode::Interface => !classes.tree().declared(class, key),
     }

@@ -31,7 +31,7 @@ pub(crate) struct Site<'a, 'c> {
 }
 
 // The rules on statements, in their order.
-fn rules_of_statements() -> [LinkKind; 15]
+fn rules_of_statements() -> [LinkKind; 16]
     ensures { result ≡ rules_of_stmts }
 {
     [
@@ -50,11 +50,12 @@ fn rules_of_statements() -> [LinkKind; 15]
         LinkKind::UndeclaredCallee,
         LinkKind::BadArguments,
         LinkKind::NativeCallee,
+        LinkKind::AmbiguousDefault,
     ]
 }
 
 // The rules that take a call its targets.
-fn rules_of_targets() -> [LinkKind; 8]
+fn rules_of_targets() -> [LinkKind; 9]
     ensures { result ≡ rules_of_targets }
 {
     [
@@ -66,6 +67,7 @@ fn rules_of_targets() -> [LinkKind; 8]
         LinkKind::UndeclaredCallee,
         LinkKind::BadArguments,
         LinkKind::NativeCallee,
+        LinkKind::AmbiguousDefault,
     ]
 }
 
@@ -193,6 +195,17 @@ impl<'a, 'c> Site<'a, 'c> {
         }
     }
 
+    // Whether several default methods are there for the call.
+    fn finds_several(&self) -> bool
+        requires { IsSite self.now }
+        ensures { IsTrue result ↔ Refuses self.now rule.AmbiguousDefault }
+    {
+        match (&self.call, &self.callee) {
+            (Some(_), Some(callee)) => callee.several,
+            _ => false,
+        }
+    }
+
     // Whether the rule refuses the statement.
     fn is_refused_by(&self, kind: LinkKind) -> bool
         requires { IsSite self.now }
@@ -216,7 +229,13 @@ impl<'a, 'c> Site<'a, 'c> {
             LinkKind::UndeclaredCallee => self.finds_no_callee(),
             LinkKind::BadArguments => self.has_bad_arguments() || assigns_void(self.stmt),
             LinkKind::NativeCallee => self.runs_native(),
-            _ => false,
+            LinkKind::AmbiguousDefault => self.finds_several(),
+            LinkKind::DuplicateClass
+            | LinkKind::UnknownParent
+            | LinkKind::CyclicClass
+            | LinkKind::NoEntry
+            | LinkKind::DuplicateLocal
+            | LinkKind::DuplicateLabel => false,
         }
     }
 

@@ -13,8 +13,8 @@ returns-in_default-clause-callee c =
     let says = subst (λ (t : ClassTable). LooksUp t.world.classes name c.class_number.result) c.classes-classes.ensures c.class_number.ensures in
     none_named c.args.targets.now.world.classes name (subst (LooksUp c.args.targets.now.world.classes name) c.in_default.is says)
 
-pub rows-requires : goal.rows-requires
-rows-requires c =
+pub found-requires : goal.found-requires
+found-requires c =
     let name = text_of (seen_method c.args.method.now).names c.args.call.now.sig.now.class in
     let says = subst (λ (t : ClassTable). LooksUp t.world.classes name c.class_number.result) c.classes-classes.ensures c.class_number.ensures in
     named_below c.args.targets.now.world.classes name c.in-Some.class (subst (LooksUp c.args.targets.now.world.classes name) c.in-Some.is says)
@@ -31,6 +31,7 @@ returns-clause-callee c =
     record {
       named = record { is_class = named classes name c.in-Some.class says; is_key = is_key };
       only_class = only_named classes name c.in-Some.class says;
-      within = c.in_ok-rows.ensures.within;
-      rows = c.in_ok-rows.ensures.rows.each;
+      within = c.in_ok-found.ensures.within;
+      rows = c.in_ok-found.ensures.found.targets.each;
+      is_several = c.in_ok-found.ensures.found.is_several;
     }
