@@ -8,6 +8,7 @@ use Rattle.std.proofs.lemmas.Map.Made.{is_member-Decides}
 use Rattle.std.proofs.lemmas.Map.Steps.{length-le_from_distinct_below}
 use Rattle.std.proofs.lemmas.Option.{get_or_from_slice_get, slice_get-get_or}
 use Rattle.class_tree.proofs.LawFacts.{path_finds}
+use Rattle.class_tree.proofs.Selected.{selection_finds}
 use Rattle.jim_ast.proofs.Places.{slice_get-append_left, slice_get-below, slice_get-there}
 use Rattle.jim_ast.specs.declared.syntax.Mode.{Mode}
 use Rattle.jim_ast.specs.declared.syntax.Mode.TheVariants.{Special, Virtual, Interface, Static}
@@ -27,9 +28,9 @@ use Rattle.link_reach.specs.Search.{Finds, IsBounded, IsFound, IsSearched, left_
 module _ (w : World) (bounded : IsBounded w) where
   runs_within : (mode : Mode) (c key row : ℕ) → MayRun w mode c key row → row < length w.rows.methods
   runs_within Static c key row r = let m = path_finds w.rows c key row r in slice_get-below w.rows.methods row m.method m.there
-  runs_within Special c key row r = let m = path_finds w.rows c key row r in slice_get-below w.rows.methods row m.method m.there
-  runs_within Virtual c key row r = let m = path_finds w.rows r.0 key row r.1.finds in slice_get-below w.rows.methods row m.method m.there
-  runs_within Interface c key row r = let m = path_finds w.rows r.0 key row r.1.finds in slice_get-below w.rows.methods row m.method m.there
+  runs_within Special c key row r = let m = selection_finds w.rows c key row r in slice_get-below w.rows.methods row m.method m.there
+  runs_within Virtual c key row r = let m = selection_finds w.rows r.0 key row r.1.finds in slice_get-below w.rows.methods row m.method m.there
+  runs_within Interface c key row r = let m = selection_finds w.rows r.0 key row r.1.finds in slice_get-below w.rows.methods row m.method m.there
 
   row_within : (m : DeclaredMethod) (row : ℕ) → Runs w m row → row < length (methods_of w.classes)
   row_within m row r = let h = runs_within _ _ _ row r.1.calls.runs in omega (arith, h, bounded.methods)
