@@ -2,7 +2,7 @@
 use Rattle.std.proofs.Common.{◌≡◌, ◌≢◌, ℕ, ◌<◌, Bool, true, false, not, is_some, Option, Some, None, List, [], ◌∷◌, length, slice_get, refl, sym, ap, ◌∙◌, subst, inl, inr, arith}
 use Rattle.std.proofs.lemmas.Bool.{cases_eq}
 use Rattle.std.proofs.lemmas.List.{length-map}
-use Rattle.class_tree.specs.Lookups.{Resolve}
+use Rattle.class_tree.specs.Lookups.{OnPath, Resolve, on_path}
 use Rattle.class_tree.specs.Rows.{IsOwnAncestor, NamesUnknown}
 use Rattle.jim_ast.proofs.Places.{slice_get-below}
 use Rattle.jim_ast.specs.declared.names.NameId.{NameId}
@@ -16,7 +16,7 @@ use Rattle.link_rules.specs.declared.code.Arg.{Arg}
 use Rattle.link_rules.specs.declared.refusal.LinkKind.TheVariants as rule
 use Rattle.link_rules.specs.Classes.{DeclaredMethod, IsNamed, methods_of}
 use Rattle.link_rules.specs.Codes.{IsCall, IsMethodNumber}
-use Rattle.link_rules.specs.Faults.{FindsNone}
+use Rattle.link_rules.specs.Faults.{FindsNone, FindsSeveral}
 use Rattle.link_rules.specs.Keys.{HasMethodKey, HasReceiverByMode, IsMethodKeyNumber, MethodKey, called_key, is_static_mode, method_key}
 use Rattle.link_rules.specs.Linked.{IsLinkedRow, LinkedMethod, LinkedProgram, key_of, scope_of}
 use Rattle.link_rules.specs.Lists.{BothOrNone}
@@ -27,7 +27,7 @@ use Rattle.link_rules.specs.WellLinked.{FitsMode, SuitsCall}
 use Rattle.link_rules.specs.World.{World}
 use Rattle.link_laws.proofs.Lists.{each_left, each_right, map_at}
 use Rattle.link_laws.proofs.Members.{method_declared, method_found, method_key_has, method_key_unless}
-use Rattle.link_laws.proofs.Resolves.{resolves}
+use Rattle.link_laws.proofs.Resolves.{looks_up, resolves}
 use Rattle.link_laws.proofs.Stands.{IsMade, Stands, methods_many, row_at, stands_row}
 
 module _ (w : World) (p : LinkedProgram) (made : IsMade w p) where
@@ -43,31 +43,42 @@ module _ (w : World) (p : LinkedProgram) (made : IsMade w p) where
   class_below : (name : List ℕ) (n : ℕ) → IsNamed w.classes name n → n < length w.rows.classes
   class_below name n named = let below = slice_get-below w.classes n named.class named.there in let same = made.rows.class_rows.as_many in omega (arith, below, same)
 
-  -- a look-up that doesn't find nothing finds something
-  pub finds : (name : List ℕ) (class key : ℕ) → IsNamed w.classes name class → (Resolve w.rows class key None → ⊥)
+  -- a look-up along the parents that doesn't find nothing finds something
+  pub finds : (name : List ℕ) (class key : ℕ) → IsNamed w.classes name class → (OnPath w.rows class key None → ⊥)
+      → (row : ℕ) × OnPath w.rows class key (Some row)
+  finds name class key named refused = let r = looks_up w.rows known acyclic key class (class_below name class named) in by r.0 r.1
+    where
+      by : (o : Option ℕ) → OnPath w.rows class key o → (row : ℕ) × OnPath w.rows class key (Some row)
+      by None r = absurd (refused r)
+      by (Some row) r = (row, r)
+
+  -- so does a selection that doesn't find nothing, nor several
+  pub selects : (name : List ℕ) (class key : ℕ) → IsNamed w.classes name class → (FindsNone w Special class key → ⊥) → (FindsSeveral w Special class key → ⊥)
       → (row : ℕ) × Resolve w.rows class key (Some row)
-  finds name class key named refused = let r = resolves w.rows known acyclic key class (class_below name class named) in by r.0 r.1
+  selects name class key named refused settled = let r = resolves w.rows known acyclic key class (class_below name class named) in by r.0 r.1
     where
       by : (o : Option ℕ) → Resolve w.rows class key o → (row : ℕ) × Resolve w.rows class key (Some row)
-      by None r = absurd (refused r)
+      by None r = absurd (refused (r, settled))
       by (Some row) r = (row, r)
 
   -- the key of such a call is that of a method
   key_by_mode : (mode : Mode) (k : MethodKey) (name : List ℕ) (class key : ℕ) → IsNamed w.classes name class → (FindsNone w mode class key → ⊥)
-      → IsMethodKeyNumber (methods_of w.classes) k key → HasMethodKey (methods_of w.classes) k key
-  key_by_mode Static k name class key named refused given =
-      let r = finds name class key named refused in method_key_has (methods_of w.classes) k key r.0 (method_found w made.rows k class key r.0 r.1 given) given
-  key_by_mode Special k name class key named refused given =
-      let r = finds name class key named refused in method_key_has (methods_of w.classes) k key r.0 (method_found w made.rows k class key r.0 r.1 given) given
-  key_by_mode Virtual k name class key named refused given =
+      → (FindsSeveral w mode class key → ⊥) → IsMethodKeyNumber (methods_of w.classes) k key → HasMethodKey (methods_of w.classes) k key
+  key_by_mode Static k name class key named refused settled given =
+      let r = finds name class key named refused in
+      method_key_has (methods_of w.classes) k key r.0 (method_found w made.rows k class key r.0 (on_path r.1) given) given
+  key_by_mode Special k name class key named refused settled given =
+      let r = selects name class key named refused settled in
+      method_key_has (methods_of w.classes) k key r.0 (method_found w made.rows k class key r.0 r.1 given) given
+  key_by_mode Virtual k name class key named refused settled given =
       method_key_unless (methods_of w.classes) k key (λ none. refused (λ d. none key (method_declared w made.rows k class key d given))) given
-  key_by_mode Interface k name class key named refused given =
+  key_by_mode Interface k name class key named refused settled given =
       method_key_unless (methods_of w.classes) k key (λ none. refused (λ d. none key (method_declared w made.rows k class key d given))) given
 
   -- what a call may run has its key
   run_has_key : (mode : Mode) (k : MethodKey) (class key row : ℕ) → MayRun w mode class key row → IsMethodKeyNumber (methods_of w.classes) k key
       → HasMethodKey (methods_of w.classes) k row
-  run_has_key Static k class key row runs given = method_found w made.rows k class key row runs given
+  run_has_key Static k class key row runs given = method_found w made.rows k class key row (on_path runs) given
   run_has_key Special k class key row runs given = method_found w made.rows k class key row runs given
   run_has_key Virtual k class key row runs given = method_found w made.rows k runs.0 key row runs.1.finds given
   run_has_key Interface k class key row runs given = method_found w made.rows k runs.0 key row runs.1.finds given
@@ -111,9 +122,14 @@ module _ (w : World) (p : LinkedProgram) (made : IsMade w p) (m : DeclaredMethod
   unfolding at plain
   declared none = st.allowed index rule.UndeclaredCallee (at, none)
 
+  -- nor does the rule of several default methods
+  pub settled : FindsSeveral w mode class key → ⊥
+  unfolding at plain
+  settled several = st.allowed index rule.AmbiguousDefault (at, several)
+
   -- some method has its key
   key_has : HasMethodKey (methods_of w.classes) (called_key m.names mode sig) key
-  key_has = key_by_mode w p made mode (called_key m.names mode sig) _ class key call.is_class declared call.is_key
+  key_has = key_by_mode w p made mode (called_key m.names mode sig) _ class key call.is_class declared settled call.is_key
 
   -- the mode fits the receiver and the key
   pub mode_fits : (receiver : Option ℕ) → is_some y ≡ is_some receiver → HasReceiverByMode mode y → FitsMode p mode receiver key

@@ -27,7 +27,7 @@ use Rattle.link_rules.specs.Names.{text_of}
 use Rattle.link_rules.specs.Statements.{StmtAt, call_of}
 use Rattle.link_rules.specs.WellLinked.{FitsArg, FitsCode, IsLocalOf, IsWellLinkedCode}
 use Rattle.link_rules.specs.World.{World}
-use Rattle.link_laws.proofs.Calls.{both_some, declared, mode_fits, suits, target_below}
+use Rattle.link_laws.proofs.Calls.{both_some, declared, mode_fits, settled, suits, target_below}
 use Rattle.link_laws.proofs.Lists.{all_at, each_right}
 use Rattle.link_laws.proofs.Parts.{arg_fits, args_fit, class_fits, field_fits, local_fits, maybe_arg_fits, new_instantiable, receiver_fits, static_fits}
 use Rattle.link_laws.proofs.Stands.{IsMade, Stands}
@@ -67,7 +67,8 @@ module _ (w : World) (p : LinkedProgram) (made : IsMade w p) (m : DeclaredMethod
         (
           all_at _ targets (suits w p made m l st index s here mode y sig args is_call class key codes targets call receiver some has),
           one_target w p made mode (text_of m.names sig.class) class key call.rows targets call.is_class
-              (declared w p made m l st index s here mode y sig args is_call class key codes targets call) call.are_rows call.numbered.as_many,
+              (declared w p made m l st index s here mode y sig args is_call class key codes targets call)
+              (settled w p made m l st index s here mode y sig args is_call class key codes targets call) call.are_rows call.numbered.as_many,
         ),
       )
 

@@ -4,7 +4,8 @@ use Rattle.std.proofs.lemmas.List.Sums.{count_by_more_yes, sum_by-take-le}
 use Rattle.std.proofs.lemmas.Option.{get_or_from_slice_get}
 use Rattle.class_tree.specs.Lookups.{Declared, FieldOf, Resolve}
 use Rattle.class_tree.specs.declared.rows.MethodRow.{MethodRow}
-use Rattle.class_tree.proofs.LawFacts.{look_up_finds, path_finds}
+use Rattle.class_tree.proofs.LawFacts.{look_up_finds}
+use Rattle.class_tree.proofs.Selected.{selection_finds}
 use Rattle.jim_ast.proofs.Places.{slice_get-below}
 use Rattle.link_rules.specs.Classes.{DeclaredField, DeclaredMethod, fields_of, methods_of}
 use Rattle.link_rules.specs.Codes.{instance_number, static_number}
@@ -57,7 +58,7 @@ module _ (w : World) (rows : AreRows w.classes w.rows) where
   -- what is found by a key has it
   pub method_found : (k : MethodKey) (class n row : ℕ) → Resolve w.rows class n (Some row) → IsMethodKeyNumber (methods_of w.classes) k n
       → HasMethodKey (methods_of w.classes) k row
-  method_found k class n row finds given = let above = path_finds w.rows class n row finds in method_of_row k n row above.method above.there above.has_key given
+  method_found k class n row finds given = let above = selection_finds w.rows class n row finds in method_of_row k n row above.method above.there above.has_key given
 
   -- the key of a declared method is that of some method
   pub method_declared : (k : MethodKey) (class n : ℕ) → Declared w.rows class n → IsMethodKeyNumber (methods_of w.classes) k n

@@ -1,13 +1,14 @@
--- A look-up along the parents has an answer, where each parent is a class and no class is its own ancestor.
+-- Look-up along the parents, and the selection of a method, have an answer, where each parent is a class and no class is its own ancestor.
 use Rattle.std.proofs.Common.{◌≡◌, ℕ, zero, suc, ◌+◌, ◌<◌, ◌≤◌, ◌||◌, Bool, true, false, eqb, Option, Some, None, List, [], ◌∷◌, length, slice_get, refl, sym, subst, inl, inr, arith, eqb-true, true≢false}
 use Rattle.std.specs.List.{AllByRecursion, IsDistinct, list_any}
 use Rattle.std.proofs.lemmas.Bool.{cases_order}
 use Rattle.std.proofs.lemmas.Map.Keys.{IsDistinct-cons}
 use Rattle.std.proofs.lemmas.Map.Steps.{length-le_from_distinct_below}
-use Rattle.class_tree.specs.Lookups.{OnPath, Resolve, found, further, ended, own_body}
+use Rattle.class_tree.specs.Lookups.{OnPath, Resolve, ambiguous, by_default, ended, found, further, nowhere, on_path, own_body}
 use Rattle.class_tree.specs.Paths.{ProperPath, here, step}
 use Rattle.class_tree.specs.Rows.{HasParent, IsOwnAncestor, NamesUnknown, Rows, Step}
 use Rattle.class_tree.specs.declared.rows.ClassRow.{ClassRow}
+use Rattle.class_tree.proofs.Decided.{only_or_other, some_default_decided}
 use Rattle.class_tree.proofs.LawFacts.{sub_transitive}
 use Rattle.jim_ast.proofs.Places.{slice_get-there}
 
@@ -87,6 +88,24 @@ module _ (rows : Rows) (known : (a : ℕ) → NamesUnknown rows.classes rows.imp
           let above = rest p inside (start c p below h, all_map (Before c) (Before p) seen (λ d. longer c p d h) all) more (omega arith) in
           (above.0, further (sym is) h above.1)
 
+  -- a class of the rows has an answer along its parents
+  pub looks_up : (c : ℕ) → c < length rows.classes → (r : Option ℕ) × OnPath rows c key r
+  looks_up c below = walk (length rows.classes) c [] below tt distinct-none (omega arith)
+
+  -- where there is none along the parents, there is no default method, or one, or there are several
+  by_defaults : (c : ℕ) → OnPath rows c key None → (r : Option ℕ) × Resolve rows c key r
+  by_defaults c off = elim (some_default_decided rows c key) [
+    | inl one ↦ elim (only_or_other rows c key one.0 one.1) [
+      | inl only ↦ (Some one.0, by_default off one.1 only)
+      | inr other ↦ (None, ambiguous (record { off_path = off; one = other.0; other = one.0; is_one = other.1; is_other = one.1; apart = other.2 }))
+    ]
+    | inr none ↦ (None, nowhere off (λ row d. none (row, d)))
+  ]
+
   -- a class of the rows has an answer
   pub resolves : (c : ℕ) → c < length rows.classes → (r : Option ℕ) × Resolve rows c key r
-  resolves c below = walk (length rows.classes) c [] below tt distinct-none (omega arith)
+  resolves c below = let up = looks_up c below in by up.0 up.1
+    where
+      by : (r : Option ℕ) → OnPath rows c key r → (r : Option ℕ) × Resolve rows c key r
+      by (Some row) p = (Some row, on_path p)
+      by None off = by_defaults c off

@@ -25,7 +25,6 @@ text_one w number x y (inr p) (inr q) = p.1 ∙ sym q.1
 
 -- the place of a refusal of the program is one
 place_one : (w : World) (kind : LinkKind) (number : ℕ) (x y : List ℕ) → IsPlaceOf w kind number x → IsPlaceOf w kind number y → x ≡ y
-place_one w rule.DefaultMethod number x y p q = text_one w number x y p q
 place_one w rule.NoEntry number x y p q = p ∙ sym q
 place_one w _ number x y p q = named_one w number x y p q
 

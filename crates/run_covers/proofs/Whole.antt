@@ -1,6 +1,7 @@
 -- Each run enters targets of its calls.
-use Rattle.std.proofs.Common.{◌≡◌, ℕ, List, Option, Some, None, All, length, slice_get, refl, sym, subst, inl, inr}
-use Rattle.class_tree.specs.Lookups.{Resolve}
+use Rattle.std.proofs.Common.{◌≡◌, ℕ, List, Option, Some, None, All, length, slice_get, refl, sym, subst, inl, inr, arith}
+use Rattle.class_tree.proofs.LawFacts.{path_one}
+use Rattle.class_tree.specs.Lookups.{OnPath, Resolve, ambiguous, by_default, nowhere, on_path}
 use Rattle.class_tree.specs.Rows.{Sub}
 use Rattle.jim_ast.specs.declared.syntax.Expr.TheVariants as expr
 use Rattle.jim_ast.specs.declared.syntax.Imm.{Imm}
@@ -13,13 +14,14 @@ use Rattle.jim_ast.specs.declared.syntax.Stmt.TheVariants as stmt
 use Rattle.link_rules.specs.declared.code.Arg.{Arg}
 use Rattle.link_rules.specs.declared.code.Code.{Code}
 use Rattle.link_rules.specs.declared.code.Code.TheVariants as code
+use Rattle.jim_ast.proofs.Places.{slice_get-there}
 use Rattle.jim_ast.specs.Lists.{Has}
 use Rattle.jim_ast.specs.declared.syntax.Program.{Program}
 use Rattle.link_rules.specs.Conditions.{IsRead}
 use Rattle.link_rules.specs.Codes.{IsCall, IsCode, IsMethodNumber, Scope}
 use Rattle.link_rules.specs.Linked.{IsLinkedClass, LinkedMethod, LinkedProgram, Links, scope_of}
-use Rattle.link_rules.specs.Targets.{IsInstantiableAt, MayRun, Selects}
-use Rattle.link_rules.specs.WellLinked.{HasTarget, IsInstantiableIn, IsWellLinked, IsWellLinkedCode, SuitsCall}
+use Rattle.link_rules.specs.Targets.{AreTargetRows, IsInstantiableAt, MayRun, Selects}
+use Rattle.link_rules.specs.WellLinked.{HasOneTarget, HasTarget, IsInstantiableIn, IsWellLinked, IsWellLinkedCode, SuitsCall}
 use Rattle.link_rules.specs.World.{World}
 use Rattle.link_laws.proofs.Lists.{at_all, each_left, each_right, increasing_apart}
 use Rattle.link_laws.proofs.Read.{read_method}
@@ -103,6 +105,22 @@ module _ (w : World) (p : LinkedProgram) (made : IsMade w p) where
       let c = each_right IsLinkedClass w.classes p.classes class h.0 made.link.classes h.1 in
       record { class = c.0; there = c.1; instantiable = c.2.instantiable.0 h.2 }
 
+  -- what look-up along the parents finds, where it finds something, is all that selection finds
+  up_path : (class key up row : ℕ) → OnPath w.rows class key (Some up) → Resolve w.rows class key (Some row) → OnPath w.rows class key (Some row)
+  up_path class key up row path finds = by (Some row) finds row refl where
+    by : (r : Option ℕ) → Resolve w.rows class key r → (row : ℕ) → r ≡ Some row → OnPath w.rows class key (Some row)
+    by r (on_path {row = a} p) row e = let same : a ≡ row = cc in subst (λ n. OnPath w.rows class key (Some n)) same p
+    by r (by_default off d only) row e = let same = path_one w.rows class key (Some up) None path off in cc
+    by r (nowhere off none) row e = cc
+    by r (ambiguous two) row e = cc
+
+  -- in static mode the parents lead to a method
+  abbrev HasSome : Mode → ℕ → ℕ → Type 0
+  HasSome Static class key = (row : ℕ) × OnPath w.rows class key (Some row)
+  HasSome Special class key = Unit {0}
+  HasSome Virtual class key = Unit {0}
+  HasSome Interface class key = Unit {0}
+
   -- a method that the class of an object selects
   selects : (at : Point) → IsReal p at.heap → (class from key row : ℕ) → (Sub p.rows from class × HasObjectOf at.heap from)
       → Resolve p.rows from key (Some row) → Selects w class key from row
@@ -114,32 +132,46 @@ module _ (w : World) (p : LinkedProgram) (made : IsMade w p) where
         finds = subst (λ rows. Resolve rows from key (Some row)) made.link.rows finds;
       }
 
-  -- what look-up finds may be run
+  -- what look-up finds may be run. A static call that no rule refuses finds a method along the parents, and so no default method
   may_run : (at : Point) → IsReal p at.heap → (mode : Mode) (class from key row : ℕ) → LooksFrom p at.heap mode class from
-      → Resolve p.rows from key (Some row) → MayRun w mode class key row
-  may_run at real Static class from key row looks finds = subst (λ c. Resolve w.rows c key (Some row)) looks (subst (λ rows. Resolve rows from key (Some row)) made.link.rows finds)
-  may_run at real Special class from key row looks finds = subst (λ c. Resolve w.rows c key (Some row)) looks (subst (λ rows. Resolve rows from key (Some row)) made.link.rows finds)
-  may_run at real Virtual class from key row looks finds = (from, selects at real class from key row looks finds)
-  may_run at real Interface class from key row looks finds = (from, selects at real class from key row looks finds)
+      → HasSome mode class key → Resolve p.rows from key (Some row) → MayRun w mode class key row
+  may_run at real Static class from key row looks some finds =
+      up_path class key some.0 row some.1 (subst (λ c. Resolve w.rows c key (Some row)) looks (subst (λ rows. Resolve rows from key (Some row)) made.link.rows finds))
+  may_run at real Special class from key row looks some finds =
+      subst (λ c. Resolve w.rows c key (Some row)) looks (subst (λ rows. Resolve rows from key (Some row)) made.link.rows finds)
+  may_run at real Virtual class from key row looks some finds = (from, selects at real class from key row looks finds)
+  may_run at real Interface class from key row looks some finds = (from, selects at real class from key row looks finds)
+
+  -- where a static call has a target, its rows have a row
+  some_row : (mode : Mode) (class key : ℕ) (rows targets : List ℕ) → AreTargetRows w mode class key rows → length rows ≡ length targets
+      → HasOneTarget mode targets → HasSome mode class key
+  some_row Static class key rows targets are many one =
+      let row = slice_get-there rows 0 (omega (arith, many, one)) in (row.0, (are.each row.0).0 (0, row.1))
+  some_row Special class key rows targets are many one = tt
+  some_row Virtual class key rows targets are many one = tt
+  some_row Interface class key rows targets are many one = tt
 
   -- a row that look-up finds is that of a target of the call
-  found_target : (at : Point) → IsReal p at.heap → (to : Option ℕ) (mode : Mode) (class key : ℕ) (receiver : Option ℕ) (args : List Arg) (targets : List ℕ)
+  found_target : IsWellLinked p → (at : Point) → IsReal p at.heap → (to : Option ℕ) (mode : Mode) (class key : ℕ) (receiver : Option ℕ) (args : List Arg) (targets : List ℕ)
       → CodeAt p at.top.method at.top.index (code.Call to mode class key receiver args targets) → (from row : ℕ) → LooksFrom p at.heap mode class from
       → Resolve p.rows from key (Some row) → (target : ℕ) × Has targets target × (slice_get p.method_rows target ≡ Some row)
-  found_target at real to mode class key receiver args targets here from row looks finds =
+  found_target well at real to mode class key receiver args targets here from row looks finds =
       let m = stands_at w p made at.top.method here.method here.there in
       let in_scope = scope_of w p m.0 m.1.linked.body in
       let s = each_right (IsCode in_scope) m.1.linked.body.stmts here.method.code at.top.index
       (code.Call to mode class key receiver args targets) m.1.linked.code here.here in
       let call = in_call in_scope s.0 to mode class key receiver args targets s.2 in
-      let listed = (call.2.are_rows.each row).1 (may_run at real mode class from key row looks finds) in
+      let codes = at_all (λ (m : LinkedMethod). All (IsWellLinkedCode p) m.code) p.methods at.top.method here.method well.codes here.there in
+      let suits = at_all (IsWellLinkedCode p) here.method.code at.top.index (code.Call to mode class key receiver args targets) codes here.here in
+      let some = some_row mode class key call.2.rows targets call.2.are_rows call.2.numbered.as_many suits.1 in
+      let listed = (call.2.are_rows.each row).1 (may_run at real mode class from key row looks some finds) in
       let target = each_left (IsMethodNumber in_scope) call.2.rows targets listed.0 row call.2.numbered listed.1 in
       (target.0, (listed.0, target.1), target.2)
 
   -- the method of a frame that is called is a target
-  is_target : (at : Point) (frame : Frame) → IsReal p at.heap → IsCalled p at frame → HasTarget p at.top.method at.top.index frame.method
-  is_target at frame real c =
-      let target = found_target at real c.to c.mode c.class c.key c.receiver c.args c.targets c.here c.from c.finds.row c.looks c.finds.resolved in
+  is_target : IsWellLinked p → (at : Point) (frame : Frame) → IsReal p at.heap → IsCalled p at frame → HasTarget p at.top.method at.top.index frame.method
+  is_target well at frame real c =
+      let target = found_target well at real c.to c.mode c.class c.key c.receiver c.args c.targets c.here c.from c.finds.row c.looks c.finds.resolved in
       let same : target.0 ≡ frame.method = increasing_apart p.method_rows made.link.methods.ordered target.0 frame.method c.finds.row target.2 c.finds.numbered in
       record {
         method = c.here.method;
@@ -158,7 +190,7 @@ module _ (w : World) (p : LinkedProgram) (made : IsMade w p) where
   -- what look-up finds is there
   is_found : IsWellLinked p → (at : Point) → IsReal p at.heap → (c : Code) → CodeAt p at.top.method at.top.index c → HasFoundFor p at.heap c
   is_found well at real (code.Call to mode class key receiver args targets) here = λ from looks row finds.
-      let target = found_target at real to mode class key receiver args targets here from row looks finds in
+      let target = found_target well at real to mode class key receiver args targets here from row looks finds in
       let codes = at_all (λ (m : LinkedMethod). All (IsWellLinkedCode p) m.code) p.methods at.top.method here.method well.codes here.there in
       let suits = at_all (IsWellLinkedCode p) here.method.code at.top.index (code.Call to mode class key receiver args targets) codes here.here in
       let callee = at_all (SuitsCall p receiver (length args)) targets target.1.0 target.0 suits.0 target.1.1 in (
@@ -181,7 +213,7 @@ made_of input prelude entry p read read_prelude links = record {
 pub links_covered : LinksAreCovered
 links_covered input prelude entry p read read_prelude nine links count at offered frame run offers has =
     let well = links_well input prelude entry p read read_prelude nine links in
-    is_target links.world p (made_of input prelude entry p read read_prelude links) at frame (run_real p well count _ run)
+    is_target links.world p (made_of input prelude entry p read read_prelude links) well at frame (run_real p well count _ run)
     (offers_sound p well at offered (calls frame) offers has)
 
 pub links_found : LinksHaveAllFound

@@ -93,7 +93,7 @@ module _ (p : LinkedProgram) where
       (λ h. (h.0, h.2.row, h.2.numbered, (h.2.resolved, (h.1, h.2.there, h.2.has_statements))))
       (anywhere_decided
       (λ number row. Resolve p.rows class key (Some row) × ((m : LinkedMethod) × (slice_get p.methods number ≡ Some m) × (0 < length m.code)))
-      (λ number row. both_decided (resolve_decided p.rows key class row)
+      (λ number row. both_decided (resolve_decided p.rows class key row)
       (there_decided (λ (m : LinkedMethod). 0 < length m.code) (λ m. less_decided 0 (length m.code)) p.methods number)) p.method_rows)
 
   -- whether a handler may catch exceptions of a class
