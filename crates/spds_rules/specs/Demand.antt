@@ -6,6 +6,7 @@ use Rattle.link_sites.specs.declared.site.Site.{Site}
 use Rattle.spds_rules.specs.declared.edge.EdgeKind.{EdgeKind}
 use Rattle.spds_rules.specs.declared.edge.EdgeKind.TheVariants.{Load}
 use Rattle.spds_rules.specs.declared.node.Node.{Node}
+use Rattle.spds_rules.specs.declared.reach.Reach.{Reach}
 use Rattle.spds_rules.specs.declared.store.StoreAt.{StoreAt}
 use Rattle.spds_rules.specs.Edges.{IsEdge}
 use Rattle.spds_rules.specs.Nodes.{IsStart}
@@ -45,21 +46,22 @@ pub record HasMore {X : Type 0} (P : X → Type 0) (bound : ℕ) : Type 0 where
   pub apart : IsApart some
   pub more : bound < length some
 
--- what a query asks for
+-- what a query asks for, and over which edges
 pub record Asked : Type 0 where
   pub targets : List Node
+  pub reach : Reach
 
 -- the nodes that the query demands
 abbrev pub Demand : LinkedProgram → Asked → Node → Type 0
-Demand p q = Demanded (IsEdge p) (IsStore p) q.targets
+Demand p q = Demanded (IsEdge p q.reach) (IsStore p) q.targets
 
 -- an edge into a demanded node
 abbrev pub EdgeIn : LinkedProgram → Asked → Node → EdgeKind → Node → Type 0
-EdgeIn p q a kind b = IsEdge p a kind b × Demand p q b
+EdgeIn p q a kind b = IsEdge p q.reach a kind b × Demand p q b
 
 -- a field that is loaded along such an edge
 abbrev pub FieldIn : LinkedProgram → Asked → ℕ → Type 0
-FieldIn p q field = IsFieldDemanded (IsEdge p) (IsStore p) q.targets field
+FieldIn p q field = IsFieldDemanded (IsEdge p q.reach) (IsStore p) q.targets field
 
 -- a store of such a field
 abbrev pub StoreIn : LinkedProgram → Asked → StoreAt → Type 0

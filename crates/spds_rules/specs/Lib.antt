@@ -1,4 +1,5 @@
 pub mod Nodes
+pub mod Formals
 pub mod Edges
 pub mod Stores
 pub mod Demand

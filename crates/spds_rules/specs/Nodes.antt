@@ -31,14 +31,30 @@ handed (code.StoreStatic field a) = a ∷ []
 handed (code.Call to mode class key receiver args targets) = args
 handed (code.Return (Some a)) = a ∷ []
 handed (code.Throw a) = a ∷ []
-handed _ = []
+handed (code.Return None) = []
+handed (code.This to) = []
+handed (code.Param to number) = []
+handed (code.Caught to) = []
+handed (code.New to class) = []
+handed (code.NewArray to) = []
+handed (code.Numeric to divides) = []
+handed (code.Length to a) = []
+handed (code.Load to base field) = []
+handed (code.LoadCell to base) = []
+handed (code.LoadStatic to field) = []
+handed (code.If jump) = []
+handed (code.Goto jump) = []
+handed (code.Switch jumps) = []
+handed (code.Monitor a) = []
+handed code.Skip = []
 
 -- the variable of an operand: a number and null have none
 abbrev pub arg_var : Arg → Option Var
 arg_var (arg.Local x) = Some (Local x)
 arg_var (arg.Text number) = Some (Text number)
 arg_var (arg.Class number) = Some (Class number)
-arg_var _ = None
+arg_var arg.Number = None
+arg_var arg.Null = None
 
 -- a local, a receiver or a parameter that the method has, at any of its places; an exception in flight at a raised place; and at an unraised one what
 -- its statement makes, raises or hands on
@@ -52,7 +68,11 @@ HasVar m c false Made = Makes c
 HasVar m c false (Raised kind) = MayRaise c kind
 HasVar m c false (Text number) = Has (handed c) (arg.Text number)
 HasVar m c false (Class number) = Has (handed c) (arg.Class number)
-HasVar m c _ _ = ⊥
+HasVar m c false Thrown = ⊥
+HasVar m c true Made = ⊥
+HasVar m c true (Raised kind) = ⊥
+HasVar m c true (Text number) = ⊥
+HasVar m c true (Class number) = ⊥
 
 -- an exception may come out of the statement, where one is in flight
 abbrev pub MayStand : Code → Bool → Type 0
@@ -74,7 +94,11 @@ site_at place Made = Some (site.New place)
 site_at place (Raised kind) = Some (site.Raised place kind)
 site_at place (Text number) = Some (site.Text number)
 site_at place (Class number) = Some (site.Class number)
-site_at place _ = None
+site_at place (Local x) = None
+site_at place This = None
+site_at place (Param number) = None
+site_at place Caught = None
+site_at place Thrown = None
 
 -- the same of a node
 abbrev pub site_of : Node → Option Site

@@ -13,7 +13,27 @@ use Rattle.spds_rules.specs.Nodes.{arg_var}
 abbrev pub StoresInto : Code → ℕ → Var → Var → Type 0
 StoresInto (code.Store base field a) f w v = (f ≡ field) × (w ≡ Local base) × (arg_var a ≡ Some v)
 StoresInto (code.StoreCell base a) f w v = (f ≡ 0) × (w ≡ Local base) × (arg_var a ≡ Some v)
-StoresInto _ f w v = ⊥
+StoresInto (code.This to) f w v = ⊥
+StoresInto (code.Param to number) f w v = ⊥
+StoresInto (code.Caught to) f w v = ⊥
+StoresInto (code.Copy to a) f w v = ⊥
+StoresInto (code.Cast to a) f w v = ⊥
+StoresInto (code.New to class) f w v = ⊥
+StoresInto (code.NewArray to) f w v = ⊥
+StoresInto (code.Numeric to divides) f w v = ⊥
+StoresInto (code.Length to a) f w v = ⊥
+StoresInto (code.Load to base field) f w v = ⊥
+StoresInto (code.LoadCell to base) f w v = ⊥
+StoresInto (code.LoadStatic to field) f w v = ⊥
+StoresInto (code.StoreStatic field a) f w v = ⊥
+StoresInto (code.Call to mode class key receiver args targets) f w v = ⊥
+StoresInto (code.If jump) f w v = ⊥
+StoresInto (code.Goto jump) f w v = ⊥
+StoresInto (code.Switch jumps) f w v = ⊥
+StoresInto (code.Return a) f w v = ⊥
+StoresInto (code.Throw a) f w v = ⊥
+StoresInto (code.Monitor a) f w v = ⊥
+StoresInto code.Skip f w v = ⊥
 
 -- a store of the program
 pub record IsStore (p : LinkedProgram) (s : StoreAt) : Type 0 where

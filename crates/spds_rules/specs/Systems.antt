@@ -23,13 +23,18 @@ pub data IsString (p : LinkedProgram) : ℕ → List Place → Type 0 where
 -- edges that keep the fields
 abbrev pub KeepsFields : EdgeKind → Type 0
 KeepsFields (Load field) = ⊥
-KeepsFields _ = Unit {0}
+KeepsFields Flow = Unit {0}
+KeepsFields (Call call) = Unit {0}
+KeepsFields (Return call) = Unit {0}
+KeepsFields Jump = Unit {0}
 
 -- edges that keep the calls
 abbrev pub KeepsCalls : EdgeKind → Type 0
 KeepsCalls Flow = Unit {0}
 KeepsCalls (Load field) = Unit {0}
-KeepsCalls _ = ⊥
+KeepsCalls (Call call) = ⊥
+KeepsCalls (Return call) = ⊥
+KeepsCalls Jump = ⊥
 
 -- The field system of a site, over meets: from the node, the word of fields leads to an object of the site.
 pub data InFields (p : LinkedProgram) (q : Asked) (Meet : Site → Site → StoreAt → Type 0) (o : Site) : Node → List ℕ → Type 0 where

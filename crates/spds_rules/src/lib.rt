@@ -4,8 +4,10 @@
 
 mod edge;
 mod node;
+mod reach;
 mod store;
 
 pub use edge::{Edge, EdgeKind};
 pub use node::{Node, Var};
+pub use reach::Reach;
 pub use store::StoreAt;
