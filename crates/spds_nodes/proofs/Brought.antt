@@ -1,5 +1,5 @@
 -- What a statement brings into locals and into flight.
-use Rattle.std.proofs.Common.{◌≡◌, ℕ, ◌+◌, ◌<◌, ◌≤◌, ◌↔◌, ◌⊎◌, Some, inl, inr, arith}
+use Rattle.std.proofs.Common.{◌≡◌, ℕ, ◌+◌, ◌<◌, ◌≤◌, ◌↔◌, ◌⊎◌, Some, ap, inl, inr, arith}
 use Rattle.std.proofs.lemmas.Bool.{cases_order}
 use Rattle.link_rules.specs.declared.code.Arg.{Arg}
 use Rattle.link_rules.specs.declared.code.Arg.TheVariants as arg
@@ -14,21 +14,25 @@ use Rattle.spds_rules.specs.Edges.{Assigns, AssignsTo, IsThrownBy, LoadsInto}
 use Rattle.spds_rules.specs.Nodes.{arg_var}
 use Rattle.spds_nodes.specs.Codes.{Brings, IsKindIn, Throws}
 
+-- a local that is named twice
+local_to : (to x : ℕ) → Local x ≡ Local to → Some to ≡ Some x
+local_to to x h = let same : to ≡ x = cc (h) in ap Some same
+
 -- what is assigned to a local is to one that the statement assigns
 pub Assigns-local : (c : Code) (v : Var) (x : ℕ) → Assigns c v (Local x) → AssignsTo c x
-Assigns-local (code.This to) v x h = cc (h.1)
-Assigns-local (code.Param to number) v x h = cc (h.1)
-Assigns-local (code.Caught to) v x h = cc (h.1)
-Assigns-local (code.Copy to a) v x h = cc (h.1)
-Assigns-local (code.Cast to a) v x h = cc (h.1)
-Assigns-local (code.New to class) v x h = cc (h.1)
-Assigns-local (code.NewArray to) v x h = cc (h.1)
+Assigns-local (code.This to) v x h = local_to to x h.1
+Assigns-local (code.Param to number) v x h = local_to to x h.1
+Assigns-local (code.Caught to) v x h = local_to to x h.1
+Assigns-local (code.Copy to a) v x h = local_to to x h.1
+Assigns-local (code.Cast to a) v x h = local_to to x h.1
+Assigns-local (code.New to class) v x h = local_to to x h.1
+Assigns-local (code.NewArray to) v x h = local_to to x h.1
 Assigns-local _ v x h = absurd h
 
 -- what is loaded is, too
 pub LoadsInto-local : (c : Code) (v : Var) (field x : ℕ) → LoadsInto c v field (Local x) → AssignsTo c x
-LoadsInto-local (code.Load to base number) v field x h = cc (h.2)
-LoadsInto-local (code.LoadCell to base) v field x h = cc (h.2)
+LoadsInto-local (code.Load to base number) v field x h = local_to to x h.2
+LoadsInto-local (code.LoadCell to base) v field x h = local_to to x h.2
 LoadsInto-local _ v field x h = absurd h
 
 pub Brings-local : (c : Code) (x : ℕ) (v : Var) (kind : EdgeKind) → Brings c x v kind → AssignsTo c x

@@ -13,6 +13,7 @@ use Rattle.spds_rules.specs.declared.edge.EdgeKind.TheVariants.{Flow, Load, Call
 use Rattle.spds_rules.specs.declared.node.Node.{Node}
 use Rattle.spds_rules.specs.declared.node.Var.{Var}
 use Rattle.spds_rules.specs.declared.node.Var.TheVariants.{Local}
+use Rattle.spds_rules.specs.declared.reach.Reach.TheVariants.{Plain}
 use Rattle.spds_rules.specs.Edges.{Assigns, IsFlow, IsJump, IsLoad, IsPassed, IsReturned, IsRow, Leaves, LoadsInto, LoadsStatic, Passes, Returns, StoresStatic}
 use Rattle.spds_rules.specs.Nodes.{IsNode, at}
 use Rattle.spds_nodes.specs.Codes.{HandlesAt, PassesAs, TakesFrom}
@@ -154,9 +155,9 @@ module _ (p : LinkedProgram) (m s : ℕ) (w : Var) where
       })
 
   -- each row
-  pub row_part : (a : Node) (kind : EdgeKind) → IsNode p a → IsRow p a kind (at (before m s) w) → IsIntoUnraised p (at (before m s) w) (edge a kind (at (before m s) w))
+  pub row_part : (a : Node) (kind : EdgeKind) → IsNode p a → IsRow p Plain a kind (at (before m s) w) → IsIntoUnraised p (at (before m s) w) (edge a kind (at (before m s) w))
   row_part a Flow node row = flow_part a.place.method a.place.index a.place.raised a.var node row
   row_part a (Load field) node row = load_part a.place.method a.place.index a.place.raised a.var field row
   row_part a (Call call) node row = passed_part a call row
-  row_part a (Return call) node row = returned_part a call row
+  row_part a (Return call) node row = elim row [ inl returned ↦ returned_part a call returned | inr none ↦ absurd none ]
   row_part a Jump node row = jump_part a row

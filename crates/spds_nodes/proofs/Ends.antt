@@ -13,6 +13,7 @@ use Rattle.spds_rules.specs.declared.edge.EdgeKind.TheVariants.{Flow, Load, Call
 use Rattle.spds_rules.specs.declared.node.Node.{Node}
 use Rattle.spds_rules.specs.declared.node.Var.{Var}
 use Rattle.spds_rules.specs.declared.node.Var.TheVariants.{Local}
+use Rattle.spds_rules.specs.declared.reach.Reach.TheVariants.{Plain}
 use Rattle.spds_rules.specs.Edges.{Assigns, IsEdge, Leaves, LoadsInto, LoadsStatic}
 use Rattle.spds_rules.specs.Nodes.{HasVar, IsNode, at}
 use Rattle.spds_nodes.specs.Codes.{Brings, PassesAs}
@@ -34,8 +35,8 @@ from_is place kind n P e from =
 
 -- it ends in the node, where it is one of the program
 pub edge_into : (p : LinkedProgram) (place : Place) (kind : EdgeKind) (n : Node) (P : Var → Type 0) (e : Edge) → IsFrom place kind n P e
-    → IsEdge p (at place e.from.var) kind n → IsEdgeInto p n e
-edge_into p place kind n P e from is = subst (IsEdgeInto p n) (sym (from_is place kind n P e from)) (is, refl)
+    → IsEdge p Plain (at place e.from.var) kind n → IsEdgeInto p Plain n e
+edge_into p place kind n P e from is = subst (IsEdgeInto p Plain n) (sym (from_is place kind n P e from)) (is, refl)
 
 -- a variable before a statement
 pub node_at : (p : LinkedProgram) (number index : ℕ) (c : Code) (v : Var) (there : CodeAt p number index c) → HasVar there.method c false v → IsNode p (at (before number index) v)
@@ -43,7 +44,7 @@ node_at p number index c v there has = record { method = there.method; there = t
 
 module _ (p : LinkedProgram) (form : IsInForm p) (m s : ℕ) (w : Var) (node : IsNode p (at (before m s) w)) (e : Edge) where
   -- over a statement that leaves the variable
-  kept_edge : IsKept p (at (before m s) w) e → IsEdgeInto p (at (before m s) w) e
+  kept_edge : IsKept p (at (before m s) w) e → IsEdgeInto p Plain (at (before m s) w) e
   kept_edge kept =
       let t = kept.0 in
       let from = kept.2 in
@@ -51,16 +52,16 @@ module _ (p : LinkedProgram) (form : IsInForm p) (m s : ℕ) (w : Var) (node : I
       let method = one_numbered p m node.method both.at.method node.there both.at.there in
       let has = subst (λ k. HasVar k node.code false w) method node.has in
       let source = node_at p m t both.code w both.at (left_has both.at.method node.code both.code w both.is_so.1 has) in
-      let is : IsEdge p (at (before m t) w) Flow (at (before m s) w) = record {
+      let is : IsEdge p Plain (at (before m t) w) Flow (at (before m s) w) = record {
         from = source;
         to = node;
         row = record { same = refl; method = both.at.method; there = both.at.there; code = both.code; here = both.at.here; flows = (both.is_so.0, inl (both.is_so.1, refl)) };
       } in
-      edge_into p (before m t) Flow (at (before m s) w) _ e from (subst (λ v. IsEdge p (at (before m t) v) Flow (at (before m s) w)) (sym from.holds.1) is)
+      edge_into p (before m t) Flow (at (before m s) w) _ e from (subst (λ v. IsEdge p Plain (at (before m t) v) Flow (at (before m s) w)) (sym from.holds.1) is)
 
   -- from what the statement behind brings within the frame
   brought_edge : (t x : ℕ) (c : Code) (there : CodeAt p m t c) → t + 1 ≡ s → w ≡ Local x → (v : Var) (kind : EdgeKind) → Brings c x v kind
-      → IsEdge p (at (before m t) v) kind (at (before m s) w)
+      → IsEdge p Plain (at (before m t) v) kind (at (before m s) w)
   brought_edge t x c there behind local v Flow brings =
       let assigns = subst (Assigns c v) (sym local) brings in
       record {
@@ -91,7 +92,7 @@ module _ (p : LinkedProgram) (form : IsInForm p) (m s : ℕ) (w : Var) (node : I
   brought_edge t x c there behind local v Jump brings = absurd brings
 
   -- from what the statement behind assigns
-  behind_edge : IsFromBehind p (at (before m s) w) e → IsEdgeInto p (at (before m s) w) e
+  behind_edge : IsFromBehind p (at (before m s) w) e → IsEdgeInto p Plain (at (before m s) w) e
   behind_edge found =
       let x = found.0 in
       let local = found.2 in
@@ -128,16 +129,16 @@ module _ (p : LinkedProgram) (form : IsInForm p) (m s : ℕ) (w : Var) (node : I
             edge_into p (before u r) (Return (before m t)) (at (before m s) w) _ e from (record {
               from = node_at p u r gives.code e.from.var gives.at (returned_has p gives.at.method gives.code e.from.var (FitsCode-at p u r gives.code form gives.at) gives.is_so);
               to = node;
-              row = record {
+              row = inl (record {
                 unraised = refl;
                 target = target.0;
                 gives = inl (record { returned = gives; unraised = refl; goes_on = ap (before m) (sym local.behind); local = x; taken = target.1; is_local = found.1 });
-              };
+              });
             })
       ]
 
   -- from what calls pass
-  passed_edge : IsPassedIn p (at (before m s) w) e → IsEdgeInto p (at (before m s) w) e
+  passed_edge : IsPassedIn p (at (before m s) w) e → IsEdgeInto p Plain (at (before m s) w) e
   passed_edge passed =
       let call = passed.1.0 in
       let from = passed.1.2 in
@@ -150,7 +151,7 @@ module _ (p : LinkedProgram) (form : IsInForm p) (m s : ℕ) (w : Var) (node : I
       })
 
   -- into a handler
-  handled_edge : IsHandledIn p (at (before m s) w) e → IsEdgeInto p (at (before m s) w) e
+  handled_edge : IsHandledIn p (at (before m s) w) e → IsEdgeInto p Plain (at (before m s) w) e
   handled_edge handled =
       let v = handled.0 in
       let t = handled.2.0 in
@@ -159,7 +160,7 @@ module _ (p : LinkedProgram) (form : IsInForm p) (m s : ℕ) (w : Var) (node : I
       let handles = from.holds.0 in
       let same = one_numbered p m node.method raised.at.method node.there raised.at.there in
       let caught = one_numbered p m handles.method raised.at.method handles.there raised.at.there in
-      let is : IsEdge p (at (in_flight m t) v) Flow (at (before m s) w) = record {
+      let is : IsEdge p Plain (at (in_flight m t) v) Flow (at (before m s) w) = record {
         from = record {
           method = raised.at.method;
           there = raised.at.there;
@@ -178,10 +179,10 @@ module _ (p : LinkedProgram) (form : IsInForm p) (m s : ℕ) (w : Var) (node : I
           flows = (subst (λ (k : LinkedMethod). Handles k.catches t s) caught handles.handles, handled.1);
         };
       } in
-      edge_into p (in_flight m t) Flow (at (before m s) w) _ e from (subst (λ v. IsEdge p (at (in_flight m t) v) Flow (at (before m s) w)) (sym from.holds.1) is)
+      edge_into p (in_flight m t) Flow (at (before m s) w) _ e from (subst (λ v. IsEdge p Plain (at (in_flight m t) v) Flow (at (before m s) w)) (sym from.holds.1) is)
 
   -- each part
-  pub unraised_edge : IsIntoUnraised p (at (before m s) w) e → IsEdgeInto p (at (before m s) w) e
+  pub unraised_edge : IsIntoUnraised p (at (before m s) w) e → IsEdgeInto p Plain (at (before m s) w) e
   unraised_edge parts = elim parts [
     | inl more ↦ elim more [
       | inl first ↦ elim first [ inl kept ↦ kept_edge kept | inr behind ↦ behind_edge behind ]

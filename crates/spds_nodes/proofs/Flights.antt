@@ -10,6 +10,7 @@ use Rattle.spds_rules.specs.declared.edge.EdgeKind.{EdgeKind}
 use Rattle.spds_rules.specs.declared.edge.EdgeKind.TheVariants.{Flow, Load, Call, Return, Jump}
 use Rattle.spds_rules.specs.declared.node.Node.{Node}
 use Rattle.spds_rules.specs.declared.node.Var.{Var}
+use Rattle.spds_rules.specs.declared.reach.Reach.TheVariants.{Plain}
 use Rattle.spds_rules.specs.Edges.{IsEdge, IsFlow, IsOfFrame, IsReturned, IsRow}
 use Rattle.spds_rules.specs.Nodes.{IsNode, MayStand, at}
 use Rattle.spds_nodes.specs.Into.{IsEdgeInto, IsIntoRaised, IsIntoUnraised, IsTakenAlong, IsThrownIn}
@@ -20,7 +21,7 @@ use Rattle.spds_nodes.proofs.Sources.{called_target, code_in, frame_raised, in_c
 
 module _ (p : LinkedProgram) (form : IsInForm p) (m s : ℕ) (w : Var) (node : IsNode p (at (in_flight m s) w)) (e : Edge) where
   -- from what the statement puts in flight
-  thrown_edge : IsThrownIn p (at (in_flight m s) w) e → IsEdgeInto p (at (in_flight m s) w) e
+  thrown_edge : IsThrownIn p (at (in_flight m s) w) e → IsEdgeInto p Plain (at (in_flight m s) w) e
   thrown_edge thrown =
       let c = thrown.1.code in
       let there = thrown.1.at in
@@ -37,30 +38,30 @@ module _ (p : LinkedProgram) (form : IsInForm p) (m s : ℕ) (w : Var) (node : I
             let from = escaped.2.2 in
             let raised = in_code p IsRaised u r escaped.2.1 in
             edge_into p (in_flight u r) (Return (before m s)) (at (in_flight m s) w) _ e from
-            (subst (λ v. IsEdge p (at (in_flight u r) v) (Return (before m s)) (at (in_flight m s) w)) (sym from.holds) (record {
+            (subst (λ v. IsEdge p Plain (at (in_flight u r) v) (Return (before m s)) (at (in_flight m s) w)) (sym from.holds) (record {
               from = record { method = raised.at.method; there = raised.at.there; code = raised.code; here = raised.at.here; stands = raised.is_so; has = tt };
               to = node;
-              row = record {
+              row = inl (record {
                 unraised = refl;
                 target = called_target p m s u c there escaped.1;
                 gives = inr (record { raised = refl; at_call = refl; thrown = (refl, thrown.0) });
-              };
+              });
             }))
       ]
 
   -- from the same variable of the frame
-  along_edge : IsTakenAlong (at (in_flight m s) w) e → IsEdgeInto p (at (in_flight m s) w) e
+  along_edge : IsTakenAlong (at (in_flight m s) w) e → IsEdgeInto p Plain (at (in_flight m s) w) e
   along_edge from =
       let there : CodeAt p m s node.code = record { method = node.method; there = node.there; here = node.here } in
-      let is : IsEdge p (at (before m s) w) Flow (at (in_flight m s) w) = record {
+      let is : IsEdge p Plain (at (before m s) w) Flow (at (in_flight m s) w) = record {
         from = node_at p m s node.code w there (frame_raised node.method node.code node.code w from.holds.0 node.has);
         to = node;
         row = record { same = refl; method = node.method; there = node.there; code = node.code; here = node.here; flows = (refl, inl (from.holds.0, refl)) };
       } in
-      edge_into p (before m s) Flow (at (in_flight m s) w) _ e from (subst (λ v. IsEdge p (at (before m s) v) Flow (at (in_flight m s) w)) (sym from.holds.1) is)
+      edge_into p (before m s) Flow (at (in_flight m s) w) _ e from (subst (λ v. IsEdge p Plain (at (before m s) v) Flow (at (in_flight m s) w)) (sym from.holds.1) is)
 
   -- each part
-  raised_edge : IsIntoRaised p (at (in_flight m s) w) e → IsEdgeInto p (at (in_flight m s) w) e
+  raised_edge : IsIntoRaised p (at (in_flight m s) w) e → IsEdgeInto p Plain (at (in_flight m s) w) e
   raised_edge parts = elim parts [ inl thrown ↦ thrown_edge thrown | inr along ↦ along_edge along ]
 
 module _ (p : LinkedProgram) (m s : ℕ) (w : Var) where
@@ -111,18 +112,18 @@ module _ (p : LinkedProgram) (m s : ℕ) (w : Var) where
   ]
 
   -- each row
-  raised_part : (a : Node) (kind : EdgeKind) → IsNode p a → IsRow p a kind (at (in_flight m s) w) → IsIntoRaised p (at (in_flight m s) w) (edge a kind (at (in_flight m s) w))
+  raised_part : (a : Node) (kind : EdgeKind) → IsNode p a → IsRow p Plain a kind (at (in_flight m s) w) → IsIntoRaised p (at (in_flight m s) w) (edge a kind (at (in_flight m s) w))
   raised_part a Flow node row = into_flight a.place.method a.place.index a.place.raised a.var row
   raised_part a (Load field) node row = absurd (cc (row.unraised.1))
   raised_part a (Call call) node row = absurd (cc (ap (λ (q : Place). q.raised) row.begins))
-  raised_part a (Return call) node row = escape_part a call node row
+  raised_part a (Return call) node row = elim row [ inl returned ↦ escape_part a call node returned | inr none ↦ absurd none ]
   raised_part a Jump node row = absurd (cc (row.unraised.1))
 
 -- an edge that ends in the node
-edge_parts : (p : LinkedProgram) (n : Node) (Parts : Edge → Type 0) → ((a : Node) (kind : EdgeKind) → IsNode p a → IsRow p a kind n → Parts (edge a kind n))
-    → (e : Edge) → IsEdgeInto p n e → Parts e
+edge_parts : (p : LinkedProgram) (n : Node) (Parts : Edge → Type 0) → ((a : Node) (kind : EdgeKind) → IsNode p a → IsRow p Plain a kind n → Parts (edge a kind n))
+    → (e : Edge) → IsEdgeInto p Plain n e → Parts e
 edge_parts p n Parts part e ends =
-    let is = subst (IsEdge p e.from e.kind) ends.1 ends.0 in
+    let is = subst (IsEdge p Plain e.from e.kind) ends.1 ends.0 in
     let same : edge e.from e.kind n ≡ e = ap (edge e.from e.kind) (sym ends.1) in
     subst Parts same (part e.from e.kind is.from is.row)
 
@@ -131,9 +132,9 @@ node_is : (n : Node) (b : Bool) → n.place.raised ≡ b → at (record { method
 node_is n b state = ap (λ (c : Bool). at (record { method = n.place.method; index = n.place.index; raised = c }) n.var) (sym state)
 
 -- the parts are the edges that end in the node
-pub unraised_parts : (p : LinkedProgram) (n : Node) → IsInForm p → IsNode p n → n.place.raised ≡ false → (e : Edge) → IsIntoUnraised p n e ↔ IsEdgeInto p n e
+pub unraised_parts : (p : LinkedProgram) (n : Node) → IsInForm p → IsNode p n → n.place.raised ≡ false → (e : Edge) → IsIntoUnraised p n e ↔ IsEdgeInto p Plain n e
 unraised_parts p n form node state =
-    subst (λ k. IsNode p k → (e : Edge) → IsIntoUnraised p k e ↔ IsEdgeInto p k e) (node_is n false state)
+    subst (λ k. IsNode p k → (e : Edge) → IsIntoUnraised p k e ↔ IsEdgeInto p Plain k e) (node_is n false state)
     (λ there e. (
       unraised_edge p form n.place.method n.place.index n.var there e,
       edge_parts p (at (before n.place.method n.place.index) n.var) (IsIntoUnraised p (at (before n.place.method n.place.index) n.var))
@@ -141,9 +142,9 @@ unraised_parts p n form node state =
     ))
     node
 
-pub raised_parts : (p : LinkedProgram) (n : Node) → IsInForm p → IsNode p n → n.place.raised ≡ true → (e : Edge) → IsIntoRaised p n e ↔ IsEdgeInto p n e
+pub raised_parts : (p : LinkedProgram) (n : Node) → IsInForm p → IsNode p n → n.place.raised ≡ true → (e : Edge) → IsIntoRaised p n e ↔ IsEdgeInto p Plain n e
 raised_parts p n form node state =
-    subst (λ k. IsNode p k → (e : Edge) → IsIntoRaised p k e ↔ IsEdgeInto p k e) (node_is n true state)
+    subst (λ k. IsNode p k → (e : Edge) → IsIntoRaised p k e ↔ IsEdgeInto p Plain k e) (node_is n true state)
     (λ there e. (
       raised_edge p form n.place.method n.place.index n.var there e,
       edge_parts p (at (in_flight n.place.method n.place.index) n.var) (IsIntoRaised p (at (in_flight n.place.method n.place.index) n.var))

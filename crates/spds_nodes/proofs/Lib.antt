@@ -1,10 +1,12 @@
 pub mod Apart
+pub mod ComingBack
 pub mod Brought
 pub mod Complete
 pub mod Ends
 pub mod Filed
 pub mod Flights
 pub mod Froms
+pub mod Identities
 pub mod Joined
 pub mod Named
 pub mod Numbered

@@ -11,9 +11,10 @@ use Rattle.spds_rules.specs.declared.edge.EdgeKind.{EdgeKind}
 use Rattle.spds_rules.specs.declared.node.Node.{Node}
 use Rattle.spds_rules.specs.declared.node.Var.{Var}
 use Rattle.spds_rules.specs.declared.node.Var.TheVariants.{This, Param}
+use Rattle.spds_rules.specs.Formals.{IsPosition}
 use Rattle.spds_nodes.specs.declared.flows.Source.{Source}
 use Rattle.spds_nodes.specs.Added.{IsAdded, Over}
-use Rattle.spds_nodes.specs.Codes.{Brings, HandlesAt, IsFormal, PassesAs}
+use Rattle.spds_nodes.specs.Codes.{Brings, HandlesAt, PassesAs}
 use Rattle.spds_nodes.specs.Into.{IsAssigned, IsBrought, IsFrom, IsHandledIn, IsIntoLocal, IsPassedIn}
 use Rattle.spds_nodes.proofs.Joined.{IsAdded-none, IsAdded-same, IsAdded-then}
 use Rattle.spds_nodes.proofs.Statements.{CodeAt-one}
@@ -119,11 +120,11 @@ pub some_covered : (p : LinkedProgram) (n : Node) (e : Edge) → IsHandledIn p n
 some_covered p n e handled = (handled.2.0, handled.2.2.holds.0)
 
 -- what a call passes is a receiver or a parameter
-passed_is_formal : (c : Code) (v w : Var) → PassesAs c v w → IsFormal w
-passed_is_formal (code.Call to mode class key receiver args targets) v This h = tt
-passed_is_formal (code.Call to mode class key receiver args targets) v (Param number) h = tt
-passed_is_formal (code.Call to mode class key receiver args targets) v _ h = h
-passed_is_formal _ v w h = absurd h
+passed_is_position : (c : Code) (v w : Var) → PassesAs c v w → IsPosition w
+passed_is_position (code.Call to mode class key receiver args targets) v This h = tt
+passed_is_position (code.Call to mode class key receiver args targets) v (Param number) h = tt
+passed_is_position (code.Call to mode class key receiver args targets) v _ h = h
+passed_is_position _ v w h = absurd h
 
-pub passed_in_formal : (p : LinkedProgram) (n : Node) (e : Edge) → IsPassedIn p n e → IsFormal n.var
-passed_in_formal p n e passed = let holds = passed.1.2.holds in passed_is_formal holds.code e.from.var n.var holds.is_so
+pub passed_in_position : (p : LinkedProgram) (n : Node) (e : Edge) → IsPassedIn p n e → IsPosition n.var
+passed_in_position p n e passed = let holds = passed.1.2.holds in passed_is_position holds.code e.from.var n.var holds.is_so

@@ -8,7 +8,7 @@ use Rattle.link_rules.specs.Linked.{LinkedMethod, LinkedProgram}
 use Rattle.spds_rules.specs.declared.edge.EdgeKind.{EdgeKind}
 use Rattle.spds_rules.specs.declared.edge.EdgeKind.TheVariants.{Flow, Load}
 use Rattle.spds_rules.specs.declared.node.Var.{Var}
-use Rattle.spds_rules.specs.declared.node.Var.TheVariants.{Local, This, Param, Raised}
+use Rattle.spds_rules.specs.declared.node.Var.TheVariants.{Local, Raised}
 use Rattle.spds_rules.specs.Edges.{Assigns, LoadsInto, Passes}
 use Rattle.spds_rules.specs.Nodes.{arg_var}
 
@@ -22,12 +22,6 @@ Brings c x v _ = ⊥
 abbrev pub PassesAs : Code → Var → Var → Type 0
 PassesAs (code.Call to mode class key receiver args targets) v w = Passes receiver args v w
 PassesAs _ v w = ⊥
-
--- a variable that calls pass
-abbrev pub IsFormal : Var → Type 0
-IsFormal This = Unit {0}
-IsFormal (Param number) = Unit {0}
-IsFormal _ = ⊥
 
 -- the call may run the method, and takes its result into the local x
 abbrev pub TakesFrom : Code → ℕ → ℕ → Type 0

@@ -14,13 +14,14 @@ use Rattle.spds_rules.specs.declared.edge.EdgeKind.TheVariants.{Flow, Call, Retu
 use Rattle.spds_rules.specs.declared.node.Node.{Node}
 use Rattle.spds_rules.specs.declared.node.Var.{Var}
 use Rattle.spds_rules.specs.declared.node.Var.TheVariants.{Local, Thrown}
+use Rattle.spds_rules.specs.declared.reach.Reach.{Reach}
 use Rattle.spds_rules.specs.Edges.{IsCaughtAs, IsEdge, IsOfFrame, IsThrownBy, Leaves, LoadsStatic, Returns, StoresStatic}
 use Rattle.spds_nodes.specs.Added.{Over}
 use Rattle.spds_nodes.specs.Codes.{Brings, HandlesAt, PassesAs, TakesFrom}
 
--- the edges of the program that end in the node
-abbrev pub IsEdgeInto : LinkedProgram → Node → Edge → Type 0
-IsEdgeInto p n e = IsEdge p e.from e.kind e.to × (e.to ≡ n)
+-- the edges of the program that end in the node, with back edges where objects are tracked
+abbrev pub IsEdgeInto : LinkedProgram → Reach → Node → Edge → Type 0
+IsEdgeInto p reach n e = IsEdge p reach e.from e.kind e.to × (e.to ≡ n)
 
 -- an edge of the kind, into the node, from a variable with the fact at the place
 pub record IsFrom (place : Place) (kind : EdgeKind) (to : Node) (Holds : Var → Type 0) (e : Edge) : Type 0 where

@@ -2,11 +2,12 @@
 ghost use Rattle.std.specs.Prelude.{◌≡◌, ◌↔◌, ℕ, IsTrue, None, Some};
 ghost use Rattle.jim_ast.specs.Lists.{Has};
 ghost use Rattle.link_indexes.specs.Facts.{Calls};
+ghost use Rattle.spds_rules.specs.Formals.{IsPosition, assigned, assigns};
 ghost use Rattle.spds_rules.specs.Edges.{AssignsTo, IsCaughtAs, IsOfFrame, Leaves, LoadsStatic, Passes, Returns, StoresStatic};
 ghost use Rattle.spds_rules.specs.declared.edge.EdgeKind.TheVariants.{Flow, Load};
 ghost use Rattle.spds_rules.specs.declared.node.Var.{Var as Variable};
 ghost use Rattle.spds_rules.specs.declared.node.Var.TheVariants.{Local, Param};
-ghost use Rattle.spds_nodes.specs.Codes.{Brings, IsFormal, PassesAs, TakesFrom, Throws};
+ghost use Rattle.spds_nodes.specs.Codes.{Brings, PassesAs, TakesFrom, Throws};
 ghost use Rattle.spds_nodes.specs.declared.flows.Source.{Source as Brought};
 
 use super::codes::arg_var;
@@ -15,7 +16,7 @@ use spds_rules::{EdgeKind, Var};
 
 // The local that a statement assigns.
 fn assigned(code: &Code) -> Option<u32>
-    ensures { (x : ℕ) → (result ≡ Some x) ↔ AssignsTo code.now x }
+    ensures { result ≡ assigned code.now }
 {
     match code {
         Code::This { to } | Code::Param { to, .. } | Code::Caught { to } => Some(*to),
@@ -30,9 +31,10 @@ fn assigned(code: &Code) -> Option<u32>
     }
 }
 
-// Whether a statement assigns the local.
-fn assigns(code: &Code, x: u32) -> bool
-    ensures { IsTrue result ↔ AssignsTo code.now x }
+/// Whether a statement assigns the local.
+pub fn assigns(code: &Code, x: u32) -> bool
+    ensures is { result ≡ assigns x code.now }
+    ensures to { IsTrue result ↔ AssignsTo code.now x }
 {
     match assigned(code) {
         Some(to) => to == x,
@@ -178,9 +180,9 @@ pub fn loaded_static(code: &Code, x: u32) -> Option<u32>
     }
 }
 
-/// Whether the variable is one that calls pass: the receiver or a parameter.
-pub fn is_formal(var: Var) -> bool
-    ensures { IsTrue result ↔ IsFormal var }
+/// Whether the variable is one as which calls pass something: the receiver or a parameter.
+pub fn is_position(var: Var) -> bool
+    ensures { IsTrue result ↔ IsPosition var }
 {
     matches!(var, Var::This | Var::Param(_))
 }

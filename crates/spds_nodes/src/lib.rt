@@ -2,13 +2,16 @@
 //! indexes of a linked program.
 #![tactic(auto)]
 
+mod backs;
 mod behind;
 mod codes;
 mod edges;
 mod flows;
+mod formals;
 mod found;
 mod nodes;
 mod places;
+mod positions;
 mod raised;
 mod rows;
 mod sites;

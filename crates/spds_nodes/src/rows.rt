@@ -141,8 +141,8 @@ fn push_escapes_of(
     Ok(())
 }
 
-// The numbers of a list, each once.
-fn each_once(alloc: Global, numbers: &[u32]) -> Result<Vec<u32>, NoMemory>
+/// The numbers of a list, each once.
+pub fn each_once(alloc: Global, numbers: &[u32]) -> Result<Vec<u32>, NoMemory>
     ensures apart { IfOk result (λ once. IsApart once.items) }
     ensures same { IfOk result (λ once. (n : ℕ) → Has once.items n ↔ Has numbers.now n) }
 {
