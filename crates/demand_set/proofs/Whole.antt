@@ -52,13 +52,13 @@ AreSites-demanded p q nodes sites are stand s = record {
 }
 
 -- the demand of the parts that a walk found, with their sites
-pub IsDemandOf-walked : (p : LinkedProgram) (targets : List Node) (w : Walk) (d : DemandParts) → ((n : Node) → Demand p (record { targets = targets }) n → IsNode p n)
-    → IsWalk (IsEdge p) (IsStore p) targets w → d.nodes ≡ w.nodes → d.edges ≡ w.edges → d.fields ≡ w.fields → d.stores ≡ w.stores
-    → AreSites p (HasStart w.nodes) d.sites → IsDemandOf p (record { targets = targets }) d
-IsDemandOf-walked p targets w d stand walked nodes edges fields stores sites = record {
+pub IsDemandOf-walked : (p : LinkedProgram) (q : Asked) (w : Walk) (d : DemandParts) → ((n : Node) → Demand p q n → IsNode p n)
+    → IsWalk (IsEdge p q.reach) (IsStore p) q.targets w → d.nodes ≡ w.nodes → d.edges ≡ w.edges → d.fields ≡ w.fields → d.stores ≡ w.stores
+    → AreSites p (HasStart w.nodes) d.sites → IsDemandOf p q d
+IsDemandOf-walked p q w d stand walked nodes edges fields stores sites = record {
   nodes = rw nodes walked.nodes;
   edges = rw edges walked.edges;
   fields = rw fields walked.fields;
   stores = rw stores walked.stores;
-  sites = AreSites-demanded p (record { targets = targets }) w.nodes d.sites walked.nodes stand sites;
+  sites = AreSites-demanded p q w.nodes d.sites walked.nodes stand sites;
 }

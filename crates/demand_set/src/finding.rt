@@ -13,7 +13,7 @@ use super::program::ProgramGraph;
 use super::set::Demand;
 use demand_walk::{DemandError, Walk, walk};
 use link_program::Linked;
-use spds_rules::Node;
+use spds_rules::{Node, Reach};
 use std::alloc::Global;
 
 // What the targets demand, found by a walk over the program.
@@ -21,35 +21,37 @@ fn walk_program(
     alloc: Global,
     linked: &Linked,
     targets: &[Node],
+    reach: Reach,
     budget: u32,
 ) -> Result<Walk, DemandError>
-    ensures walked { IfOk result (λ w. IsWalk (IsEdge linked.now) (IsStore linked.now) targets.now w) }
+    ensures walked { IfOk result (λ w. IsWalk (IsEdge linked.now reach) (IsStore linked.now) targets.now w) }
     ensures within { IfOk result (λ w. length w.nodes ≤ budget) }
-    ensures over { (b : ℕ) → result ≡ Err (DemandError.OverBudget b) → (b ≡ budget) × HasMore (Demanded linked.now (record { targets = targets.now })) budget }
-    ensures beyond { HasMore (Demanded linked.now (record { targets = targets.now })) budget → IsErr result }
-    ensures enough { (b : ℕ) → HasAtMost (Demanded linked.now (record { targets = targets.now })) budget → result ≢ Err (DemandError.OverBudget b) }
+    ensures over { (b : ℕ) → result ≡ Err (DemandError.OverBudget b) → (b ≡ budget) × HasMore (Demanded linked.now (record { targets = targets.now; reach = reach })) budget }
+    ensures beyond { HasMore (Demanded linked.now (record { targets = targets.now; reach = reach })) budget → IsErr result }
+    ensures enough { (b : ℕ) → HasAtMost (Demanded linked.now (record { targets = targets.now; reach = reach })) budget → result ≢ Err (DemandError.OverBudget b) }
 {
-    let mut graph = ProgramGraph { linked };
+    let mut graph = ProgramGraph { linked, reach };
     walk(alloc, &mut graph, targets, budget)
 }
 
 /// What the targets demand of a program, as `walk` finds it over the edges and the stores of the program, and the sites of which start nodes are
-/// demanded. The error is `OverBudget` exactly where more nodes are demanded than `budget`, and else `NoMemory`. Costs one look-up for each edge,
+/// demanded. `reach` says whether back edges count among the edges. The error is `OverBudget` exactly where more nodes are demanded than `budget`, and else `NoMemory`. Costs one look-up for each edge,
 /// about two for each node, and the time in which the sites are sorted.
 pub fn demand(
     alloc: Global,
     linked: &Linked,
     targets: &[Node],
+    reach: Reach,
     budget: u32,
 ) -> Result<Demand, DemandError>
     requires nodes { (n : AnyNode) → Has targets.now n → IsNode linked.now n }
-    ensures demanded { IfOk result (λ d. IsDemandOf linked.now (record { targets = targets.now }) d) }
+    ensures demanded { IfOk result (λ d. IsDemandOf linked.now (record { targets = targets.now; reach = reach }) d) }
     ensures within { IfOk result (λ d. length d.nodes ≤ budget) }
-    ensures over { (b : ℕ) → result ≡ Err (DemandError.OverBudget b) → (b ≡ budget) × HasMore (Demanded linked.now (record { targets = targets.now })) budget }
-    ensures beyond { HasMore (Demanded linked.now (record { targets = targets.now })) budget → IsErr result }
-    ensures enough { (b : ℕ) → HasAtMost (Demanded linked.now (record { targets = targets.now })) budget → result ≢ Err (DemandError.OverBudget b) }
+    ensures over { (b : ℕ) → result ≡ Err (DemandError.OverBudget b) → (b ≡ budget) × HasMore (Demanded linked.now (record { targets = targets.now; reach = reach })) budget }
+    ensures beyond { HasMore (Demanded linked.now (record { targets = targets.now; reach = reach })) budget → IsErr result }
+    ensures enough { (b : ℕ) → HasAtMost (Demanded linked.now (record { targets = targets.now; reach = reach })) budget → result ≢ Err (DemandError.OverBudget b) }
 {
     linked.tell_form();
-    let walk = walk_program(alloc, linked, targets, budget)?;
+    let walk = walk_program(alloc, linked, targets, reach, budget)?;
     Ok(Demand::of_walk(alloc, linked, walk)?)
 }

@@ -10,3 +10,4 @@ mod starts;
 pub use demand_walk::DemandError;
 pub use finding::demand;
 pub use set::Demand;
+pub use spds_rules::Reach;

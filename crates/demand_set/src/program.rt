@@ -6,24 +6,25 @@ ghost use Rattle.spds_rules.specs.Stores.{IsStore};
 use demand_walk::{Graph, NoMemory};
 use link_program::Linked;
 use spds_nodes::{into, stores_of};
-use spds_rules::{Edge, Node, StoreAt};
+use spds_rules::{Edge, Node, Reach, StoreAt};
 use std::alloc::Global;
 
-/// The edges and the stores of a linked program. It doesn't tell what it was asked for.
+/// The edges of this kind and the stores of a linked program. It doesn't tell what it was asked for.
 #[derive(Drop)]
 pub struct ProgramGraph<'a> {
     pub linked: &'a Linked,
+    pub reach: Reach,
 }
 
 impl<'a> Graph for ProgramGraph<'a> {
-    ghost edge = { λ g. IsEdge g.linked.now };
+    ghost edge = { λ g. IsEdge g.linked.now g.reach };
 
     ghost store = { λ g. IsStore g.linked.now };
 
     ghost asked = { λ g. None };
 
     fn edges_into(&mut self, alloc: Global, node: Node) -> Result<Vec<Edge>, NoMemory> {
-        into(alloc, self.linked, node)
+        into(alloc, self.linked, node, self.reach)
     }
 
     fn stores(&mut self, alloc: Global, field: u32) -> Result<Vec<StoreAt>, NoMemory> {
