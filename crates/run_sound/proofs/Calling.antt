@@ -125,7 +125,7 @@ module _ (p : LinkedProgram) (q : Asked) (well : IsWellLinked p) (point : Point)
     passed v w x has_v has_w passes comes d =
         along_call p q (sites_of point.heap) (at (place_at point) v) (at (before number 0) w) (place_at point) string x edge d comes
       where
-        edge : IsEdge p (at (place_at point) v) (edge_kind.Call (place_at point)) (at (before number 0) w)
+        edge : IsEdge p q.reach (at (place_at point) v) (edge_kind.Call (place_at point)) (at (before number 0) w)
         edge = record {
           from = node_at p point.top.method point.top.index false m call st.there here tt v has_v;
           to = node_at p number 0 false callee code_there.0 there code_there.1 tt w has_w;

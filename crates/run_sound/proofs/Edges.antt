@@ -19,7 +19,7 @@ use Rattle.run_sound.proofs.Nodes.{has_node}
 
 module _ (p : LinkedProgram) (q : Asked) (sites : List Site) where
   -- within a frame
-  pub along_flow : (a b : Node) (string : List Place) (x : ℕ) → IsEdge p a Flow b → Demand p q b → (Demand p q a → IsReached p q sites a string x)
+  pub along_flow : (a b : Node) (string : List Place) (x : ℕ) → IsEdge p q.reach a Flow b → Demand p q b → (Demand p q a → IsReached p q sites a string x)
       → IsReached p q sites b string x
   along_flow a b string x edge demanded from =
       let r = from (source edge demanded) in
@@ -31,7 +31,7 @@ module _ (p : LinkedProgram) (q : Asked) (sites : List Site) where
       }
 
   -- into a call
-  pub along_call : (a b : Node) (call : Place) (string : List Place) (x : ℕ) → IsEdge p a (Call call) b → Demand p q b
+  pub along_call : (a b : Node) (call : Place) (string : List Place) (x : ℕ) → IsEdge p q.reach a (Call call) b → Demand p q b
       → (Demand p q a → IsReached p q sites a string x)
       → IsReached p q sites b (call ∷ string) x
   along_call a b call string x edge demanded from =
@@ -44,7 +44,7 @@ module _ (p : LinkedProgram) (q : Asked) (sites : List Site) where
       }
 
   -- back from a call
-  pub along_return : (a b : Node) (call : Place) (string : List Place) (x : ℕ) → IsEdge p a (Return call) b → Demand p q b
+  pub along_return : (a b : Node) (call : Place) (string : List Place) (x : ℕ) → IsEdge p q.reach a (Return call) b → Demand p q b
       → (Demand p q a → IsReached p q sites a (call ∷ string) x)
       → IsReached p q sites b string x
   along_return a b call string x edge demanded from =
@@ -57,7 +57,7 @@ module _ (p : LinkedProgram) (q : Asked) (sites : List Site) where
       }
 
   -- through a static field, where the string is forgotten
-  pub along_jump : (a b : Node) (old string : List Place) (x : ℕ) → IsEdge p a Jump b → Demand p q b → (Demand p q a → IsReached p q sites a old x)
+  pub along_jump : (a b : Node) (old string : List Place) (x : ℕ) → IsEdge p q.reach a Jump b → Demand p q b → (Demand p q a → IsReached p q sites a old x)
       → IsString p b.place.method string
       → IsReached p q sites b string x
   along_jump a b old string x edge demanded from is =
@@ -87,7 +87,7 @@ module _ (p : LinkedProgram) (q : Asked) (sites : List Site) where
       → Demand p q (node_of g to)
       → IsReached p q sites (node_of g to) string x
   carried f g string shaped slots shaped_too same from to x e e_too flows demanded =
-      let edge : IsEdge p (node_of f from) Flow (node_of g to) =
+      let edge : IsEdge p q.reach (node_of f from) Flow (node_of g to) =
       record {
         from = has_node p f shaped from (Object x) e;
         to = has_node p g shaped_too to (Object x) e_too;

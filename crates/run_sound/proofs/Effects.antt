@@ -18,7 +18,7 @@ use Rattle.spds_rules.specs.declared.node.Node.{Node}
 use Rattle.spds_rules.specs.declared.node.Var.{Var}
 use Rattle.spds_rules.specs.declared.node.Var.TheVariants.{Local, Made, Raised, Thrown}
 use Rattle.spds_rules.specs.Demand.{Asked, Demand}
-use Rattle.spds_rules.specs.Edges.{Assigns, IsEdge, Returns}
+use Rattle.spds_rules.specs.Edges.{Assigns, AssignsTo, IsEdge, Returns}
 use Rattle.spds_rules.specs.Nodes.{HasVar, at}
 use Rattle.spds_rules.specs.Systems.{IsString}
 use Rattle.step_rules.specs.declared.parts.Value.{Value}
@@ -33,7 +33,7 @@ use Rattle.run_sound.proofs.Growing.{extends_more, extends_same}
 use Rattle.run_sound.proofs.Invariant.{IsKept, IsMemory, IsReached, IsStored, IsTracked, more, sites_of}
 use Rattle.run_sound.proofs.Lists.{map-slice_set}
 use Rattle.run_sound.proofs.Memory.{memory_allocated, memory_set, memory_written, over_memory}
-use Rattle.run_sound.proofs.Moves.{AssignsNone, AssignsOnly, kept_gets, kept_goes, kept_throws}
+use Rattle.run_sound.proofs.Moves.{AssignsNone, kept_gets, kept_goes, kept_throws}
 use Rattle.run_sound.proofs.Nodes.{node_at, node_next}
 use Rattle.run_sound.proofs.Standing.{IsStanding, StandsBefore, place_at, shaped_here, standing, unraised}
 use Rattle.run_sound.proofs.Waiting.{is_string}
@@ -49,14 +49,14 @@ module _ (p : LinkedProgram) (q : Asked) (point : Point) (m : LinkedMethod) (c :
   -- the local may get the value
   pub record CanGet (to : ℕ) (value : Value) : Type 0 where
     pub next : Next c point.top.index (point.top.index + 1)
-    pub only : AssignsOnly c to
+    pub only : AssignsTo c to
     pub is_local : to < length m.locals
     pub comes : (x : ℕ) → value ≡ Object x → Comes (at (before point.top.method (point.top.index + 1)) (Local to)) x
 
   -- the local may get a new object of the class
   pub record CanMake (to class : ℕ) : Type 0 where
     pub next : Next c point.top.index (point.top.index + 1)
-    pub only : AssignsOnly c to
+    pub only : AssignsTo c to
     pub is_local : to < length m.locals
     pub assigns : Assigns c Made (Local to)
     pub makes : Makes c
@@ -150,7 +150,7 @@ module _ (p : LinkedProgram) (q : Asked) (point : Point) (m : LinkedMethod) (str
       all : List Site
       all = sites_of (point.heap ++ new_object (site.Raised place kind) class ∷ [])
 
-      edge : IsEdge p from Flow to
+      edge : IsEdge p q.reach from Flow to
       edge = record {
         from = node_at p point.top.method point.top.index false m c st.there here tt (Raised kind) raises;
         to = node_at p point.top.method point.top.index true m c st.there here (may_raise c kind raises) Thrown tt;
@@ -186,7 +186,7 @@ module _ (p : LinkedProgram) (q : Asked) (point : Point) (m : LinkedMethod) (str
       goal : Node
       goal = at (before point.top.method (point.top.index + 1)) (Local to)
 
-      edge : IsEdge p from Flow goal
+      edge : IsEdge p q.reach from Flow goal
       edge = record {
         from = node_at p point.top.method point.top.index false m c st.there here tt Made can.makes;
         to = node_next p point.top.method point.top.index (point.top.index + 1) m c st.there st.fits here can.next to can.is_local;

@@ -76,7 +76,7 @@ module _ (p : LinkedProgram) (q : Asked) (point : Point) (m : LinkedMethod) (str
       goal : Node
       goal = at (before point.top.method (point.top.index + 1)) (Local to)
 
-      edge : IsEdge p from (edge_kind.Load field) goal
+      edge : IsEdge p q.reach from (edge_kind.Load field) goal
       edge = record {
         from = node_at p point.top.method point.top.index false m c st.there here tt (Local base) base_below;
         to = node_next p point.top.method point.top.index (point.top.index + 1) m c st.there st.fits here next to below;
@@ -114,7 +114,7 @@ module _ (p : LinkedProgram) (q : Asked) (point : Point) (m : LinkedMethod) (str
       (λ object. HasDeclared p object.class field) (λ o object. gets to (field_of object field) ∷ []) offered h (λ o object e there has. (
         record {
           next = refl;
-          only = λ y a. a;
+          only = refl;
           is_local = fits.0;
           comes = λ x is. loaded (Load to base field) here to base field o x object (refl, refl, refl) refl fits.0 fits.1 e there (field_written object field x is);
         },
@@ -129,10 +129,10 @@ module _ (p : LinkedProgram) (q : Asked) (point : Point) (m : LinkedMethod) (str
       by_access (IsJustified p q point m (LoadCell to base) string) tt (omega arith) point.heap (local_of (standing point.top) base)
       (λ object. IsArraySite p object.site) (λ o object. gets to Null ∷ map (λ cell. gets to cell) (cells object) ++ raises 1 ∷ []) offered h
       (λ o object e there has. (
-        record { next = refl; only = λ y a. a; is_local = fits.0; comes = λ x is. cc },
+        record { next = refl; only = refl; is_local = fits.0; comes = λ x is. cc },
         each_mapped (IsJustified p q point m (LoadCell to base) string) (λ cell. gets to cell) (cells object) (raises 1 ∷ []) (λ cell has_cell. record {
           next = refl;
-          only = λ y a. a;
+          only = refl;
           is_local = fits.0;
           comes = λ x is. loaded (LoadCell to base) here to base 0 o x object (refl, refl, refl) refl fits.0 fits.1 e there
               (values_written object 0 (Object x) (has_cell.0, has_cell.1 ∙ ap Some is));
@@ -191,7 +191,7 @@ module _ (p : LinkedProgram) (q : Asked) (point : Point) (m : LinkedMethod) (str
       of_value J tt (operand_of p (standing point.top) a) _ offered (λ value is r.
       by_access J tt refl point.heap (local_of (standing point.top) base) (λ object. HasDeclared p object.class field) (λ o object. writes o field value ∷ []) offered r
       (λ o object e there has. (
-        can_write (Store base field a) here base field o a value object refl (λ y a. a) (λ v is_var. (refl, refl, is_var))
+        can_write (Store base field a) here base field o a value object refl refl (λ v is_var. (refl, refl, is_var))
             (λ x of. source_of p q point m string st (Store base field a) here a x fits.2 (0, refl) (is ∙ ap Some of)) e there
             (inr (object.class, (st.memory.objects o object there).class, has)),
         tt,
@@ -208,7 +208,7 @@ module _ (p : LinkedProgram) (q : Asked) (point : Point) (m : LinkedMethod) (str
       by_access J tt (omega arith) point.heap (local_of (standing point.top) base) (λ object. IsArraySite p object.site)
       (λ o object. writes o 0 value ∷ raises 1 ∷ raises 2 ∷ []) offered r
       (λ o object e there has. (
-        can_write (StoreCell base a) here base 0 o a value object refl (λ y a. a) (λ v is_var. (refl, refl, is_var))
+        can_write (StoreCell base a) here base 0 o a value object refl refl (λ v is_var. (refl, refl, is_var))
             (λ x of. source_of p q point m string st (StoreCell base a) here a x fits.1 (0, refl) (is ∙ ap Some of)) e there (inl (refl, has)),
         (omega arith, (omega arith, tt)),
       ))) h

@@ -31,7 +31,7 @@ module _ (p : LinkedProgram) (q : Asked) (point : Point) (m : LinkedMethod) (str
       by_value (IsJustified p q point m (This to) string) tt point.top.this (λ v. gets to v ∷ []) offered h (λ v e. (
         record {
           next = refl;
-          only = λ y a. a;
+          only = refl;
           is_local = fits.0;
           comes = λ x is. assigned p q point m string st (This to) here var.This to (point.top.index + 1) x fits.1 (refl, refl) refl fits.0
               (λ d. st.slots slot.This x (cc) d);
@@ -46,7 +46,7 @@ module _ (p : LinkedProgram) (q : Asked) (point : Point) (m : LinkedMethod) (str
       by_value (IsJustified p q point m (Param to number) string) tt (slice_get point.top.params number) (λ v. gets to v ∷ []) offered h (λ v e. (
         record {
           next = refl;
-          only = λ y a. a;
+          only = refl;
           is_local = fits.0;
           comes = λ x is. assigned p q point m string st (Param to number) here (var.Param number) to (point.top.index + 1) x fits.1 (refl, refl) refl fits.0
               (λ d. st.slots (slot.Param number) x (cc) d);
@@ -61,7 +61,7 @@ module _ (p : LinkedProgram) (q : Asked) (point : Point) (m : LinkedMethod) (str
       by_value (IsJustified p q point m (Caught to) string) tt point.top.caught (λ v. gets to v ∷ []) offered h (λ v e. (
         record {
           next = refl;
-          only = λ y a. a;
+          only = refl;
           is_local = fits;
           comes = λ x is. assigned p q point m string st (Caught to) here var.Caught to (point.top.index + 1) x tt (refl, refl) refl fits
               (λ d. st.slots slot.Caught x (cc) d);
@@ -76,7 +76,7 @@ module _ (p : LinkedProgram) (q : Asked) (point : Point) (m : LinkedMethod) (str
       by_value (IsJustified p q point m (Copy to a) string) tt (operand_of p (standing point.top) a) (λ v. gets to v ∷ []) offered h (λ v e. (
         record {
           next = refl;
-          only = λ y a. a;
+          only = refl;
           is_local = fits.0;
           comes = λ x is.
               let from : IsSource p q point m (Copy to a) string a x = source_of p q point m string st (Copy to a) here a x fits.1 (0, refl) (cc) in
@@ -92,7 +92,7 @@ module _ (p : LinkedProgram) (q : Asked) (point : Point) (m : LinkedMethod) (str
       by_value (IsJustified p q point m (Cast to a) string) tt (operand_of p (standing point.top) a) (λ v. gets to v ∷ raises 4 ∷ []) offered h (λ v e. (
         record {
           next = refl;
-          only = λ y a. a;
+          only = refl;
           is_local = fits.0;
           comes = λ x is.
               let from : IsSource p q point m (Cast to a) string a x = source_of p q point m string st (Cast to a) here a x fits.1 (0, refl) (cc) in
@@ -108,7 +108,7 @@ module _ (p : LinkedProgram) (q : Asked) (point : Point) (m : LinkedMethod) (str
       only (IsJustified p q point m (New to class) string) (makes to class ∷ []) offered h (
         record {
           next = refl;
-          only = λ y a. a;
+          only = refl;
           is_local = fits.0;
           assigns = (refl, refl);
           makes = tt;
@@ -124,7 +124,7 @@ module _ (p : LinkedProgram) (q : Asked) (point : Point) (m : LinkedMethod) (str
       only (IsJustified p q point m (NewArray to) string) (makes to h.0 ∷ raises 3 ∷ []) offered h.2 (
         record {
           next = refl;
-          only = λ y a. a;
+          only = refl;
           is_local = fits;
           assigns = (refl, refl);
           makes = tt;

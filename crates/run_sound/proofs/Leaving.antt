@@ -55,7 +55,7 @@ module _ (p : LinkedProgram) (q : Asked) (point : Point) (m : LinkedMethod) (str
   thrown a here x from d = along_flow p q (sites_of point.heap) (at (place_at point) from.var)
       (at (in_flight point.top.method point.top.index) var.Thrown) string x edge d from.comes
     where
-      edge : IsEdge p (at (place_at point) from.var) Flow (at (in_flight point.top.method point.top.index) var.Thrown)
+      edge : IsEdge p q.reach (at (place_at point) from.var) Flow (at (in_flight point.top.method point.top.index) var.Thrown)
       edge = record {
         from = node_at p point.top.method point.top.index false m (Throw a) st.there here tt from.var from.has;
         to = node_at p point.top.method point.top.index true m (Throw a) st.there here tt var.Thrown tt;

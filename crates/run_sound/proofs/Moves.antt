@@ -1,5 +1,6 @@
 -- Effects that move the top frame keep what is known.
-use Rattle.std.proofs.Common.{◌≡◌, ℕ, ◌+◌, ◌<◌, ◌⊎◌, Some, true, false, List, length, slice_get, refl, sym, ◌∙◌, subst, inl, inr}
+use Rattle.std.proofs.Common.{◌≡◌, ℕ, ◌+◌, ◌<◌, ◌⊎◌, Some, None, true, false, List, length, slice_get, refl, sym, ◌∙◌, subst, inl, inr}
+use Rattle.std.proofs.lemmas.Option.{same_Some}
 use Rattle.jim_ast.proofs.Places.{slice_get-there}
 use Rattle.link_rules.specs.declared.code.Code.{Code}
 use Rattle.link_rules.specs.Flow.{Next}
@@ -10,6 +11,7 @@ use Rattle.link_sites.specs.Places.{before, in_flight}
 use Rattle.spds_rules.specs.declared.node.Var.TheVariants as var
 use Rattle.spds_rules.specs.Demand.{Asked, Demand}
 use Rattle.spds_rules.specs.Edges.{AssignsTo, FlowsIn}
+use Rattle.spds_rules.specs.Formals.{assigned}
 use Rattle.spds_rules.specs.Nodes.{at}
 use Rattle.step_rules.specs.declared.parts.Slot.{Slot}
 use Rattle.step_rules.specs.declared.parts.Slot.TheVariants.{Local, This, Param, Caught, Thrown}
@@ -25,11 +27,14 @@ use Rattle.run_sound.proofs.Standing.{IsStanding, StandsBefore, set_local, shape
 
 -- the statement assigns nothing
 abbrev pub AssignsNone : Code → Type 0
-AssignsNone c = (y : ℕ) → AssignsTo c y → ⊥
+AssignsNone c = assigned c ≡ None
 
--- the statement assigns nothing but the local
-abbrev pub AssignsOnly : Code → ℕ → Type 0
-AssignsOnly c to = (y : ℕ) → AssignsTo c y → y ≡ to
+-- nothing else than this does it leave alone
+leaves_all : (c : Code) (y : ℕ) → AssignsNone c → AssignsTo c y → ⊥
+leaves_all c y none assigns = absurd (cc (none, assigns))
+
+only_this : (c : Code) (to y : ℕ) → AssignsTo c to → AssignsTo c y → y ≡ to
+only_this c to y assigns other = same_Some y to (sym other ∙ assigns)
 
 module _ (p : LinkedProgram) (q : Asked) (point : Point) (m : LinkedMethod) (string : List Place) (st : IsStanding p q point m string) (c : Code)
     (here : StandsBefore point m c) where
@@ -75,14 +80,14 @@ module _ (p : LinkedProgram) (q : Asked) (point : Point) (m : LinkedMethod) (str
       each : (from : Slot) (x : ℕ) → slot_of g from ≡ Some (Object x)
           → ((slot_of (standing point.top) from ≡ Some (Object x)) × FlowsIn m c point.top.index false (var_of from) index false (var_of from))
           ⊎ (Demand p q (node_of g from) → IsReached p q (sites_of point.heap) (node_of g from) string x)
-      each (Local y) x e = inl (e, (next, inl (none y, refl)))
+      each (Local y) x e = inl (e, (next, inl (leaves_all c y none, refl)))
       each This x e = inl (e, (next, inl (tt, refl)))
       each (Param i) x e = inl (e, (next, inl (tt, refl)))
       each Caught x e = inl (e, (next, inl (tt, refl)))
       each Thrown x e = let unset = st.thrown in cc
 
   -- a local gets a value, and the frame goes on
-  pub kept_gets : (to : ℕ) (value : Value) → Next c point.top.index (point.top.index + 1) → AssignsOnly c to → to < length m.locals
+  pub kept_gets : (to : ℕ) (value : Value) → Next c point.top.index (point.top.index + 1) → AssignsTo c to → to < length m.locals
       → ((x : ℕ) → value ≡ Object x → Demand p q (at (before point.top.method (point.top.index + 1)) (var.Local to))
       → IsReached p q (sites_of point.heap) (at (before point.top.method (point.top.index + 1)) (var.Local to)) string x)
       → IsKept p q (state_of (gets to value (unraised point)))
@@ -117,7 +122,7 @@ module _ (p : LinkedProgram) (q : Asked) (point : Point) (m : LinkedMethod) (str
           ⊎ (Demand p q (node_of g from) → IsReached p q (sites_of point.heap) (node_of g from) string x)
       each (Local y) x e = elim (set_local point.top.locals to y value (Object x) (subst (λ n. to < n) (sym st.locals) below) e) [
         | inl set ↦ inr (subst (λ y. Demand p q (node_of g (Local y)) → IsReached p q (sites_of point.heap) (node_of g (Local y)) string x) (sym set.0) (reached x set.1))
-        | inr kept ↦ inl (kept.1, (next, inl (λ a. kept.0 (only y a), refl)))
+        | inr kept ↦ inl (kept.1, (next, inl (λ a. kept.0 (only_this c to y only a), refl)))
       ]
       each This x e = inl (e, (next, inl (tt, refl)))
       each (Param i) x e = inl (e, (next, inl (tt, refl)))

@@ -26,7 +26,7 @@ module _ (p : LinkedProgram) (q : Asked) (point : Point) (m : LinkedMethod) (str
 
   -- a local may get a number
   numeric : (to : ℕ) (divides : Bool) → StandsBefore point m (Numeric to divides) → CanGet p q point m (Numeric to divides) string to Number
-  numeric to divides here = record { next = refl; only = λ y a. a; is_local = fits_here p q point m string st (Numeric to divides) here; comes = λ x is. cc }
+  numeric to divides here = record { next = refl; only = refl; is_local = fits_here p q point m string st (Numeric to divides) here; comes = λ x is. cc }
 
   -- a computation
   pub numeric_row : (to : ℕ) (divides : Bool) → StandsBefore point m (Numeric to divides) → Row p (unraised point) (Numeric to divides) offered
@@ -41,7 +41,7 @@ module _ (p : LinkedProgram) (q : Asked) (point : Point) (m : LinkedMethod) (str
       by_object (IsJustified p q point m (Length to a) string) tt refl (operand_of p (standing point.top) a) (λ o. gets to Number ∷ []) offered h (λ o e. (
         record {
           next = refl;
-          only = λ y a. a;
+          only = refl;
           is_local = (fits_here p q point m string st (Length to a) here).0;
           comes = λ x is. cc;
         },
@@ -51,24 +51,24 @@ module _ (p : LinkedProgram) (q : Asked) (point : Point) (m : LinkedMethod) (str
   -- a conditional jump
   pub if_row : (jump : ℕ) → Row p (unraised point) (If jump) offered → Fine (If jump)
   if_row jump h = only (IsJustified p q point m (If jump) string) (goes (point.top.index + 1) ∷ goes jump ∷ []) offered h
-      ((inl refl, λ y a. a), ((inr refl, λ y a. a), tt))
+      ((inl refl, refl), ((inr refl, refl), tt))
 
   -- a jump
   pub goto_row : (jump : ℕ) → Row p (unraised point) (Goto jump) offered → Fine (Goto jump)
-  goto_row jump h = only (IsJustified p q point m (Goto jump) string) (goes jump ∷ []) offered h ((refl, λ y a. a), tt)
+  goto_row jump h = only (IsJustified p q point m (Goto jump) string) (goes jump ∷ []) offered h ((refl, refl), tt)
 
   -- a switch
   pub switch_row : (jumps : List ℕ) → Row p (unraised point) (Switch jumps) offered → Fine (Switch jumps)
   switch_row jumps h =
       let J = IsJustified p q point m (Switch jumps) string in
-      let all : AllOf J (map (λ jump. goes jump) jumps ++ []) = each_mapped J (λ jump. goes jump) jumps [] (λ jump has. (has, λ y a. a)) tt in
+      let all : AllOf J (map (λ jump. goes jump) jumps ++ []) = each_mapped J (λ jump. goes jump) jumps [] (λ jump has. (has, refl)) tt in
       only J (map (λ jump. goes jump) jumps) offered h (subst (AllOf J) (append-nil (map (λ jump. goes jump) jumps)) all)
 
   -- a monitor is entered or left
   pub monitor_row : (a : Arg) → Row p (unraised point) (Monitor a) offered → Fine (Monitor a)
   monitor_row a h = by_object (IsJustified p q point m (Monitor a) string) tt refl (operand_of p (standing point.top) a) (λ o. goes (point.top.index + 1) ∷ []) offered h
-      (λ o e. ((refl, λ y a. a), tt))
+      (λ o e. ((refl, refl), tt))
 
   -- a statement without an effect
   pub skip_row : Row p (unraised point) Skip offered → Fine Skip
-  skip_row h = only (IsJustified p q point m Skip string) (goes (point.top.index + 1) ∷ []) offered h ((refl, λ y a. a), tt)
+  skip_row h = only (IsJustified p q point m Skip string) (goes (point.top.index + 1) ∷ []) offered h ((refl, refl), tt)

@@ -75,7 +75,7 @@ module _ (p : LinkedProgram) (q : Asked) (point : Point) (m : LinkedMethod) (str
       → Comes p q point m c string (at (place_at point) v) x
       → Comes p q point m c string (at (before point.top.method next) (Local to)) x
   assigned v to next x has assigns goes below comes = λ d.
-      let edge : IsEdge p (at (place_at point) v) Flow (at (before point.top.method next) (Local to)) =
+      let edge : IsEdge p q.reach (at (place_at point) v) Flow (at (before point.top.method next) (Local to)) =
       record {
         from = node_at p point.top.method point.top.index false m c st.there here tt v has;
         to = node_next p point.top.method point.top.index next m c st.there st.fits here goes to below;

@@ -71,11 +71,11 @@ module _ (p : LinkedProgram) (q : Asked) (well : IsWellLinked p) (point : Point)
         goal : Node
         goal = at (before caller.method (caller.index + 1)) (Local to)
 
-        edge : IsEdge p from (Return (before caller.method caller.index)) goal
+        edge : IsEdge p q.reach from (Return (before caller.method caller.index)) goal
         edge = record {
           from = node_at p point.top.method point.top.index false m c st.there here tt given.var given.has;
           to = node_next p caller.method caller.index (caller.index + 1) its call stands.there stands.fits at_call refl to (local_fits to is);
-          row = record {
+          row = inl (record {
             unraised = refl;
             target = has.target;
             gives = inl (record {
@@ -86,17 +86,17 @@ module _ (p : LinkedProgram) (q : Asked) (well : IsWellLinked p) (point : Point)
               taken = is;
               is_local = refl;
             });
-          };
+          });
         }
 
     -- the caller takes the value
     kept_receives : (to : Option ℕ) (given : Option Value) (new : State) → has.target.to ≡ to → value ≡ given → Receives to given outer new → IsKept p q new
     kept_receives None given new is same becomes =
-        let kept = kept_goes p q outer its has.outer stands call at_call (caller.index + 1) refl (λ y a. cc) in
+        let kept = kept_goes p q outer its has.outer stands call at_call (caller.index + 1) refl is in
         let is_state : state_of (goes_on outer) ≡ state_of (goes_on (unraised outer)) = ap (λ (f : Frame). state_of (goes_on (under below f point))) (as_standing caller has.unraised) in
         subst (IsKept p q) (sym (becomes ∙ is_state)) kept
     kept_receives (Some to) (Some v) new is same becomes =
-        let kept = kept_gets p q outer its has.outer stands call at_call to v refl (λ y a. cc) (local_fits to is) (λ x e. comes to is x (same ∙ ap Some e)) in
+        let kept = kept_gets p q outer its has.outer stands call at_call to v refl is (local_fits to is) (λ x e. comes to is x (same ∙ ap Some e)) in
         let is_state : state_of (gets to v outer) ≡ state_of (gets to v (unraised outer)) = ap (λ (f : Frame). state_of (gets to v (under below f point))) (as_standing caller has.unraised) in
         subst (IsKept p q) (sym (becomes ∙ is_state)) kept
     kept_receives (Some to) None new is same becomes = subst (IsKept p q) (sym becomes) (kept_stopped p q outer ill_typed st.memory)

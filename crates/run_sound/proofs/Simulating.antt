@@ -10,6 +10,7 @@ use Rattle.link_laws.proofs.Whole.{links_well}
 use Rattle.run_covers.proofs.Whole.{links_covered}
 use Rattle.run_covers.specs.Covers.{IsCovered}
 use Rattle.spds_rules.specs.declared.node.Node.{Node}
+use Rattle.spds_rules.specs.declared.reach.Reach.TheVariants.{Plain}
 use Rattle.spds_rules.specs.Demand.{Asked, Demand}
 use Rattle.spds_rules.specs.Systems.{Calls, Fields}
 use Rattle.step_rules.specs.declared.parts.Slot.TheVariants.{Local}
@@ -83,7 +84,7 @@ module _ (p : LinkedProgram) (q : Asked) where
 -- each state of a run agrees with the program
 pub runs_agree : (p : LinkedProgram) → IsWellLinked p → IsCovered p → RunsAgree p
 runs_agree p well covered count s run =
-    let nothing : Asked = record { targets = [] } in agrees p nothing well.form s (kept_run p nothing well covered run)
+    let nothing : Asked = record { targets = []; reach = Plain } in agrees p nothing well.form s (kept_run p nothing well covered run)
 
 -- the simulation
 pub runs_simulated : (p : LinkedProgram) → IsWellLinked p → IsCovered p → IsSimulated p

@@ -58,7 +58,7 @@ module _ (p : LinkedProgram) (q : Asked) (well : IsWellLinked p) (point : Point)
       only (IsJustified p q point m (code.LoadStatic to field) string) (gets to h.0 ∷ []) offered h.2 (
         record {
           next = refl;
-          only = λ y a. a;
+          only = refl;
           is_local = fits.0;
           comes = λ x is d. st.memory.static_fields field x (at (before point.top.method (point.top.index + 1)) (Local to)) string (h.1 ∙ ap Some is) d
               (record {
@@ -80,10 +80,10 @@ module _ (p : LinkedProgram) (q : Asked) (well : IsWellLinked p) (point : Point)
       (λ v e. (
         record {
           next = refl;
-          none = λ y a. a;
+          none = refl;
           loads = λ x n other is d load strings.
               let from : IsSource p q point m (code.StoreStatic field a) string a x = source_of p q point m string st (code.StoreStatic field a) here a x fits.1 (0, refl) (e ∙ ap Some is) in
-              let edge : IsEdge p (at (place_at point) from.var) Jump n =
+              let edge : IsEdge p q.reach (at (place_at point) from.var) Jump n =
               record {
                 from = node_at p point.top.method point.top.index false m (code.StoreStatic field a) st.there here tt from.var from.has;
                 to = loaded_node p well field n load;

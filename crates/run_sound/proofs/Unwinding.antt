@@ -120,13 +120,13 @@ module _ (p : LinkedProgram) (q : Asked) (well : IsWellLinked p) (point : Point)
         goal : Node
         goal = at (in_flight caller.method caller.index) var.Thrown
 
-        edge : IsEdge p from (Return (before caller.method caller.index)) goal
+        edge : IsEdge p q.reach from (Return (before caller.method caller.index)) goal
         edge = record {
           from = has_node p (flying point.top) shaped Thrown (Object o) is_thrown;
           to = node_at p caller.method caller.index true has.target.method
               (code.Call has.target.to has.target.mode has.target.class has.target.key has.target.receiver has.target.args has.target.targets)
               has.target.there has.target.call tt var.Thrown tt;
-          row = record { unraised = refl; target = has.target; gives = inr (record { raised = refl; at_call = refl; thrown = (refl, refl) }) };
+          row = inl (record { unraised = refl; target = has.target; gives = inr (record { raised = refl; at_call = refl; thrown = (refl, refl) }) });
         }
 
     -- it leaves the method
