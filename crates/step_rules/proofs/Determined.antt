@@ -2,7 +2,7 @@
 use Rattle.std.proofs.Common.{◌≡◌, ℕ, ◌+◌, ◌<◌, List, [], ◌∷◌, ◌++◌, Option, Some, None, Bool, true, false, length, map, slice_get, refl, sym, ap, ◌∙◌, subst, arith, inl, inr}
 use Rattle.std.proofs.lemmas.Bool.{cases_order}
 use Rattle.std.proofs.lemmas.Option.{get_or_from_slice_get}
-use Rattle.class_tree.proofs.LawFacts.{path_one}
+use Rattle.class_tree.proofs.Selected.{selection_one}
 use Rattle.class_tree.specs.Paths.{IsLeast}
 use Rattle.jim_ast.proofs.Places.{slice_get-below}
 use Rattle.jim_ast.specs.declared.syntax.Mode.{Mode}
@@ -85,7 +85,7 @@ module _ (p : LinkedProgram) (at : Point) (form : IsInForm p) where
   -- one method is found
   finds_one : (class key i j : ℕ) (m n : LinkedMethod) → Finds p class key i m → Finds p class key j n → (i ≡ j) × (m ≡ n)
   finds_one class key i j m n x y =
-      let rows : Some x.row ≡ Some y.row = path_one p.rows class key (Some x.row) (Some y.row) x.resolved y.resolved in
+      let rows : Some x.row ≡ Some y.row = selection_one p.rows class key (Some x.row) (Some y.row) x.resolved y.resolved in
       let row : x.row ≡ y.row = cc in
       let same : i ≡ j = increasing_one p.method_rows i j y.row form.ordered (x.numbered ∙ ap Some row) y.numbered in
       (same, same_place p.methods j m n (subst (λ k. slice_get p.methods k ≡ Some m) same x.there) y.there)
