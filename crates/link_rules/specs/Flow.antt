@@ -3,7 +3,7 @@ use Rattle.std.specs.Prelude.{◌≡◌, ℕ, ◌+◌, ◌<◌, ◌≤◌, ◌�
 use Rattle.jim_ast.specs.Lists.{Has}
 use Rattle.link_rules.specs.declared.code.Catch.{Catch}
 use Rattle.link_rules.specs.declared.code.Code.{Code}
-use Rattle.link_rules.specs.declared.code.Code.TheVariants.{Load, Store, Length, Monitor, Throw, Call, LoadCell, StoreCell, NewArray, Cast, Numeric, If, Goto, Switch, Return}
+use Rattle.link_rules.specs.declared.code.Code.TheVariants.{This, Param, Caught, Copy, Cast, New, NewArray, Numeric, Length, Load, Store, LoadCell, StoreCell, LoadStatic, StoreStatic, Call, If, Goto, Switch, Return, Throw, Monitor, Skip}
 
 -- a run may go on from the statement at t to the one at s
 abbrev pub Next : Code → ℕ → ℕ → Type 0
@@ -12,7 +12,24 @@ Next (Goto jump) t s = s ≡ jump
 Next (Switch jumps) t s = Has jumps s
 Next (Return arg) t s = ⊥
 Next (Throw arg) t s = ⊥
-Next _ t s = s ≡ t + 1
+Next (This to) t s = s ≡ t + 1
+Next (Param to number) t s = s ≡ t + 1
+Next (Caught to) t s = s ≡ t + 1
+Next (Copy to arg) t s = s ≡ t + 1
+Next (Cast to arg) t s = s ≡ t + 1
+Next (New to class) t s = s ≡ t + 1
+Next (NewArray to) t s = s ≡ t + 1
+Next (Numeric to divides) t s = s ≡ t + 1
+Next (Length to arg) t s = s ≡ t + 1
+Next (Load to base field) t s = s ≡ t + 1
+Next (Store base field arg) t s = s ≡ t + 1
+Next (LoadCell to base) t s = s ≡ t + 1
+Next (StoreCell base arg) t s = s ≡ t + 1
+Next (LoadStatic to field) t s = s ≡ t + 1
+Next (StoreStatic field arg) t s = s ≡ t + 1
+Next (Call to mode class key receiver args targets) t s = s ≡ t + 1
+Next (Monitor arg) t s = s ≡ t + 1
+Next Skip t s = s ≡ t + 1
 
 -- the handler covers the statement at t
 abbrev pub CoversPlace : Catch → ℕ → Type 0
@@ -41,4 +58,15 @@ MayRaise (StoreCell base arg) k = k < 3
 MayRaise (NewArray to) k = k ≡ 3
 MayRaise (Cast to arg) k = k ≡ 4
 MayRaise (Numeric to divides) k = (divides ≡ true) × (k ≡ 5)
-MayRaise _ k = ⊥
+MayRaise (This to) k = ⊥
+MayRaise (Param to number) k = ⊥
+MayRaise (Caught to) k = ⊥
+MayRaise (Copy to arg) k = ⊥
+MayRaise (New to class) k = ⊥
+MayRaise (LoadStatic to field) k = ⊥
+MayRaise (StoreStatic field arg) k = ⊥
+MayRaise (If jump) k = ⊥
+MayRaise (Goto jump) k = ⊥
+MayRaise (Switch jumps) k = ⊥
+MayRaise (Return arg) k = ⊥
+MayRaise Skip k = ⊥

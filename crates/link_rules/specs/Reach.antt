@@ -38,7 +38,10 @@ RefusesAt w m index rule.UndeclaredCallee = CallsUndeclared w m index
 RefusesAt w m index rule.BadArguments = HasWrongArguments m index ⊎ TakesNoResult m index
 RefusesAt w m index rule.NativeCallee = CallsNative w m index
 RefusesAt w m index rule.AmbiguousDefault = CallsAmbiguous w m index
-RefusesAt w m index _ = ⊥
+RefusesAt w m index rule.DuplicateClass = ⊥
+RefusesAt w m index rule.UnknownParent = ⊥
+RefusesAt w m index rule.CyclicClass = ⊥
+RefusesAt w m index rule.NoEntry = ⊥
 
 -- the rules that take a call its targets where they refuse it
 abbrev pub TakesTargets : LinkKind → Type 0
@@ -51,7 +54,19 @@ TakesTargets rule.UndeclaredCallee = Unit {0}
 TakesTargets rule.BadArguments = Unit {0}
 TakesTargets rule.NativeCallee = Unit {0}
 TakesTargets rule.AmbiguousDefault = Unit {0}
-TakesTargets _ = ⊥
+TakesTargets rule.DuplicateClass = ⊥
+TakesTargets rule.UnknownParent = ⊥
+TakesTargets rule.CyclicClass = ⊥
+TakesTargets rule.NoEntry = ⊥
+TakesTargets rule.DuplicateLocal = ⊥
+TakesTargets rule.DuplicateLabel = ⊥
+TakesTargets rule.UnknownLabel = ⊥
+TakesTargets rule.FallsOff = ⊥
+TakesTargets rule.BadIdentity = ⊥
+TakesTargets rule.RetStatement = ⊥
+TakesTargets rule.NestedArray = ⊥
+TakesTargets rule.UnknownField = ⊥
+TakesTargets rule.AbstractNew = ⊥
 
 -- the call at the index has this target: it may run the method, and no such rule refuses it. What a call may run has a body or is native, so
 -- each target has a body

@@ -28,7 +28,24 @@ RefusesWhole w rule.DuplicateClass number = HasEarlierName w number
 RefusesWhole w rule.UnknownParent number = NamesUnknown w.rows.classes w.rows.implements number
 RefusesWhole w rule.CyclicClass number = IsOwnAncestor w.rows.classes w.rows.implements number
 RefusesWhole w rule.NoEntry number = (number ≡ 0) × ((row : ℕ) → IsEntry w row → ⊥)
-RefusesWhole w _ number = ⊥
+RefusesWhole w rule.DuplicateLocal number = ⊥
+RefusesWhole w rule.DuplicateLabel number = ⊥
+RefusesWhole w rule.UnknownLabel number = ⊥
+RefusesWhole w rule.FallsOff number = ⊥
+RefusesWhole w rule.UnknownLocal number = ⊥
+RefusesWhole w rule.BadIdentity number = ⊥
+RefusesWhole w rule.DynamicInvoke number = ⊥
+RefusesWhole w rule.Reflection number = ⊥
+RefusesWhole w rule.Threads number = ⊥
+RefusesWhole w rule.RetStatement number = ⊥
+RefusesWhole w rule.NestedArray number = ⊥
+RefusesWhole w rule.UnknownClass number = ⊥
+RefusesWhole w rule.UnknownField number = ⊥
+RefusesWhole w rule.AbstractNew number = ⊥
+RefusesWhole w rule.UndeclaredCallee number = ⊥
+RefusesWhole w rule.BadArguments number = ⊥
+RefusesWhole w rule.NativeCallee number = ⊥
+RefusesWhole w rule.AmbiguousDefault number = ⊥
 
 -- a method of a class that a run may reach, or the root with all that it initializes
 abbrev pub IsReachedAs : World → ℕ → DeclaredMethod → Type 0
@@ -99,7 +116,27 @@ IsTextOf w number text = ((m : DeclaredMethod) × (slice_get (methods_of w.class
 -- what is told of a refusal of the program: the class, or of the class to begin with nothing
 abbrev pub IsPlaceOf : World → LinkKind → ℕ → List ℕ → Type 0
 IsPlaceOf w rule.NoEntry number place = place ≡ []
-IsPlaceOf w _ number place = IsNamed w.classes place number
+IsPlaceOf w rule.DuplicateClass number place = IsNamed w.classes place number
+IsPlaceOf w rule.UnknownParent number place = IsNamed w.classes place number
+IsPlaceOf w rule.CyclicClass number place = IsNamed w.classes place number
+IsPlaceOf w rule.DuplicateLocal number place = IsNamed w.classes place number
+IsPlaceOf w rule.DuplicateLabel number place = IsNamed w.classes place number
+IsPlaceOf w rule.UnknownLabel number place = IsNamed w.classes place number
+IsPlaceOf w rule.FallsOff number place = IsNamed w.classes place number
+IsPlaceOf w rule.UnknownLocal number place = IsNamed w.classes place number
+IsPlaceOf w rule.BadIdentity number place = IsNamed w.classes place number
+IsPlaceOf w rule.DynamicInvoke number place = IsNamed w.classes place number
+IsPlaceOf w rule.Reflection number place = IsNamed w.classes place number
+IsPlaceOf w rule.Threads number place = IsNamed w.classes place number
+IsPlaceOf w rule.RetStatement number place = IsNamed w.classes place number
+IsPlaceOf w rule.NestedArray number place = IsNamed w.classes place number
+IsPlaceOf w rule.UnknownClass number place = IsNamed w.classes place number
+IsPlaceOf w rule.UnknownField number place = IsNamed w.classes place number
+IsPlaceOf w rule.AbstractNew number place = IsNamed w.classes place number
+IsPlaceOf w rule.UndeclaredCallee number place = IsNamed w.classes place number
+IsPlaceOf w rule.BadArguments number place = IsNamed w.classes place number
+IsPlaceOf w rule.NativeCallee number place = IsNamed w.classes place number
+IsPlaceOf w rule.AmbiguousDefault number place = IsNamed w.classes place number
 
 -- the rule, the place and the index that are told of a refusal
 abbrev pub IsTold : World → Refusal → LinkKind → List ℕ → ℕ → Type 0

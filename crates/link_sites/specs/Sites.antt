@@ -5,7 +5,7 @@ use Rattle.std.specs.Ordering.{nat_cmp}
 use Rattle.std.specs.declared.cmp.Ordering.TheVariants.{Less}
 use Rattle.class_tree.specs.Rows.{Sub}
 use Rattle.link_rules.specs.declared.code.Code.{Code}
-use Rattle.link_rules.specs.declared.code.Code.TheVariants.{New, NewArray}
+use Rattle.link_rules.specs.declared.code.Code.TheVariants.{This, Param, Caught, Copy, Cast, New, NewArray, Numeric, Length, Load, Store, LoadCell, StoreCell, LoadStatic, StoreStatic, Call, If, Goto, Switch, Return, Throw, Monitor, Skip}
 use Rattle.link_rules.specs.Classes.{object_name}
 use Rattle.link_rules.specs.Flow.{MayRaise}
 use Rattle.link_rules.specs.Linked.{LinkedProgram}
@@ -22,12 +22,53 @@ use Rattle.link_sites.specs.Places.{ComesBefore, HasCode, IsSameStatement}
 abbrev pub Makes : Code → Type 0
 Makes (New to class) = Unit {0}
 Makes (NewArray to) = Unit {0}
-Makes _ = ⊥
+Makes (This to) = ⊥
+Makes (Param to number) = ⊥
+Makes (Caught to) = ⊥
+Makes (Copy to arg) = ⊥
+Makes (Cast to arg) = ⊥
+Makes (Numeric to divides) = ⊥
+Makes (Length to arg) = ⊥
+Makes (Load to base field) = ⊥
+Makes (Store base field arg) = ⊥
+Makes (LoadCell to base) = ⊥
+Makes (StoreCell base arg) = ⊥
+Makes (LoadStatic to field) = ⊥
+Makes (StoreStatic field arg) = ⊥
+Makes (Call to mode class key receiver args targets) = ⊥
+Makes (If jump) = ⊥
+Makes (Goto jump) = ⊥
+Makes (Switch jumps) = ⊥
+Makes (Return arg) = ⊥
+Makes (Throw arg) = ⊥
+Makes (Monitor arg) = ⊥
+Makes Skip = ⊥
 
 -- the statement makes arrays
 abbrev pub MakesArrays : Code → Type 0
 MakesArrays (NewArray to) = Unit {0}
-MakesArrays _ = ⊥
+MakesArrays (This to) = ⊥
+MakesArrays (Param to number) = ⊥
+MakesArrays (Caught to) = ⊥
+MakesArrays (Copy to arg) = ⊥
+MakesArrays (Cast to arg) = ⊥
+MakesArrays (New to class) = ⊥
+MakesArrays (Numeric to divides) = ⊥
+MakesArrays (Length to arg) = ⊥
+MakesArrays (Load to base field) = ⊥
+MakesArrays (Store base field arg) = ⊥
+MakesArrays (LoadCell to base) = ⊥
+MakesArrays (StoreCell base arg) = ⊥
+MakesArrays (LoadStatic to field) = ⊥
+MakesArrays (StoreStatic field arg) = ⊥
+MakesArrays (Call to mode class key receiver args targets) = ⊥
+MakesArrays (If jump) = ⊥
+MakesArrays (Goto jump) = ⊥
+MakesArrays (Switch jumps) = ⊥
+MakesArrays (Return arg) = ⊥
+MakesArrays (Throw arg) = ⊥
+MakesArrays (Monitor arg) = ⊥
+MakesArrays Skip = ⊥
 
 -- the statement at the place has the fact, and no exception is in flight there
 abbrev pub IsUnraised : LinkedProgram → Place → (Code → Type 0) → Type 0
@@ -48,7 +89,27 @@ IsNamedClass p name class = IsFirstPlace (names_of p.classes) name class
 abbrev pub IsClassOfMade : LinkedProgram → Code → ℕ → Type 0
 IsClassOfMade p (New to made) class = class ≡ made
 IsClassOfMade p (NewArray to) class = IsNamedClass p object_name class
-IsClassOfMade p _ class = ⊥
+IsClassOfMade p (This to) class = ⊥
+IsClassOfMade p (Param to number) class = ⊥
+IsClassOfMade p (Caught to) class = ⊥
+IsClassOfMade p (Copy to arg) class = ⊥
+IsClassOfMade p (Cast to arg) class = ⊥
+IsClassOfMade p (Numeric to divides) class = ⊥
+IsClassOfMade p (Length to arg) class = ⊥
+IsClassOfMade p (Load to base field) class = ⊥
+IsClassOfMade p (Store base field arg) class = ⊥
+IsClassOfMade p (LoadCell to base) class = ⊥
+IsClassOfMade p (StoreCell base arg) class = ⊥
+IsClassOfMade p (LoadStatic to field) class = ⊥
+IsClassOfMade p (StoreStatic field arg) class = ⊥
+IsClassOfMade p (Call to mode class key receiver args targets) class = ⊥
+IsClassOfMade p (If jump) class = ⊥
+IsClassOfMade p (Goto jump) class = ⊥
+IsClassOfMade p (Switch jumps) class = ⊥
+IsClassOfMade p (Return arg) class = ⊥
+IsClassOfMade p (Throw arg) class = ⊥
+IsClassOfMade p (Monitor arg) class = ⊥
+IsClassOfMade p Skip class = ⊥
 
 -- the class of the exceptions of this kind
 abbrev pub IsClassOfRaised : LinkedProgram → ℕ → ℕ → Type 0
@@ -64,7 +125,9 @@ IsSiteClass p (site.Class number) class = (number < length p.class_texts) × IsN
 -- the objects of the site are arrays
 abbrev pub IsArraySite : LinkedProgram → Site → Type 0
 IsArraySite p (site.New place) = IsUnraised p place MakesArrays
-IsArraySite p _ = ⊥
+IsArraySite p (site.Raised place kind) = ⊥
+IsArraySite p (site.Text number) = ⊥
+IsArraySite p (site.Class number) = ⊥
 
 -- objects of this class have the instance field: the class is below the one that declares it
 abbrev pub HasDeclared : LinkedProgram → ℕ → ℕ → Type 0
@@ -86,8 +149,10 @@ Precedes p (site.New a) (site.New b) = ComesBefore a b
 Precedes p (site.New a) (site.Raised b kind) = ComesBefore a b ⊎ IsSameStatement a b
 Precedes p (site.Raised a kind) (site.New b) = ComesBefore a b
 Precedes p (site.Raised a kind) (site.Raised b other) = ComesBefore a b ⊎ (IsSameStatement a b × (kind < other))
-Precedes p (site.New a) _ = Unit {0}
-Precedes p (site.Raised a kind) _ = Unit {0}
+Precedes p (site.New a) (site.Text b) = Unit {0}
+Precedes p (site.New a) (site.Class b) = Unit {0}
+Precedes p (site.Raised a kind) (site.Text b) = Unit {0}
+Precedes p (site.Raised a kind) (site.Class b) = Unit {0}
 Precedes p (site.Text a) (site.Text b) = IsTextBefore p.texts a b
 Precedes p (site.Text a) (site.Class b) = Unit {0}
 Precedes p (site.Class a) (site.Class b) = IsTextBefore p.class_texts a b
