@@ -25,7 +25,7 @@ ghost use Rattle.spds_rules.specs.Nodes.{IsNode};
 
 use anyhow::Result;
 use linked_text::linked_of;
-use demand_set::{Demand, demand};
+use demand_set::{Demand, Reach, demand};
 use link_program::Linked;
 use link_sites::Place;
 use spds_nodes::is_node;
@@ -52,7 +52,7 @@ fn told(rt: &HostRuntime, linked: &Linked, node: Node) -> Result<String>
     fs::write(rt, "/proc/self/clear_refs", "5")?;
     let before = fs::read_to_string(rt, "/proc/self/status")?;
     let start = Instant::now(rt)?;
-    let found = demand(rt.alloc(), linked, &[node], u32::MAX);
+    let found = demand(rt.alloc(), linked, &[node], Reach::Plain, u32::MAX);
     let took = u64::try_from(start.elapsed(rt)?.as_micros()).unwrap_or(u64::MAX);
     let after = fs::read_to_string(rt, "/proc/self/status")?;
     match found {

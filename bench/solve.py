@@ -26,7 +26,7 @@ ghost use Rattle.spds_rules.specs.Nodes.{IsNode};
 
 use anyhow::Result;
 use linked_text::linked_of;
-use demand_set::{Demand, demand};
+use demand_set::{Demand, Reach, demand};
 use link_program::Linked;
 use link_sites::Place;
 use spds_nodes::is_node;
@@ -58,7 +58,7 @@ fn told(rt: &HostRuntime, linked: &Linked, node: Node) -> Result<String>
     requires well { IsWellLinked linked.now }
     requires node { IsNode linked.now node }
 {
-    let Ok(found) = demand(rt.alloc(), linked, &[node], u32::MAX) else {
+    let Ok(found) = demand(rt.alloc(), linked, &[node], Reach::Plain, u32::MAX) else {
         return Ok(String::from_str(rt.alloc(), "no demand")?);
     };
     let start = Instant::now(rt)?;

@@ -1,5 +1,6 @@
 //! A walk over the graph of a program, which tells what it was asked for.
 ghost use Rattle.std.specs.Prelude.{Some};
+ghost use Rattle.spds_rules.specs.declared.reach.Reach.TheVariants.{Plain};
 ghost use Rattle.spds_rules.specs.Edges.{IsEdge};
 ghost use Rattle.spds_rules.specs.Stores.{IsStore};
 
@@ -9,7 +10,7 @@ use link_program::Linked;
 use linked_text::linked_of;
 use linked_text::spots::{Spot, are_these, node};
 use spds_nodes::{into, stores_of};
-use spds_rules::{Edge, Node, StoreAt, Var};
+use spds_rules::{Edge, Node, Reach, StoreAt, Var};
 use std::alloc::{AllocError, Global};
 use std::test::Fail;
 
@@ -21,14 +22,14 @@ struct AskedGraph<'a> {
 }
 
 impl<'a> Graph for AskedGraph<'a> {
-    ghost edge = { λ g. IsEdge g.linked.now };
+    ghost edge = { λ g. IsEdge g.linked.now Plain };
 
     ghost store = { λ g. IsStore g.linked.now };
 
     ghost asked = { λ g. Some g.asked.items };
 
     fn edges_into(&mut self, alloc: Global, node: Node) -> Result<Vec<Edge>, NoMemory> {
-        let edges = into(alloc, self.linked, node)?;
+        let edges = into(alloc, self.linked, node, Reach::Plain)?;
         self.asked.push(node)?;
         Ok(edges)
     }

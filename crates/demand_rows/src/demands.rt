@@ -3,8 +3,8 @@ ghost use Rattle.std.specs.Prelude.{All, IsTrue};
 ghost use Rattle.spds_rules.specs.Nodes.{IsNode};
 
 use super::programs::{
-    ALL_SORTS, ESCAPES, INHERITED, NULL_RECEIVER, PASSED_BOX, RECURSION, SAME_TEXT, STATIC_BOX,
-    STORED_NULL, TWO_BOXES, TWO_CALLS,
+    ALL_SORTS, ESCAPES, FILES, FILES_READ_AGAIN, INHERITED, NULL_RECEIVER, PASSED_BOX, RECURSION,
+    SAME_TEXT, STATIC_BOX, STORED_NULL, TWO_BOXES, TWO_CALLS,
 };
 use demand_set::{Demand, DemandError, demand};
 use jim_ast::NoMemory;
@@ -13,24 +13,27 @@ use link_sites::Site;
 use linked_text::linked_of;
 use linked_text::spots::{Origin, Spot, node, site};
 use spds_nodes::is_node;
-use spds_rules::{EdgeKind, Node, Var};
+use spds_rules::{EdgeKind, Node, Reach, Var};
 use std::alloc::{AllocError, Global};
 use std::test::Fail;
 
-// A query of a program: its targets, how many nodes it demands, and of which sites start nodes are among them, in their order.
+// A query of a program: its targets, whether back edges count, how many nodes it demands, and of which sites start nodes are among them, in their
+// order.
 struct Case {
     name: &'static str,
     text: &'static str,
     targets: &'static [Spot],
+    reach: Reach,
     nodes: u32,
     sites: &'static [Origin],
 }
 
-const CASES: [Case; 14] = [
+const CASES: [Case; 17] = [
     Case {
         name: "two calls",
         text: TWO_CALLS,
         targets: &[Spot::Before(1, 4, Var::Local(2))],
+        reach: Reach::Plain,
         nodes: 10,
         sites: &[Origin::Made(1, 0), Origin::Made(1, 1)],
     },
@@ -38,6 +41,7 @@ const CASES: [Case; 14] = [
         name: "two boxes",
         text: TWO_BOXES,
         targets: &[Spot::Before(2, 8, Var::Local(4))],
+        reach: Reach::Plain,
         nodes: 31,
         sites: &[
             Origin::Made(2, 0),
@@ -50,6 +54,7 @@ const CASES: [Case; 14] = [
         name: "passed box",
         text: PASSED_BOX,
         targets: &[Spot::Before(1, 4, Var::Local(2))],
+        reach: Reach::Plain,
         nodes: 13,
         sites: &[Origin::Made(0, 3), Origin::Made(1, 0)],
     },
@@ -57,6 +62,7 @@ const CASES: [Case; 14] = [
         name: "static box",
         text: STATIC_BOX,
         targets: &[Spot::Before(0, 9, Var::Local(5))],
+        reach: Reach::Plain,
         nodes: 16,
         sites: &[Origin::Made(0, 0), Origin::Made(0, 1), Origin::Made(0, 2)],
     },
@@ -64,6 +70,7 @@ const CASES: [Case; 14] = [
         name: "recursion",
         text: RECURSION,
         targets: &[Spot::Before(1, 1, Var::Local(0))],
+        reach: Reach::Plain,
         nodes: 5,
         sites: &[Origin::Made(0, 1)],
     },
@@ -71,6 +78,7 @@ const CASES: [Case; 14] = [
         name: "escapes",
         text: ESCAPES,
         targets: &[Spot::Before(2, 4, Var::Local(1))],
+        reach: Reach::Plain,
         nodes: 15,
         sites: &[
             Origin::Made(0, 0),
@@ -83,6 +91,7 @@ const CASES: [Case; 14] = [
         name: "what is caught",
         text: ESCAPES,
         targets: &[Spot::Before(2, 3, Var::Local(0))],
+        reach: Reach::Plain,
         nodes: 12,
         sites: &[
             Origin::Made(0, 0),
@@ -94,6 +103,7 @@ const CASES: [Case; 14] = [
         name: "null receiver",
         text: NULL_RECEIVER,
         targets: &[Spot::Before(0, 4, Var::Local(1))],
+        reach: Reach::Plain,
         nodes: 4,
         sites: &[Origin::Fault(0, 1, 0)],
     },
@@ -101,6 +111,7 @@ const CASES: [Case; 14] = [
         name: "inherited",
         text: INHERITED,
         targets: &[Spot::Before(2, 2, Var::Local(1))],
+        reach: Reach::Plain,
         nodes: 5,
         sites: &[Origin::Made(0, 0), Origin::Made(1, 0)],
     },
@@ -111,6 +122,7 @@ const CASES: [Case; 14] = [
             Spot::Before(1, 3, Var::Local(0)),
             Spot::Before(1, 3, Var::Local(1)),
         ],
+        reach: Reach::Plain,
         nodes: 7,
         sites: &[Origin::Text(0)],
     },
@@ -121,6 +133,7 @@ const CASES: [Case; 14] = [
             Spot::Before(1, 3, Var::Local(0)),
             Spot::Before(1, 3, Var::Local(2)),
         ],
+        reach: Reach::Plain,
         nodes: 6,
         sites: &[Origin::Text(1), Origin::Text(0)],
     },
@@ -128,6 +141,7 @@ const CASES: [Case; 14] = [
         name: "all sorts",
         text: ALL_SORTS,
         targets: &[Spot::Before(0, 9, Var::Local(0))],
+        reach: Reach::Plain,
         nodes: 10,
         sites: &[
             Origin::Made(0, 8),
@@ -141,6 +155,7 @@ const CASES: [Case; 14] = [
         name: "stored null",
         text: STORED_NULL,
         targets: &[Spot::Before(0, 4, Var::Local(2))],
+        reach: Reach::Plain,
         nodes: 5,
         sites: &[Origin::Made(0, 0)],
     },
@@ -148,8 +163,46 @@ const CASES: [Case; 14] = [
         name: "unset",
         text: STORED_NULL,
         targets: &[Spot::Before(0, 0, Var::Local(2))],
+        reach: Reach::Plain,
         nodes: 1,
         sites: &[],
+    },
+    Case {
+        name: "files",
+        text: FILES,
+        targets: &[
+            Spot::Before(3, 1, Var::Local(0)),
+            Spot::Before(3, 2, Var::Local(0)),
+            Spot::Before(4, 3, Var::Local(0)),
+        ],
+        reach: Reach::Plain,
+        nodes: 7,
+        sites: &[Origin::Made(4, 0)],
+    },
+    Case {
+        name: "files that are tracked",
+        text: FILES,
+        targets: &[
+            Spot::Before(3, 1, Var::Local(0)),
+            Spot::Before(3, 2, Var::Local(0)),
+            Spot::Before(4, 3, Var::Local(0)),
+        ],
+        reach: Reach::Tracked,
+        nodes: 10,
+        sites: &[Origin::Made(4, 0)],
+    },
+    Case {
+        name: "files that are read again",
+        text: FILES_READ_AGAIN,
+        targets: &[
+            Spot::Before(3, 1, Var::Local(0)),
+            Spot::Before(3, 2, Var::Local(0)),
+            Spot::Before(4, 3, Var::Local(0)),
+            Spot::Before(4, 4, Var::Local(1)),
+        ],
+        reach: Reach::Tracked,
+        nodes: 12,
+        sites: &[Origin::Made(4, 0)],
     },
 ];
 
@@ -192,7 +245,7 @@ fn are_numbered(found: &Demand) -> bool {
 fn fits(alloc: Global, linked: &Linked, targets: &[Node], case: &Case) -> Result<bool, NoMemory>
     requires { All (IsNode linked.now) targets.now }
 {
-    match demand(alloc, linked, targets, case.nodes) {
+    match demand(alloc, linked, targets, case.reach, case.nodes) {
         Ok(found) => Ok(
             found.nodes().len() == case.nodes as usize
                 && sites_are(found.sites(), case.sites)
@@ -205,10 +258,16 @@ fn fits(alloc: Global, linked: &Linked, targets: &[Node], case: &Case) -> Result
 }
 
 // Whether it demands more than the budget allows.
-fn exceeds(alloc: Global, linked: &Linked, targets: &[Node], budget: u32) -> Result<bool, NoMemory>
+fn exceeds(
+    alloc: Global,
+    linked: &Linked,
+    targets: &[Node],
+    reach: Reach,
+    budget: u32,
+) -> Result<bool, NoMemory>
     requires { All (IsNode linked.now) targets.now }
 {
-    match demand(alloc, linked, targets, budget) {
+    match demand(alloc, linked, targets, reach, budget) {
         Ok(_) => Ok(false),
         Err(DemandError::OverBudget { budget: told }) => Ok(told == budget),
         Err(DemandError::NoMemory) => Err(AllocError),
@@ -228,7 +287,10 @@ fn is_right(alloc: Global, linked: &Linked, case: &Case) -> Result<bool, NoMemor
         return Ok(false);
     }
     let one_less = case.nodes.saturating_sub(1);
-    Ok(fits(alloc, linked, &targets, case)? && exceeds(alloc, linked, &targets, one_less)?)
+    Ok(
+        fits(alloc, linked, &targets, case)?
+            && exceeds(alloc, linked, &targets, case.reach, one_less)?,
+    )
 }
 
 fn is_right_of(alloc: Global, case: &Case) -> Result<bool, NoMemory> {

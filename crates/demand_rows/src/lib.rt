@@ -4,6 +4,8 @@
 #[cfg(test)]
 mod asking;
 #[cfg(test)]
+mod backs;
+#[cfg(test)]
 mod demands;
 #[cfg(test)]
 mod edges;

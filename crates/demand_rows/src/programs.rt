@@ -178,3 +178,39 @@ x = new Main; end: return; } }"#;
 pub const STORED_NULL: &str =
     "class Box { java.lang.Object v; } class Main { static void main(java.lang.String[]) { Box a, c; java.lang.Object x;
 a = new Box; c = new Box; c.<Box: java.lang.Object v> = null; x = a.<Box: java.lang.Object v>; return; } }";
+
+/// 0 `open`, 1 `read`, 2 `close`, 3 `use`, 4 `main`.
+pub const FILES: &str =
+    "class F { void open() { return; } void read() { return; } void close() { return; } }
+class Main { static void use(F) { F p; p := @parameter0: F; virtualinvoke p.<F: void open()>(); virtualinvoke p.<F: void read()>(); return; }
+static void main(java.lang.String[]) { F f, g; f = new F; staticinvoke <Main: void use(F)>(f); g = f; virtualinvoke f.<F: void close()>();
+return; } }";
+
+/// The same, and another name of the file is read last.
+pub const FILES_READ_AGAIN: &str =
+    "class F { void open() { return; } void read() { return; } void close() { return; } }
+class Main { static void use(F) { F p; p := @parameter0: F; virtualinvoke p.<F: void open()>(); virtualinvoke p.<F: void read()>(); return; }
+static void main(java.lang.String[]) { F f, g; f = new F; staticinvoke <Main: void use(F)>(f); g = f; virtualinvoke f.<F: void close()>();
+virtualinvoke g.<F: void read()>(); return; } }";
+
+/// 0 `use`, 1 `again`, 2 `main`. The locals of `main` are `c`, `x` and `y`; it calls `use` at 2 and 3, and `again` at 4 and 5.
+pub const BACKS: &str = "class A { }
+class C { java.lang.Object use(java.lang.Object) { C r; java.lang.Object p;
+r := @this: C;
+p := @parameter0: java.lang.Object;
+entermonitor p;
+return p; }
+static void again(java.lang.Object, java.lang.Object) { java.lang.Object p, q, s;
+p := @parameter0: java.lang.Object;
+q := @parameter1: java.lang.Object;
+s := @parameter1: java.lang.Object;
+p = null;
+return; } }
+class Main { static void main(java.lang.String[]) { C c; java.lang.Object x, y;
+c = new C;
+x = new A;
+y = virtualinvoke c.<C: java.lang.Object use(java.lang.Object)>(x);
+x = virtualinvoke c.<C: java.lang.Object use(java.lang.Object)>(x);
+staticinvoke <C: void again(java.lang.Object,java.lang.Object)>(x, y);
+staticinvoke <C: void again(java.lang.Object,java.lang.Object)>(y, y);
+return; } }";

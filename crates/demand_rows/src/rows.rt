@@ -4,13 +4,15 @@ use link_program::Linked;
 use linked_text::linked_of;
 use linked_text::spots::{Link, Origin, Spot, are_these, before, edge, node, site};
 use spds_nodes::{has_field, into, is_node, site_class, starts_of, stores_of};
-use spds_rules::{Edge, Node, StoreAt, Var};
+use spds_rules::{Edge, Node, Reach, StoreAt, Var};
 use std::alloc::Global;
 
 /// What is asked of a program, and what it is to answer.
 pub enum Row {
-    /// All edges that end in a node.
+    /// All edges that end in a node, but back edges.
     Into(Spot, &'static [Link]),
+    /// All that do where objects are tracked.
+    Tracked(Spot, &'static [Link]),
     /// Whether it has the node.
     Node(Spot, bool),
     /// The start nodes of a site.
@@ -35,8 +37,14 @@ fn are_links(edges: &[Edge], to: Node, links: &[Link]) -> bool {
     edges.len() == links.len() && links.iter().all(|link| edges.contains(&edge(*link, to)))
 }
 
-fn ends_in(alloc: Global, linked: &Linked, to: Node, links: &[Link]) -> Result<bool, NoMemory> {
-    let edges = into(alloc, linked, to)?;
+fn ends_in(
+    alloc: Global,
+    linked: &Linked,
+    to: Node,
+    reach: Reach,
+    links: &[Link],
+) -> Result<bool, NoMemory> {
+    let edges = into(alloc, linked, to, reach)?;
     Ok(are_links(&edges, to, links))
 }
 
@@ -81,7 +89,8 @@ fn has_class(linked: &Linked, origin: Origin, name: Option<&str>) -> bool {
 
 fn is_right(alloc: Global, linked: &Linked, row: &Row) -> Result<bool, NoMemory> {
     match row {
-        Row::Into(spot, links) => ends_in(alloc, linked, node(*spot), links),
+        Row::Into(spot, links) => ends_in(alloc, linked, node(*spot), Reach::Plain, links),
+        Row::Tracked(spot, links) => ends_in(alloc, linked, node(*spot), Reach::Tracked, links),
         Row::Node(spot, is) => Ok(is_node(linked, node(*spot)) == *is),
         Row::Starts(origin, spots) => starts_at(alloc, linked, *origin, spots),
         Row::Stores(field, rows) => is_stored(alloc, linked, *field, rows),
