@@ -5,6 +5,7 @@ use Rattle.link_rules.specs.Linked.{LinkedProgram}
 use Rattle.link_sites.specs.declared.site.Site.{Site}
 use Rattle.spds_rules.specs.declared.node.Node.{Node}
 use Rattle.spds_rules.specs.declared.node.Var.TheVariants.{Local}
+use Rattle.spds_rules.specs.declared.reach.Reach.TheVariants.{Plain}
 use Rattle.spds_rules.specs.Answers.{AreAnswered, AreSites, IsShared}
 use Rattle.spds_rules.specs.Demand.{Asked, Counts, Demand, HasMore}
 use Rattle.spds_rules.specs.Nodes.{at}
@@ -13,9 +14,9 @@ use Rattle.step_rules.specs.Runs.{Run}
 use Rattle.step_rules.specs.States.{Frame, HeapObject, State, place_of}
 use Rattle.run_sound.specs.Simulated.{Holds}
 
--- a query of these nodes
+-- a query of these nodes. It needs no back edges
 abbrev pub asked : List Node → Asked
-asked nodes = record { targets = nodes }
+asked nodes = record { targets = nodes; reach = Plain }
 
 -- the sites of the node's answer, in the order in which they are printed, and how many nodes the query demands
 pub record IsAnswerTo (p : LinkedProgram) (n : Node) (sites : List Site) (demanded : ℕ) : Type 0 where

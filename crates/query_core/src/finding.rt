@@ -11,7 +11,7 @@ ghost use Rattle.demand_set.specs.Demands.{DemandParts, IsDemandOf};
 ghost use Rattle.query_core.specs.Answers.{IsAffordable, IsOver};
 ghost use Rattle.query_core.specs.Sought.{AreFound, IsNumbered, IsPosed, IsSought, asked_of, nodes_of};
 
-use demand_set::{Demand, DemandError, demand};
+use demand_set::{Demand, DemandError, Reach, demand};
 use jim_ast::{List, NoMemory};
 use link_program::Linked;
 use link_sites::Site;
@@ -136,8 +136,8 @@ fn demand_of(
     ensures enough { (spent : ℕ) → IsAffordable linked.now (nodes_of first second) budget → result ≢ Err (DemandError.OverBudget spent) }
 {
     match second {
-        None => demand(alloc, linked, &[first], budget),
-        Some(second) => demand(alloc, linked, &[first, second], budget),
+        None => demand(alloc, linked, &[first], Reach::Plain, budget),
+        Some(second) => demand(alloc, linked, &[first, second], Reach::Plain, budget),
     }
 }
 
