@@ -3,7 +3,7 @@ ghost use Rattle.link_rules.specs.WellLinked.{IsWellLinked};
 ghost use Rattle.spds_rules.specs.Nodes.{IsNode};
 
 use super::programs::{THREE_CELLS, TWO_BOXES};
-use demand_set::{DemandError, demand};
+use demand_set::{DemandError, Reach, demand};
 use jim_ast::NoMemory;
 use link_program::Linked;
 use link_sites::{Place, Site};
@@ -97,7 +97,7 @@ fn fits(alloc: Global, linked: &Linked, target: Node, case: &Case) -> Result<boo
     requires well { IsWellLinked linked.now }
     requires target { IsNode linked.now target }
 {
-    match demand(alloc, linked, &[target], u32::MAX) {
+    match demand(alloc, linked, &[target], Reach::Plain, u32::MAX) {
         Ok(found) => {
             let solved = solve(alloc, linked, &found)?;
             Ok(are_these(found.sites(), solved.meets(), case.meetings))
