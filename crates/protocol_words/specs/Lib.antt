@@ -1,0 +1,4 @@
+pub mod Laws
+pub mod Numberings
+pub mod Refused
+pub mod Spellings
