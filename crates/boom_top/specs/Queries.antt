@@ -23,13 +23,16 @@ source_of (demo boxes) bytes = demo_source boxes
 -- the question needs no bytes
 abbrev pub IsDemo : Question → Type 0
 IsDemo (demo boxes) = Unit {0}
-IsDemo _ = ⊥
+IsDemo (points_to asked) = ⊥
+IsDemo (alias asked) = ⊥
+IsDemo (run asked) = ⊥
 
 -- what the parts of a question keep: the choices of a run are digits, and the demo has from 1 to 400 boxes
 abbrev pub IsFit : Question → Type 0
 IsFit (run asked) = All IsAsciiDigit asked.choices
 IsFit (demo boxes) = (0 < boxes) × (boxes ≤ 400)
-IsFit _ = Unit {0}
+IsFit (points_to asked) = Unit {0}
+IsFit (alias asked) = Unit {0}
 
 -- the stand-ins for Java's own classes: the program that their text spells. It declares the nine classes that linking needs
 pub record IsPrelude (prelude : Program) : Type 0 where

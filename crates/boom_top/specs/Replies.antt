@@ -93,7 +93,16 @@ IsProgramReply r input status lines = (HasNoPrelude × IsRefusedBy BadPrelude st
 abbrev pub IsUnread : List ℕ → Status → Type 0
 IsUnread bytes (NotText at) = StopsAt bytes at
 IsUnread bytes (NotJimple at) = (tokens : List Token) × Lexes bytes tokens × IsRefusedAt bytes tokens at
-IsUnread bytes _ = ⊥
+IsUnread bytes Done = ⊥
+IsUnread bytes Usage = ⊥
+IsUnread bytes ReadFault = ⊥
+IsUnread bytes TooLong = ⊥
+IsUnread bytes (NotLinked error) = ⊥
+IsUnread bytes (NoSuchPlace which) = ⊥
+IsUnread bytes (OverBudget budget) = ⊥
+IsUnread bytes WriteFault = ⊥
+IsUnread bytes NoMemory = ⊥
+IsUnread bytes BadPrelude = ⊥
 
 -- of a text within the limit: it spells no program, or it spells one
 abbrev pub IsTextReply : Request → List ℕ → Status → List (List ℕ) → Type 0
@@ -119,4 +128,12 @@ abbrev pub GivesUp : Status → Type 0
 GivesUp ReadFault = Unit {0}
 GivesUp WriteFault = Unit {0}
 GivesUp NoMemory = Unit {0}
-GivesUp _ = ⊥
+GivesUp Done = ⊥
+GivesUp Usage = ⊥
+GivesUp TooLong = ⊥
+GivesUp (NotText at) = ⊥
+GivesUp (NotJimple at) = ⊥
+GivesUp (NotLinked error) = ⊥
+GivesUp (NoSuchPlace which) = ⊥
+GivesUp (OverBudget budget) = ⊥
+GivesUp BadPrelude = ⊥

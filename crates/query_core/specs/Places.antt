@@ -43,4 +43,6 @@ pub record ArePlacesOf (p : LinkedProgram) (text : List ℕ) (index : ℕ) (firs
 -- the first part of a place of two locals that isn't there: the second local is looked for last
 abbrev pub IsMissingOfTwo : LinkedProgram → List ℕ → ℕ → List ℕ → List ℕ → Which → Type 0
 IsMissingOfTwo p text index first second which.Second = (n : Node) × IsPlaceOf p text index first n × IsMissing p text index second which.Local
-IsMissingOfTwo p text index first second part = IsMissing p text index first part
+IsMissingOfTwo p text index first second which.Method = IsMissing p text index first which.Method
+IsMissingOfTwo p text index first second which.Index = IsMissing p text index first which.Index
+IsMissingOfTwo p text index first second which.Local = IsMissing p text index first which.Local
