@@ -15,6 +15,13 @@ abstract class E extends java.lang.Thread { }
 class java.lang.Class { static void f() { return; } static native void g(); static void k(int) { return; } }
 class java.lang.Thread { static void f() { return; } static native void g(); }
 class java.lang.reflect.R extends java.lang.Thread { static void f() { return; } }
+interface F { void m() { return; } }
+interface G { void m() { return; } static void s() { return; } }
+class N { }
+class H extends N implements F, G { }
+class P implements F { native void m(); }
+class T extends java.lang.Thread implements F, G { }
+class java.lang.reflect.S implements F, G { }
 ";
 
 // Bodies of `main`. Where two kinds stand at one index, the one with the lesser number is told.
@@ -47,10 +54,14 @@ const BODIES: &str = "6 | DuplicateLocal 0 | int x, x; return;
 20 | UndeclaredCallee 0 | staticinvoke <A: void h()>(); return;
 20 | UndeclaredCallee 0 | B x; specialinvoke x.<B: void m()>(); return;
 20 | UndeclaredCallee 0 | A x; virtualinvoke x.<A: void f()>(); return;
+20 | UndeclaredCallee 0 | staticinvoke <H: void s()>(); return;
 21 | BadArguments 0 | staticinvoke <A: void f()>(null); return;
 21 | BadArguments 0 | A x; x = staticinvoke <A: void f()>(); return;
 22 | NativeCallee 0 | staticinvoke <A: void g()>(); return;
 22 | NativeCallee 0 | D x; virtualinvoke x.<D: void m()>(); return;
+23 | AmbiguousDefault 0 | H x; virtualinvoke x.<H: void m()>(); return;
+23 | AmbiguousDefault 1 | H x; nop; specialinvoke x.<H: void m()>(); return;
+23 | AmbiguousDefault 0 | G x; interfaceinvoke x.<G: void m()>(); return;
 6 7 | DuplicateLocal 0 | int x, x; l: l: return;
 6 8 | DuplicateLocal 0 | int x, x; goto q;
 6 9 | DuplicateLocal 0 | int x, x; nop;
@@ -67,6 +78,7 @@ const BODIES: &str = "6 | DuplicateLocal 0 | int x, x; return;
 6 20 | DuplicateLocal 0 | int x, x; staticinvoke <A: void h()>(); return;
 6 21 | DuplicateLocal 0 | int x, x; staticinvoke <A: void f()>(null); return;
 6 22 | DuplicateLocal 0 | int x, x; staticinvoke <A: void g()>(); return;
+6 23 | DuplicateLocal 0 | H x, x; virtualinvoke x.<H: void m()>(); return;
 7 8 | DuplicateLabel 0 | l: l: goto q;
 7 9 | DuplicateLabel 0 | l: l: nop;
 7 10 | DuplicateLabel 0 | l: l: x = null; return;
@@ -82,6 +94,7 @@ const BODIES: &str = "6 | DuplicateLocal 0 | int x, x; return;
 7 20 | DuplicateLabel 0 | l: l: staticinvoke <A: void h()>(); return;
 7 21 | DuplicateLabel 0 | l: l: staticinvoke <A: void f()>(null); return;
 7 22 | DuplicateLabel 0 | l: l: staticinvoke <A: void g()>(); return;
+7 23 | DuplicateLabel 0 | H x; l: l: virtualinvoke x.<H: void m()>(); return;
 8 9 | UnknownLabel 0 | if 0 == 1 goto q;
 8 9 | UnknownLabel 1 | a: return; b: catch java.lang.Error from a to q with b;
 8 17 | UnknownLabel 1 | a: return; catch Q from a to q with a;
@@ -99,6 +112,7 @@ const BODIES: &str = "6 | DuplicateLocal 0 | int x, x; return;
 9 20 | FallsOff 0 | staticinvoke <A: void h()>();
 9 21 | FallsOff 0 | staticinvoke <A: void f()>(null);
 9 22 | FallsOff 0 | staticinvoke <A: void g()>();
+9 23 | FallsOff 0 | H x; virtualinvoke x.<H: void m()>();
 10 11 | UnknownLocal 0 | x := @this: Main; return;
 10 12 | UnknownLocal 0 | x = dynamicinvoke f; return;
 10 13 | UnknownLocal 0 | staticinvoke <java.lang.Class: void k(int)>(x); return;
@@ -110,19 +124,25 @@ const BODIES: &str = "6 | DuplicateLocal 0 | int x, x; return;
 10 20 | UnknownLocal 0 | x = staticinvoke <A: int h()>(); return;
 10 21 | UnknownLocal 0 | staticinvoke <A: void f()>(x); return;
 10 22 | UnknownLocal 0 | virtualinvoke x.<D: void m()>(); return;
+10 23 | UnknownLocal 0 | virtualinvoke x.<H: void m()>(); return;
 13 14 | Reflection 0 | staticinvoke <java.lang.reflect.R: void f()>(); return;
 13 17 | Reflection 0 | staticinvoke <java.lang.invoke.Q: void f()>(); return;
 13 20 | Reflection 0 | staticinvoke <java.lang.Class: void h()>(); return;
 13 21 | Reflection 0 | staticinvoke <java.lang.Class: void f()>(null); return;
 13 22 | Reflection 0 | staticinvoke <java.lang.Class: void g()>(); return;
+13 23 | Reflection 0 | java.lang.reflect.S x; virtualinvoke x.<java.lang.reflect.S: void m()>(); return;
 14 19 | Threads 0 | E x; x = new E; return;
 14 20 | Threads 0 | staticinvoke <java.lang.Thread: void h()>(); return;
 14 21 | Threads 0 | staticinvoke <java.lang.Thread: void f()>(null); return;
 14 22 | Threads 0 | staticinvoke <java.lang.Thread: void g()>(); return;
+14 23 | Threads 0 | T x; virtualinvoke x.<T: void m()>(); return;
 17 21 | UnknownClass 0 | staticinvoke <Q: void f()>(null); return;
 20 21 | UndeclaredCallee 0 | staticinvoke <A: void h()>(null); return;
 20 22 | UndeclaredCallee 0 | C x; virtualinvoke x.<C: void m()>(); return;
+20 23 | UndeclaredCallee 0 | N x; virtualinvoke x.<N: void m()>(); return;
 21 22 | BadArguments 0 | staticinvoke <A: void g()>(null); return;
+21 23 | BadArguments 0 | H x; virtualinvoke x.<H: void m()>(null); return;
+22 23 | NativeCallee 0 | F x; interfaceinvoke x.<F: void m()>(); return;
 7 10 | UnknownLocal 0 | x = null; l: l: return;
 6 22 | DuplicateLocal 0 | int x, x; nop; staticinvoke <A: void g()>(); return;
 17 22 | NativeCallee 0 | A x; staticinvoke <A: void g()>(); x = new Q; return;";
@@ -131,7 +151,7 @@ const BODIES: &str = "6 | DuplicateLocal 0 | int x, x; return;
 const EACH_KIND: &str =
     "int x, x; l: l: y = null; x := @this: Main; dynamicinvoke f; staticinvoke <java.lang.Class: void f()>(); \
 staticinvoke <java.lang.Thread: void f()>(); ret x; x = newmultiarray (int)[1][]; x = new Q; x = <A: int f>; x = new B; \
-staticinvoke <A: void h()>(); staticinvoke <A: void f()>(null); staticinvoke <A: void g()>(); goto q; nop;";
+staticinvoke <A: void h()>(); staticinvoke <A: void f()>(null); staticinvoke <A: void g()>(); virtualinvoke x.<H: void m()>(); goto q; nop;";
 
 // Classes that are refused as a whole, whatever the bodies of their methods: a lesser number is told, wherever it stands.
 const WHOLES: &str = "1 | DuplicateClass K | class K { } class K { }
@@ -140,13 +160,9 @@ const WHOLES: &str = "1 | DuplicateClass K | class K { } class K { }
 2 | UnknownParent L | class K { } class L implements K, Q { } class M extends Q { }
 3 | CyclicClass K | class K extends K { }
 3 | CyclicClass L | class K extends Main { } class L extends M { } class M implements L { }
-4 | DefaultMethod <I: void m()> | interface I { static void f() { return; } void m() { return; } }
 1 2 | DuplicateClass K | class L extends Q { } class K { } class K { }
 1 3 | DuplicateClass K | class L extends L { } class K { } class K { }
-1 4 | DuplicateClass K | interface I { void m() { return; } } class K { } class K { }
-2 3 | UnknownParent K | class L extends L { } class K extends Q { }
-2 4 | UnknownParent K | interface I { void m() { return; } } class K extends Q { }
-3 4 | CyclicClass K | interface I { void m() { return; } } class K extends K { }";
+2 3 | UnknownParent K | class L extends L { } class K extends Q { }";
 
 // Whole programs: no class to begin with, the order of methods, the root, and which methods are reached.
 const PROGRAMS: &str = "5 17 | NoEntry | class A { }
@@ -160,7 +176,7 @@ const PROGRAMS: &str = "5 17 | NoEntry | class A { }
 1 5 | DuplicateClass A | class A { } class A { }
 2 5 | UnknownParent A | class A extends Q { }
 3 5 | CyclicClass A | class A extends A { }
-4 5 | DefaultMethod <I: void m()> | interface I { void m() { return; } }
+5 23 | NoEntry | interface F { void m() { return; } } interface G { void m() { return; } } class Main implements F, G { }
 14 17 | Threads <Main: void main(java.lang.String[])> 0 | class Main { static void main(java.lang.String[]) { Main x; x = new java.lang.Thread; return; } }
 9 9 | FallsOff <A: void f()> 0 | class A { static void f() { nop; } } class Main { static void main(java.lang.String[]) { staticinvoke <A: void f()>(); nop; } }
 9 9 | FallsOff <Main: void main(java.lang.String[])> 1 | class Main { static void main(java.lang.String[]) { staticinvoke <A: void f()>(); nop; } } class A { static void f() { nop; } }
@@ -177,6 +193,9 @@ const PROGRAMS: &str = "5 17 | NoEntry | class A { }
 19 | AbstractNew root 0 | abstract class java.lang.String { } class Main { static void main(java.lang.String[]) { return; } }
 14 | Threads root 3 | class java.lang.Thread { } class Main extends java.lang.Thread { static void main(java.lang.String[]) { nop; } }
 9 19 | FallsOff <Main: void main(java.lang.String[])> 0 | abstract class java.lang.String { } class Main { static void main(java.lang.String[]) { nop; } }
+23 | AmbiguousDefault <Main: void main(java.lang.String[])> 0 | interface F { void m() { return; } } interface G { void m() { return; } } class H implements F, G { } class C extends H { void m() { return; } } class Main { static void main(java.lang.String[]) { H x; virtualinvoke x.<H: void m()>(); return; } }
+9 23 | AmbiguousDefault <Main: void main(java.lang.String[])> 0 | interface F { void m() { nop; } } interface G { void m() { nop; } } class H implements F, G { } class Main { static void main(java.lang.String[]) { H x; specialinvoke x.<H: void m()>(); return; } }
+9 17 | FallsOff <F: void m()> 0 | interface F { void m() { nop; } } class H implements F { } class Main { static void main(java.lang.String[]) { H x; virtualinvoke x.<H: void m()>(); x = new Q; return; } }
 22 | NativeCallee <Main: void main(java.lang.String[])> 0 | class A { void m() { return; } } abstract class B extends A { native void m(); } class C extends B { } class Main { static void main(java.lang.String[]) { A x; virtualinvoke x.<A: void m()>(); return; } }
 10 22 | UnknownLocal <Main: void main(java.lang.String[])> 1 | class A { void m() { return; } } abstract class B extends A { native void m(); } class Main { static void main(java.lang.String[]) { A x; virtualinvoke x.<A: void m()>(); y = null; return; } }
 20 | UndeclaredCallee <java.lang.NullPointerException: void <init>(java.lang.String)> 2 | class java.lang.RuntimeException { } class Main { static void main(java.lang.String[]) { java.lang.NullPointerException x; specialinvoke x.<java.lang.NullPointerException: void <init>(java.lang.String)>(null); return; } }";

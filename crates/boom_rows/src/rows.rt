@@ -167,6 +167,38 @@ x = interfaceinvoke r.<I: java.lang.Object m()>(); return; } }",
 points-to;Main;<U: java.lang.Object m()>;0;o;100 | refused NoSuchPlace method~",
 );
 
+// A method of an interface: the lowest runs.
+const LOWEST: (&str, &str) = (
+    "class A { } class B { } interface I { java.lang.Object m() { java.lang.Object o; o = new A; return o; } }
+interface J implements I { java.lang.Object m() { java.lang.Object o; o = new B; return o; } } class C implements I, J { }
+class Main { static void main(java.lang.String[]) { I r; java.lang.Object x; r = new C; x = interfaceinvoke r.<I: java.lang.Object m()>(); return; } }",
+    "points-to;Main;@;2;x;100 | points-to @ 2 x~site <J: java.lang.Object m()> 0 new B~sites 1~demanded 3~",
+);
+
+// The lowest has no body, and hides the one above.
+const HIDDEN: (&str, &str) = (
+    "class A { } class B { } interface I { java.lang.Object m() { java.lang.Object o; o = new A; return o; } }
+interface J implements I { java.lang.Object m(); } class C implements I, J { }
+class Main { static void main(java.lang.String[]) { I r; java.lang.Object x; r = new C; x = interfaceinvoke r.<I: java.lang.Object m()>(); return; } }",
+    "points-to;Main;@;2;x;100 | points-to @ 2 x~sites 0~demanded 1~",
+);
+
+// Two, of which none is lower.
+const SEVERAL: (&str, &str) = (
+    "class A { } class B { } interface I { java.lang.Object m() { java.lang.Object o; o = new A; return o; } }
+interface J implements I { java.lang.Object m() { java.lang.Object o; o = new B; return o; } } interface K { java.lang.Object m() { return null; } } class C implements I, K { }
+class Main { static void main(java.lang.String[]) { I r; java.lang.Object x; r = new C; x = interfaceinvoke r.<I: java.lang.Object m()>(); return; } }",
+    "points-to;Main;@;2;x;100 | refused NotLinked AmbiguousDefault @ 1~",
+);
+
+// The same, with a method of the class's own.
+const OWN: (&str, &str) = (
+    "class A { } class B { } interface I { java.lang.Object m() { java.lang.Object o; o = new A; return o; } }
+interface J implements I { java.lang.Object m() { java.lang.Object o; o = new B; return o; } } interface K { java.lang.Object m() { return null; } } class C implements I, K { java.lang.Object m() { return null; } }
+class Main { static void main(java.lang.String[]) { I r; java.lang.Object x; r = new C; x = interfaceinvoke r.<I: java.lang.Object m()>(); return; } }",
+    "points-to;Main;@;2;x;100 | points-to @ 2 x~sites 0~demanded 1~",
+);
+
 // A class as a compiler lays it out, over the stand-ins for Java's own classes.
 const HELLO: (&str, &str) = (
     "public class Main extends java.lang.Object
@@ -287,6 +319,14 @@ fn answers_calls_and_fields(rt: HostRuntime) -> Result<(), Fail> {
     for rows in [
         CALLS, BOXES, NAMES, STATICS, RECURSION, ITSELF, NOTHING, DISPATCH, HELLO,
     ] {
+        check_rows(&rt, rows)?;
+    }
+    Ok(())
+}
+
+#[test]
+fn answers_calls_of_interfaces(rt: HostRuntime) -> Result<(), Fail> {
+    for rows in [LOWEST, HIDDEN, SEVERAL, OWN] {
         check_rows(&rt, rows)?;
     }
     Ok(())

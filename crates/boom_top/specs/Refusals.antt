@@ -37,7 +37,6 @@ abbrev pub kind_text : LinkKind → List ℕ
 kind_text rule.DuplicateClass = codes "DuplicateClass"
 kind_text rule.UnknownParent = codes "UnknownParent"
 kind_text rule.CyclicClass = codes "CyclicClass"
-kind_text rule.DefaultMethod = codes "DefaultMethod"
 kind_text rule.NoEntry = codes "NoEntry"
 kind_text rule.DuplicateLocal = codes "DuplicateLocal"
 kind_text rule.DuplicateLabel = codes "DuplicateLabel"
@@ -56,15 +55,32 @@ kind_text rule.AbstractNew = codes "AbstractNew"
 kind_text rule.UndeclaredCallee = codes "UndeclaredCallee"
 kind_text rule.BadArguments = codes "BadArguments"
 kind_text rule.NativeCallee = codes "NativeCallee"
+kind_text rule.AmbiguousDefault = codes "AmbiguousDefault"
 
--- what is told behind the word: the class or the method of the first four rules, nothing of the fifth, and the place of the others
+-- what is told behind the word: the class of the first three rules, nothing where there is no method to begin with, and the place of the others
 abbrev pub told_text : LinkKind → List ℕ → ℕ → List ℕ
 told_text rule.DuplicateClass place index = codes " " ++ place
 told_text rule.UnknownParent place index = codes " " ++ place
 told_text rule.CyclicClass place index = codes " " ++ place
-told_text rule.DefaultMethod place index = codes " " ++ place
 told_text rule.NoEntry place index = []
-told_text _ place index = codes " " ++ place ++ codes " " ++ decimal index
+told_text rule.DuplicateLocal place index = codes " " ++ place ++ codes " " ++ decimal index
+told_text rule.DuplicateLabel place index = codes " " ++ place ++ codes " " ++ decimal index
+told_text rule.UnknownLabel place index = codes " " ++ place ++ codes " " ++ decimal index
+told_text rule.FallsOff place index = codes " " ++ place ++ codes " " ++ decimal index
+told_text rule.UnknownLocal place index = codes " " ++ place ++ codes " " ++ decimal index
+told_text rule.BadIdentity place index = codes " " ++ place ++ codes " " ++ decimal index
+told_text rule.DynamicInvoke place index = codes " " ++ place ++ codes " " ++ decimal index
+told_text rule.Reflection place index = codes " " ++ place ++ codes " " ++ decimal index
+told_text rule.Threads place index = codes " " ++ place ++ codes " " ++ decimal index
+told_text rule.RetStatement place index = codes " " ++ place ++ codes " " ++ decimal index
+told_text rule.NestedArray place index = codes " " ++ place ++ codes " " ++ decimal index
+told_text rule.UnknownClass place index = codes " " ++ place ++ codes " " ++ decimal index
+told_text rule.UnknownField place index = codes " " ++ place ++ codes " " ++ decimal index
+told_text rule.AbstractNew place index = codes " " ++ place ++ codes " " ++ decimal index
+told_text rule.UndeclaredCallee place index = codes " " ++ place ++ codes " " ++ decimal index
+told_text rule.BadArguments place index = codes " " ++ place ++ codes " " ++ decimal index
+told_text rule.NativeCallee place index = codes " " ++ place ++ codes " " ++ decimal index
+told_text rule.AmbiguousDefault place index = codes " " ++ place ++ codes " " ++ decimal index
 
 -- a refusal of linking; want of memory is none
 abbrev pub error_text : LinkError → List ℕ

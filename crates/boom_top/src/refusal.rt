@@ -30,7 +30,6 @@ fn word_of_rule(kind: LinkKind) -> &'static str
         LinkKind::DuplicateClass => "DuplicateClass",
         LinkKind::UnknownParent => "UnknownParent",
         LinkKind::CyclicClass => "CyclicClass",
-        LinkKind::DefaultMethod => "DefaultMethod",
         LinkKind::NoEntry => "NoEntry",
         LinkKind::DuplicateLocal => "DuplicateLocal",
         LinkKind::DuplicateLabel => "DuplicateLabel",
@@ -49,6 +48,7 @@ fn word_of_rule(kind: LinkKind) -> &'static str
         LinkKind::UndeclaredCallee => "UndeclaredCallee",
         LinkKind::BadArguments => "BadArguments",
         LinkKind::NativeCallee => "NativeCallee",
+        LinkKind::AmbiguousDefault => "AmbiguousDefault",
     }
 }
 
@@ -67,10 +67,9 @@ fn told(alloc: Global, kind: LinkKind, place: &str, index: u32) -> Result<String
 {
     let word = word_of_rule(kind);
     match kind {
-        LinkKind::DuplicateClass
-        | LinkKind::UnknownParent
-        | LinkKind::CyclicClass
-        | LinkKind::DefaultMethod => format!(in alloc; "refused NotLinked {word} {place}\n"),
+        LinkKind::DuplicateClass | LinkKind::UnknownParent | LinkKind::CyclicClass => {
+            format!(in alloc; "refused NotLinked {word} {place}\n")
+        }
         LinkKind::NoEntry => format!(in alloc; "refused NotLinked {word}\n"),
         _ => told_at(alloc, word, place, index),
     }

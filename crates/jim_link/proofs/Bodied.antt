@@ -2,6 +2,7 @@
 use Rattle.std.proofs.Common.{◌≡◌, ℕ, ◌<◌, Bool, true, false, Option, Some, None, length, slice_get, refl, sym, ap, ◌∙◌, arith}
 use Rattle.std.specs.Option.{IsSome}
 use Rattle.class_tree.proofs.LawFacts.{path_finds}
+use Rattle.class_tree.proofs.Selected.{selection_finds}
 use Rattle.class_tree.specs.Bodies.{has_body}
 use Rattle.class_tree.specs.declared.rows.BodyKind.TheVariants.{Native}
 use Rattle.class_tree.specs.declared.rows.MethodRow.{MethodRow}
@@ -22,9 +23,9 @@ RunsBody w row = (m : MethodRow) × (slice_get w.rows.methods row ≡ Some m) ×
 -- so has what each mode runs
 runs_body : (w : World) (mode : Mode) (class key row : ℕ) → MayRun w mode class key row → RunsBody w row
 runs_body w Static class key row r = let m = path_finds w.rows class key row r in (m.method, m.there, m.bodied)
-runs_body w Special class key row r = let m = path_finds w.rows class key row r in (m.method, m.there, m.bodied)
-runs_body w Virtual class key row r = let m = path_finds w.rows r.0 key row r.1.finds in (m.method, m.there, m.bodied)
-runs_body w Interface class key row r = let m = path_finds w.rows r.0 key row r.1.finds in (m.method, m.there, m.bodied)
+runs_body w Special class key row r = let m = selection_finds w.rows class key row r in (m.method, m.there, m.bodied)
+runs_body w Virtual class key row r = let m = selection_finds w.rows r.0 key row r.1.finds in (m.method, m.there, m.bodied)
+runs_body w Interface class key row r = let m = selection_finds w.rows r.0 key row r.1.finds in (m.method, m.there, m.bodied)
 
 -- a method with a body that isn't native has one of its own
 own_one : (body : Option Body) (native : Bool) → has_body (kind_of_body body native) ≡ true → (kind_of_body body native ≡ Native → ⊥) → IsSome body

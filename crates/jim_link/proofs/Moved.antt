@@ -89,10 +89,10 @@ module _ (w : World) (xs ys : List ℕ) (i j : ℕ) (same : slice_get (root_stmt
   moved_refusal rule.BadArguments takes (inl a) = inl (moved_call a.0, a.1)
   moved_refusal rule.BadArguments takes (inr t) = inr (record { to = t.to; mode = t.mode; receiver = t.receiver; sig = t.sig; args = t.args; here = moved _ t.here; void = t.void })
   moved_refusal rule.NativeCallee takes r = record { row = r.row; calls = moved_calls r.row r.calls; callee = r.callee; there = r.there; native = r.native }
+  moved_refusal rule.AmbiguousDefault takes r = (moved_named r.0, r.1)
   moved_refusal rule.DuplicateClass takes r = absurd takes
   moved_refusal rule.UnknownParent takes r = absurd takes
   moved_refusal rule.CyclicClass takes r = absurd takes
-  moved_refusal rule.DefaultMethod takes r = absurd takes
   moved_refusal rule.NoEntry takes r = absurd takes
   moved_refusal rule.DuplicateLocal takes r = absurd takes
   moved_refusal rule.DuplicateLabel takes r = absurd takes

@@ -1,5 +1,5 @@
 //! Linking.
-ghost use Rattle.std.specs.Prelude.{◌≡◌, ◌≤◌, ℕ, List as Items, Err, IfErr, IfOk};
+ghost use Rattle.std.specs.Prelude.{◌≡◌, ℕ, List as Items, Err, IfErr, IfOk};
 ghost use Rattle.link_classes.specs.Numbered.{AreNumbers, fixed_names};
 ghost use Rattle.link_program.specs.Parts.{AreParts, program_of};
 ghost use Rattle.link_rules.specs.declared.refusal.LinkKind.{LinkKind as AKind};
@@ -7,12 +7,12 @@ ghost use Rattle.link_rules.specs.Conditions.{DeclaresNine, IsRead};
 ghost use Rattle.link_rules.specs.Linked.{IsLinkOf, IsRefused, LinkedProgram, Links};
 ghost use Rattle.link_reach.specs.Reaches.{AreReached};
 ghost use Rattle.link_rules.specs.Reach.{AreInitialized};
-ghost use Rattle.link_rules.specs.Refusals.{IsAccepted, IsFirst, RefusesWhole, number_of, within};
+ghost use Rattle.link_rules.specs.Refusals.{IsAccepted, IsFirst, RefusesWhole, within};
 ghost use Rattle.link_rules.specs.WellLinked.{IsInForm, IsWellLinked};
 ghost use Rattle.jim_link.specs.Rows.{ArePartsOf};
 ghost use Rattle.jim_link.specs.Told.{TellsFirst};
 
-use super::refusals::{whole_error, within_error};
+use super::refusals::{no_entry, within_error};
 use super::rows::{Parts, accepted_parts};
 use class_tree::Tree;
 use jim_ast::Program;
@@ -70,16 +70,15 @@ fn reached_parts(alloc: Global, classes: &Classes) -> Result<Parts, LinkError>
     }
 }
 
-// The parts of a program that the first three rules don't refuse.
+// The parts of a program, whose classes passed the first three rules.
 fn parts_of(alloc: Global, classes: &Classes) -> Result<Parts, LinkError>
-    requires { (kind : AKind) (number : ℕ) → number_of kind ≤ 3 → RefusesWhole classes.now.world kind number → ⊥ }
     ensures ok { IfOk result (ArePartsOf classes.now.world) }
     ensures err { IfErr result (TellsFirst classes.now.world) }
 {
-    match classes.refusal() {
-        Some(refused) => Err(whole_error(alloc, classes, refused)),
-        None => reached_parts(alloc, classes),
+    if !classes.has_entry() {
+        return Err(no_entry(alloc));
     }
+    reached_parts(alloc, classes)
 }
 
 // The program of these parts and this hierarchy.
@@ -98,8 +97,7 @@ fn whole(alloc: Global, parts: Parts, tree: Tree) -> Result<Linked, LinkError>
 
 // The linked program of these classes.
 fn link_classes(alloc: Global, classes: Classes) -> Result<Linked, LinkError>
-    requires passed { (kind : AKind) (number : ℕ) → number_of kind ≤ 3 → RefusesWhole classes.world kind number → ⊥ }
-    requires form { (p : LinkedProgram) → IsLinkOf classes.world p → IsInForm p }
+    requires { (p : LinkedProgram) → IsLinkOf classes.world p → IsInForm p }
     ensures ok { IfOk result (IsLinkOf classes.entry.world) }
     ensures err { IfErr result (TellsFirst classes.entry.world) }
 {
@@ -147,8 +145,8 @@ fn link_named(
 /// The linked program of an input and a prelude, from the `main` of the class `entry` on. A class of the prelude whose name a class of the input
 /// or an earlier one of the prelude has is left out.
 ///
-/// `Refused` comes exactly where a rule refuses the program, with the first refusal: those of the whole program by rule and then by class or
-/// method, then those in methods by method, the root being the last, by index and by rule. `NoMemory` can come in place of any answer.
+/// `Refused` comes exactly where a rule refuses the program, with the first refusal: those of the whole program by rule and then by class, then
+/// those in methods by method, the root being the last, by index and by rule. `NoMemory` can come in place of any answer.
 pub fn link(
     alloc: Global,
     input: &Program,

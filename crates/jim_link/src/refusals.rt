@@ -1,13 +1,15 @@
 //! What is told of a refusal.
 ghost use Rattle.std.specs.Prelude.{◌≡◌, ◌≤◌, ℕ, List as Items, IfOk, Ok, length};
 ghost use Rattle.link_rules.specs.declared.refusal.LinkKind.{LinkKind as AKind};
-ghost use Rattle.link_rules.specs.Refusals.{IsFirst, IsPlaceOf, IsTextOf, RefusesWhole, number_of, whole, within};
+ghost use Rattle.link_rules.specs.declared.refusal.LinkKind.TheVariants as rule;
+ghost use Rattle.link_rules.specs.Refusals.{IsFirst, IsTextOf, whole, within};
 ghost use Rattle.link_rules.specs.Classes.{methods_of};
+ghost use Rattle.link_rules.specs.World.{World as AWorld};
 ghost use Rattle.jim_link.specs.Told.{TellsFirst};
 
 use super::texts::{method_text, owned};
 use jim_ast::{Name, NoMemory};
-use link_classes::{Classes, Refused};
+use link_classes::Classes;
 use link_rules::{LinkError, LinkKind};
 use std::alloc::Global;
 
@@ -32,25 +34,11 @@ fn refused(kind: LinkKind, place: Result<Name, NoMemory>, index: u32) -> LinkErr
     }
 }
 
-// The place of a refusal by one of the last two rules of the program.
-fn whole_place(alloc: Global, classes: &Classes, refused: Refused) -> Result<Name, NoMemory>
-    requires passed { (kind : AKind) (number : ℕ) → number_of kind ≤ 3 → RefusesWhole classes.now.world kind number → ⊥ }
-    requires refuses { RefusesWhole classes.now.world refused.kind refused.number }
-    ensures { IfOk result (IsPlaceOf classes.now.world refused.kind refused.number) }
+/// What is told where there is no method to begin with.
+pub fn no_entry(alloc: Global) -> LinkError
+    ensures { (w : AWorld) → IsFirst w (whole rule.NoEntry 0) → TellsFirst w result }
 {
-    match refused.kind {
-        LinkKind::DefaultMethod => text_of_number(alloc, classes, refused.number),
-        _ => owned(alloc, ""),
-    }
-}
-
-/// What is told of a refusal by one of the last two rules of the program, the first three having passed.
-pub fn whole_error(alloc: Global, classes: &Classes, by: Refused) -> LinkError
-    requires passed { (kind : AKind) (number : ℕ) → number_of kind ≤ 3 → RefusesWhole classes.now.world kind number → ⊥ }
-    requires first { IsFirst classes.now.world (whole by.kind by.number) }
-    ensures { TellsFirst classes.now.world result }
-{
-    refused(by.kind, whole_place(alloc, classes, by), 0)
+    refused(LinkKind::NoEntry, owned(alloc, ""), 0)
 }
 
 /// What is told of a refusal in a method.

@@ -145,10 +145,6 @@ fn refuses(rt: HostRuntime) -> Result<(), Fail> {
         ("class A { } class A { }", "1 A 0"),
         ("class A extends B { }", "2 A 0"),
         ("class A extends B { } class B extends A { }", "3 A 0"),
-        (
-            "class A { } interface I { void m() { return; } }",
-            "4 <I: void m()> 0",
-        ),
     ];
     for (classes, refused) in rows {
         let text = format!(in rt.alloc(); "{classes} {main}")?;
@@ -162,6 +158,103 @@ fn refuses(rt: HostRuntime) -> Result<(), Fail> {
         "class Main { static void main(java.lang.String[]) { } }",
     )?;
     assert_eq!(rt; empty.as_str(), "9 <Main: void main(java.lang.String[])> 0");
+    Ok(())
+}
+
+// Interfaces, of which some have methods with bodies.
+const INTERFACES: &str =
+    "class A { } class B { } interface I { java.lang.Object m() { java.lang.Object o; o = new A; return o; } \
+static void s() { return; } } interface J implements I { java.lang.Object m() { java.lang.Object o; o = new B; return o; } } \
+interface K { java.lang.Object m() { return null; } } interface L implements I { java.lang.Object m(); }";
+
+// The methods that are linked of a `main` with this call, between these interfaces and classes, or why it is refused.
+fn linked_call(alloc: Global, classes: &str, call: &str) -> Result<String, NoMemory> {
+    let text = format!(in alloc;
+        "{INTERFACES} {classes} class Main {{ static void main(java.lang.String[]) {{ C r; {call}; return; }} }}"
+    )?;
+    linked(alloc, text.as_str())
+}
+
+// A method of an interface runs where the classes have none: the lowest, if it has a body.
+#[test]
+fn runs_methods_of_interfaces(rt: HostRuntime) -> Result<(), Fail> {
+    let rows = [
+        (
+            "class C implements I, J { }",
+            "interfaceinvoke r.<I: java.lang.Object m()>()",
+            "<J: java.lang.Object m()>\n",
+        ),
+        (
+            "class C implements J, I { }",
+            "specialinvoke r.<C: java.lang.Object m()>()",
+            "<J: java.lang.Object m()>\n",
+        ),
+        (
+            "class C implements I, L { }",
+            "interfaceinvoke r.<I: java.lang.Object m()>()",
+            "",
+        ),
+        (
+            "class C implements L, J { }",
+            "virtualinvoke r.<C: java.lang.Object m()>()",
+            "<J: java.lang.Object m()>\n",
+        ),
+        (
+            "class C implements I, K { java.lang.Object m() { return null; } }",
+            "interfaceinvoke r.<I: java.lang.Object m()>()",
+            "<C: java.lang.Object m()>\n",
+        ),
+        (
+            "abstract class D implements I, K { } class C extends D { java.lang.Object m() { return null; } }",
+            "virtualinvoke r.<D: java.lang.Object m()>()",
+            "<C: java.lang.Object m()>\n",
+        ),
+    ];
+    for (classes, call, runs) in rows {
+        let found = linked_call(rt.alloc(), classes, call)?;
+        let methods = format!(in rt.alloc();
+            "{runs}<Main: void main(java.lang.String[])>\nroot\n"
+        )?;
+        assert_eq!(rt; found.as_str(), methods.as_str(), "{classes}");
+    }
+    Ok(())
+}
+
+// Two such methods, of which none is below the other, are refused where a call may look one up. A static call finds none of an interface.
+#[test]
+fn refuses_several_methods_of_interfaces(rt: HostRuntime) -> Result<(), Fail> {
+    let rows = [
+        (
+            "class C implements I, K { }",
+            "interfaceinvoke r.<I: java.lang.Object m()>()",
+            23,
+        ),
+        (
+            "class D implements K, J { } class C extends D { java.lang.Object m() { return null; } }",
+            "virtualinvoke r.<D: java.lang.Object m()>()",
+            23,
+        ),
+        (
+            "abstract class D implements I, K { } class C extends D { java.lang.Object m() { return null; } }",
+            "specialinvoke r.<D: java.lang.Object m()>()",
+            23,
+        ),
+        (
+            "class C implements L { }",
+            "specialinvoke r.<C: java.lang.Object m()>()",
+            20,
+        ),
+        (
+            "class C implements I { }",
+            "staticinvoke <C: void s()>()",
+            20,
+        ),
+    ];
+    for (classes, call, kind) in rows {
+        let found = linked_call(rt.alloc(), classes, call)?;
+        let told = format!(in rt.alloc(); "{kind} <Main: void main(java.lang.String[])> 0")?;
+        assert_eq!(rt; found.as_str(), told.as_str(), "{classes}");
+    }
     Ok(())
 }
 

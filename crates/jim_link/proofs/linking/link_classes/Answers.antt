@@ -8,7 +8,7 @@ use Rattle.jim_link.proofs.Whole.{on_error}
 use Rattle.jim_link.proofs.linking.link_classes.Goals as goal
 
 pub whole-requires-clause-form : goal.whole-requires-clause-form
-whole-requires-clause-form c = rw c.into_tree.ensures (c.requires.form _ c.in_ok-parts.ensures.ok.linked)
+whole-requires-clause-form c = rw c.into_tree.ensures (c.requires _ c.in_ok-parts.ensures.ok.linked)
 
 pub returns-clause-ok : goal.returns-clause-ok
 returns-clause-ok c =
