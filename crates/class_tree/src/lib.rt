@@ -23,6 +23,3 @@ pub use laws::{
 };
 pub use rows::{BodyKind, ClassRow, FieldRow, MethodRow, TreeError};
 pub use tree::{Tree, build};
-
-#[cfg(test)]
-mod tests;

@@ -1,6 +1,7 @@
+//! Sub-classing and look-ups, over rows of which the answers were found by hand.
 ghost use Rattle.std.specs.Prelude.{◌≡◌, ◌^◌, ◌<◌, length, All, IfOk};
 
-use super::{BodyKind, ClassRow, FieldRow, MethodRow, Tree, TreeError, build};
+use class_tree::{BodyKind, ClassRow, FieldRow, MethodRow, Tree, TreeError, build};
 use std::alloc::Global;
 use std::test::Fail;
 

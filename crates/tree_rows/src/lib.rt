@@ -1,0 +1,5 @@
+//! Tests of class hierarchies. They stand by themselves, so that `class_tree` isn't proved again for them.
+#![tactic(auto)]
+
+#[cfg(test)]
+mod trees;
