@@ -1,0 +1,5 @@
+pub mod Carrying
+pub mod Contracting
+pub mod Entering
+pub mod Extending
+pub mod Making

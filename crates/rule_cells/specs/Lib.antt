@@ -1,0 +1,4 @@
+pub mod Cells
+pub mod Entered
+pub mod Laws
+pub mod Made
