@@ -40,16 +40,20 @@ names() {
 
 for_tests=(linked_text *_rows)
 
-# but CRATE..: all crates other than these, and those that are for tests.
+# What every crate may stand on.
+for_all=(lists)
+
+# but CRATE..: all crates other than these, those that are for tests, and those that are for all.
 but() {
   local crate
   for crate in "${crates[@]}"; do
-    case " $* ${for_tests[*]} " in *" $crate "*) ;; *) printf '%s\n' "$crate" ;; esac
+    case " $* ${for_tests[*]} ${for_all[*]} " in *" $crate "*) ;; *) printf '%s\n' "$crate" ;; esac
   done
 }
 
 # shellcheck disable=SC2046 # names of crates have no blanks
 {
+  none 'lists knows nothing of ours' "$(names $(but))" $(files "${for_all[@]}")
   none 'link_indexes knows code alone' "$(names $(but link_indexes jim_ast link_rules))" $(files link_indexes)
   none 'boom_words knows no programs' "$(names $(but boom_words jim_ast))" $(files boom_words)
   none 'only boom_io and main touch streams' 'std::(io|fs|net)|, io\}' $(files $(but boom_io boomer))
@@ -61,7 +65,7 @@ but() {
   none 'queries know no runs' "$(names step_rules step_heap jim_step run_report run_covers run_sound)" $(files spds_rules spds_laws spds_nodes demand_walk demand_set spds_cells call_side spds_tables spds_solve)
   none 'above link_program no code sees the syntax tree' 'jim_ast::(.*[{, ])?(Program|Class|Body|Stmt|Expr|Imm|Invoke|Ty|Trap|Names|NameId)\b' $(files spds_nodes demand_walk demand_set spds_cells call_side spds_tables spds_solve query_core step_heap jim_step run_report report_text | grep /src/)
   none 'above spds_solve nothing sees entries of tables' "$(names auto_table post_star call_side spds_tables)" $(files query_core report_text run_report boom_top boomer)
-  none 'no crate of the program stands on a crate of tests' "$(names "${for_tests[@]}")" $(files $(but))
+  none 'no crate of the program stands on a crate of tests' "$(names "${for_tests[@]}")" $(files "${for_all[@]}" $(but))
 }
 
 # each PAGE PATTERN: the page has the name of each crate in this form, where % stands for the name.

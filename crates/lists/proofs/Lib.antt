@@ -1,0 +1,6 @@
+mod Filed
+mod Grouped
+mod Laid
+mod Places
+mod Roomy
+mod Tallied

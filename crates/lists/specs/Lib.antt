@@ -1,0 +1,5 @@
+pub mod Chains
+pub mod Filings
+pub mod Groups
+pub mod Lists
+pub mod Numbers
