@@ -125,38 +125,64 @@ fn told(alloc: Global, linked: &Linked, word: &str) -> Result<String, Fail> {
     }
 }
 
+// The first word of which something else is told.
+fn first_wrong(alloc: Global, linked: &Linked) -> Result<Option<&'static str>, Fail> {
+    for (word, expected) in ROWS {
+        if told(alloc, linked, word)?.as_str() != expected {
+            return Ok(Some(word));
+        }
+    }
+    Ok(None)
+}
+
+// The same, of the program; its text where it isn't linked.
+fn first_wrong_word(alloc: Global) -> Result<Option<&'static str>, Fail> {
+    match linked_of(alloc, PROGRAM) {
+        Some(linked) => first_wrong(alloc, &linked),
+        None => Ok(Some(PROGRAM)),
+    }
+}
+
 #[test]
 fn words(rt: HostRuntime) -> Result<(), Fail> {
-    let Some(linked) = linked_of(rt.alloc(), PROGRAM) else {
-        panic!(rt; "not linked");
-    };
-    for (word, expected) in ROWS {
-        let text = told(rt.alloc(), &linked, word)?;
-        assert_eq!(rt; text.as_str(), expected);
-    }
+    assert_eq!(rt; first_wrong_word(rt.alloc())?, None);
     Ok(())
+}
+
+// From three states by two events. There is no fourth state, and no third event.
+const STEPS: [(u8, u32, Option<u8>); 7] = [
+    (0, 0, Some(1)),
+    (0, 1, None),
+    (1, 0, Some(2)),
+    (1, 1, Some(0)),
+    (2, 0, None),
+    (3, 0, None),
+    (0, 2, None),
+];
+
+fn goes_on(protocol: &Protocol) -> bool {
+    protocol.tell_form();
+    STEPS
+        .iter()
+        .all(|(from, event, to)| protocol.next(*from, *event) == *to)
+}
+
+fn is_read_to_go_on(alloc: Global, linked: &Linked) -> bool {
+    match read_protocol(alloc, linked, "F a;a open b;b close a;b open c") {
+        Ok(protocol) => goes_on(&protocol),
+        Err(_) => false,
+    }
+}
+
+fn program_goes_on(alloc: Global) -> bool {
+    match linked_of(alloc, PROGRAM) {
+        Some(linked) => is_read_to_go_on(alloc, &linked),
+        None => false,
+    }
 }
 
 #[test]
 fn next_states(rt: HostRuntime) -> Result<(), Fail> {
-    let Some(linked) = linked_of(rt.alloc(), PROGRAM) else {
-        panic!(rt; "not linked");
-    };
-    let Ok(protocol) = read_protocol(rt.alloc(), &linked, "F a;a open b;b close a;b open c") else {
-        panic!(rt; "not a protocol");
-    };
-    protocol.tell_form();
-    let rows: [(u8, u32, Option<u8>); 7] = [
-        (0, 0, Some(1)),
-        (0, 1, None),
-        (1, 0, Some(2)),
-        (1, 1, Some(0)),
-        (2, 0, None),
-        (3, 0, None),
-        (0, 2, None),
-    ];
-    for (from, event, expected) in rows {
-        assert!(rt; protocol.next(from, event) == expected);
-    }
+    assert!(rt; program_goes_on(rt.alloc()));
     Ok(())
 }
