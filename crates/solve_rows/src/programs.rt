@@ -45,3 +45,7 @@ pub const TWO_CALLS: &str = "class A { }
 class Main { static java.lang.Object id(java.lang.Object) { java.lang.Object p; p := @parameter0: java.lang.Object; return p; }
 static void main(java.lang.String[]) { java.lang.Object a, b, x, y; a = new A; b = new A;
 x = staticinvoke <Main: java.lang.Object id(java.lang.Object)>(a); y = staticinvoke <Main: java.lang.Object id(java.lang.Object)>(b); return; } }";
+
+/// 0 `main`, which copies one object from local to local.
+pub const COPIES: &str = "class A { }
+class Main { static void main(java.lang.String[]) { A a, b, c, d; a = new A; b = a; c = b; d = c; return; } }";
