@@ -11,6 +11,3 @@ pub use entry::Entry;
 pub use row::{Linked, Reached};
 pub use rule::Rule;
 pub use table::{NoMemory, Table};
-
-#[cfg(test)]
-mod tests;

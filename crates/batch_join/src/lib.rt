@@ -5,8 +5,6 @@
 #![tactic(auto)]
 
 mod asking;
-#[cfg(test)]
-mod tests;
 mod texts;
 
 pub use asking::{Ask, Pass, ask_all, have_one_answer};

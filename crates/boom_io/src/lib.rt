@@ -14,8 +14,6 @@ mod mem_sink;
 mod mem_source;
 mod read_source;
 mod reading;
-#[cfg(test)]
-mod tests;
 mod whole;
 mod write_sink;
 mod writing;

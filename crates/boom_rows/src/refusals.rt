@@ -44,7 +44,7 @@ const BODIES: &str = "6 | DuplicateLocal 0 | int x, x; return;
 14 | Threads 0 | staticinvoke <java.lang.Thread: void f()>(); return;
 15 | RetStatement 1 | int x; nop; ret x; return;
 15 | RetStatement 0 | ret x; return;
-16 | NestedArray 0 | int[][] x; x = newmultiarray (int)[1][]; return;
+16 | NestedArray 0 | int[][] x; x = newmultiarray (int)[][3]; return;
 17 | UnknownClass 0 | A x; x = new Q; return;
 17 | UnknownClass 1 | int x; nop; x = <Q: int f>; return;
 17 | UnknownClass 0 | staticinvoke <Q: void f()>(); return;
@@ -71,7 +71,7 @@ const BODIES: &str = "6 | DuplicateLocal 0 | int x, x; return;
 6 13 | DuplicateLocal 0 | int x, x; staticinvoke <java.lang.Class: void f()>(); return;
 6 14 | DuplicateLocal 0 | int x, x; staticinvoke <java.lang.Thread: void f()>(); return;
 6 15 | DuplicateLocal 0 | int x, x; ret x; return;
-6 16 | DuplicateLocal 0 | int[][] x, x; x = newmultiarray (int)[1][]; return;
+6 16 | DuplicateLocal 0 | int[][] x, x; x = newmultiarray (int)[][3]; return;
 6 17 | DuplicateLocal 0 | A x, x; x = new Q; return;
 6 18 | DuplicateLocal 0 | int x, x; x = <A: int f>; return;
 6 19 | DuplicateLocal 0 | B x, x; x = new B; return;
@@ -87,7 +87,7 @@ const BODIES: &str = "6 | DuplicateLocal 0 | int x, x; return;
 7 13 | DuplicateLabel 0 | l: l: staticinvoke <java.lang.Class: void f()>(); return;
 7 14 | DuplicateLabel 0 | l: l: staticinvoke <java.lang.Thread: void f()>(); return;
 7 15 | DuplicateLabel 0 | int x; l: l: ret x; return;
-7 16 | DuplicateLabel 0 | int[][] x; l: l: x = newmultiarray (int)[1][]; return;
+7 16 | DuplicateLabel 0 | int[][] x; l: l: x = newmultiarray (int)[][3]; return;
 7 17 | DuplicateLabel 0 | A x; l: l: x = new Q; return;
 7 18 | DuplicateLabel 0 | int x; l: l: x = <A: int f>; return;
 7 19 | DuplicateLabel 0 | B x; l: l: x = new B; return;
@@ -104,7 +104,7 @@ const BODIES: &str = "6 | DuplicateLocal 0 | int x, x; return;
 9 13 | FallsOff 0 | staticinvoke <java.lang.Class: void f()>();
 9 14 | FallsOff 0 | staticinvoke <java.lang.Thread: void f()>();
 9 15 | FallsOff 0 | int x; ret x;
-9 16 | FallsOff 0 | int[][] x; x = newmultiarray (int)[1][];
+9 16 | FallsOff 0 | int[][] x; x = newmultiarray (int)[][3];
 9 17 | FallsOff 0 | A x; x = new Q;
 9 17 | FallsOff 1 | a: return; b: catch Q from a to b with b;
 9 18 | FallsOff 0 | int x; x = <A: int f>;
@@ -117,7 +117,7 @@ const BODIES: &str = "6 | DuplicateLocal 0 | int x, x; return;
 10 12 | UnknownLocal 0 | x = dynamicinvoke f; return;
 10 13 | UnknownLocal 0 | staticinvoke <java.lang.Class: void k(int)>(x); return;
 10 14 | UnknownLocal 0 | x = new java.lang.Thread; return;
-10 16 | UnknownLocal 0 | x = newmultiarray (int)[1][]; return;
+10 16 | UnknownLocal 0 | x = newmultiarray (int)[][3]; return;
 10 17 | UnknownLocal 0 | x = new Q; return;
 10 18 | UnknownLocal 0 | x = <A: int f>; return;
 10 19 | UnknownLocal 0 | x = new B; return;
@@ -150,7 +150,7 @@ const BODIES: &str = "6 | DuplicateLocal 0 | int x, x; return;
 // A body with each kind that a body may have.
 const EACH_KIND: &str =
     "int x, x; l: l: y = null; x := @this: Main; dynamicinvoke f; staticinvoke <java.lang.Class: void f()>(); \
-staticinvoke <java.lang.Thread: void f()>(); ret x; x = newmultiarray (int)[1][]; x = new Q; x = <A: int f>; x = new B; \
+staticinvoke <java.lang.Thread: void f()>(); ret x; x = newmultiarray (int)[][3]; x = new Q; x = <A: int f>; x = new B; \
 staticinvoke <A: void h()>(); staticinvoke <A: void f()>(null); staticinvoke <A: void g()>(); virtualinvoke x.<H: void m()>(); goto q; nop;";
 
 // Classes that are refused as a whole, whatever the bodies of their methods: a lesser number is told, wherever it stands.

@@ -199,6 +199,14 @@ class Main { static void main(java.lang.String[]) { I r; java.lang.Object x; r =
     "points-to;Main;@;2;x;100 | points-to @ 2 x~sites 0~demanded 1~",
 );
 
+// Arrays in an array: what is stored into one of them, and the one itself.
+const NESTED: (&str, &str) = (
+    "class A { } class Main { static void main(java.lang.String[]) { java.lang.Object[][] a; java.lang.Object[] b; java.lang.Object o, x;
+a = newmultiarray (java.lang.Object)[2][3]; b = a[0]; o = new A; b[1] = o; x = b[0]; return; } }",
+    "points-to;Main;@;5;x;100 | points-to @ 5 x~site @ 2 new A~sites 1~demanded 14~
+points-to;Main;@;2;b;100 | points-to @ 2 b~site @ 0 new java.lang.Object[]~sites 1~demanded 12~",
+);
+
 // A class as a compiler lays it out, over the stand-ins for Java's own classes.
 const HELLO: (&str, &str) = (
     "public class Main extends java.lang.Object
@@ -330,6 +338,11 @@ fn answers_calls_of_interfaces(rt: HostRuntime) -> Result<(), Fail> {
         check_rows(&rt, rows)?;
     }
     Ok(())
+}
+
+#[test]
+fn answers_nested_arrays(rt: HostRuntime) -> Result<(), Fail> {
+    check_rows(&rt, NESTED)
 }
 
 #[test]

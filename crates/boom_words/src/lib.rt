@@ -2,7 +2,5 @@
 #![tactic(auto)]
 
 mod request;
-#[cfg(test)]
-mod tests;
 
 pub use request::{Asked, AskedBoth, Command, Query, Running, read_words};

@@ -16,6 +16,3 @@ pub use calls::Calls;
 pub use common::{entries_at, shared, shared_at, shared_from};
 pub use indexed::IndexedBases;
 pub use strings::bases;
-
-#[cfg(test)]
-mod tests;

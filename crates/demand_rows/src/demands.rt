@@ -241,17 +241,19 @@ fn are_numbered(found: &Demand) -> bool {
     true
 }
 
+fn is_found(found: &Demand, case: &Case) -> bool {
+    found.nodes().len() == case.nodes as usize
+        && sites_are(found.sites(), case.sites)
+        && are_numbered(found)
+        && are_loaded(found)
+}
+
 // Whether the query demands what it is to demand, within a budget of just as many nodes.
 fn fits(alloc: Global, linked: &Linked, targets: &[Node], case: &Case) -> Result<bool, NoMemory>
     requires { All (IsNode linked.now) targets.now }
 {
     match demand(alloc, linked, targets, case.reach, case.nodes) {
-        Ok(found) => Ok(
-            found.nodes().len() == case.nodes as usize
-                && sites_are(found.sites(), case.sites)
-                && are_numbered(&found)
-                && are_loaded(&found),
-        ),
+        Ok(found) => Ok(is_found(&found, case)),
         Err(DemandError::OverBudget { .. }) => Ok(false),
         Err(DemandError::NoMemory) => Err(AllocError),
     }
@@ -281,16 +283,25 @@ fn are_nodes(linked: &Linked, nodes: &[Node]) -> bool
     nodes.iter().all(|node| is_node(linked, *node))
 }
 
-fn is_right(alloc: Global, linked: &Linked, case: &Case) -> Result<bool, NoMemory> {
-    let targets: Vec<Node> = case.targets.iter().map(|spot| node(*spot)).collect(alloc)?;
-    if !are_nodes(linked, &targets) {
+fn are_right(
+    alloc: Global,
+    linked: &Linked,
+    targets: &[Node],
+    case: &Case,
+) -> Result<bool, NoMemory> {
+    if !are_nodes(linked, targets) {
         return Ok(false);
     }
     let one_less = case.nodes.saturating_sub(1);
     Ok(
-        fits(alloc, linked, &targets, case)?
-            && exceeds(alloc, linked, &targets, case.reach, one_less)?,
+        fits(alloc, linked, targets, case)?
+            && exceeds(alloc, linked, targets, case.reach, one_less)?,
     )
+}
+
+fn is_right(alloc: Global, linked: &Linked, case: &Case) -> Result<bool, NoMemory> {
+    let targets: Vec<Node> = case.targets.iter().map(|spot| node(*spot)).collect(alloc)?;
+    are_right(alloc, linked, &targets, case)
 }
 
 fn is_right_of(alloc: Global, case: &Case) -> Result<bool, NoMemory> {

@@ -15,3 +15,5 @@ mod nodes;
 mod programs;
 #[cfg(test)]
 mod rows;
+#[cfg(test)]
+mod walks;

@@ -1,5 +1,5 @@
 //! Nodes, start nodes, stores, and the classes and fields of sites.
-use super::programs::{DISPATCH, FRAMES, HEAP, OBJECTS, TEXTS};
+use super::programs::{DISPATCH, FRAMES, HEAP, LEVELS, OBJECTS, TEXTS};
 use super::rows::{Case, Row, first_wrong};
 use linked_text::spots::{Origin, Spot};
 use spds_rules::Var;
@@ -134,7 +134,40 @@ const OF_OBJECTS: [Row; 24] = [
     Row::Field(Origin::Class(0), 9, false),
 ];
 
-const CASES: [Case; 5] = [
+// Each inner level has a variable, a site and a store into the level outside it.
+const OF_LEVELS: [Row; 17] = [
+    Row::Node(Spot::Before(0, 0, Var::Made), true),
+    Row::Node(Spot::Before(0, 0, Var::Nested(0)), false),
+    Row::Node(Spot::Before(0, 0, Var::Nested(1)), true),
+    Row::Node(Spot::Before(0, 0, Var::Nested(2)), false),
+    Row::Node(Spot::InFlight(0, 0, Var::Nested(1)), false),
+    Row::Node(Spot::Before(0, 1, Var::Nested(1)), false),
+    Row::Node(Spot::Before(0, 3, Var::Nested(1)), false),
+    Row::Node(Spot::Before(0, 4, Var::Nested(2)), true),
+    Row::Node(Spot::Before(0, 4, Var::Nested(3)), false),
+    Row::Node(Spot::Before(0, 4, Var::Raised(3)), true),
+    Row::Starts(
+        Origin::Inner(0, 0, 1),
+        &[Spot::Before(0, 0, Var::Nested(1))],
+    ),
+    Row::Starts(Origin::Inner(0, 0, 2), &[]),
+    Row::Stores(
+        0,
+        &[
+            (0, 0, Var::Made, Var::Nested(1)),
+            (0, 2, Var::Local(1), Var::Local(0)),
+            (0, 4, Var::Made, Var::Nested(1)),
+            (0, 4, Var::Nested(1), Var::Nested(2)),
+            (1, 2, Var::Local(1), Var::Local(0)),
+        ],
+    ),
+    Row::Class(Origin::Inner(0, 4, 2), Some("java.lang.Object")),
+    Row::Class(Origin::Inner(0, 3, 1), None),
+    Row::Field(Origin::Inner(0, 4, 2), 0, true),
+    Row::Field(Origin::Inner(0, 3, 1), 0, false),
+];
+
+const CASES: [Case; 6] = [
     Case {
         name: "frames",
         text: FRAMES,
@@ -159,6 +192,11 @@ const CASES: [Case; 5] = [
         name: "objects",
         text: OBJECTS,
         rows: &OF_OBJECTS,
+    },
+    Case {
+        name: "levels",
+        text: LEVELS,
+        rows: &OF_LEVELS,
     },
 ];
 

@@ -71,6 +71,16 @@ a = "k";
 a = class "LSub;";
 return; } }"#;
 
+/// 0 `main`. Its locals are `a`, `b`, `c`. Arrays of two levels, of one, since the second has no length, and of three.
+pub const LEVELS: &str =
+    "class Main { static void main(java.lang.String[]) { java.lang.Object[][] a; java.lang.Object[] b; java.lang.Object[][][] c;
+a = newmultiarray (java.lang.Object)[2][3];
+b = a[0];
+b[1] = a;
+c = newmultiarray (java.lang.Object)[2][][];
+c = newmultiarray (java.lang.Object)[2][3][4];
+return; } }";
+
 /// 0 `id`, 1 `main`.
 pub const TWO_CALLS: &str = "class A { }
 class B { }

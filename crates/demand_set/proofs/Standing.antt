@@ -1,5 +1,5 @@
 -- What a program in form has: the operands of its statements, the nodes of its stores, and the sites of its nodes.
-use Rattle.std.proofs.Common.{◌≡◌, ◌∙◌, ℕ, Bool, true, false, List, [], slice_get, Some, None, All, refl, sym, ap, subst}
+use Rattle.std.proofs.Common.{◌≡◌, ◌∙◌, ℕ, zero, suc, ◌<◌, arith, Bool, true, false, List, [], slice_get, Some, None, All, refl, sym, ap, subst}
 use Rattle.std.proofs.lemmas.Option.{get_or_from_slice_get}
 use Rattle.jim_ast.specs.Lists.{Has}
 use Rattle.jim_ast.proofs.Places.{slice_get-below}
@@ -15,11 +15,11 @@ use Rattle.link_sites.specs.declared.site.Site.TheVariants as site
 use Rattle.link_sites.specs.Sites.{IsSite}
 use Rattle.spds_rules.specs.declared.node.Node.{Node}
 use Rattle.spds_rules.specs.declared.node.Var.{Var}
-use Rattle.spds_rules.specs.declared.node.Var.TheVariants.{Local, This, Param, Caught, Thrown, Made, Raised, Text, Class}
+use Rattle.spds_rules.specs.declared.node.Var.TheVariants.{Local, This, Param, Caught, Thrown, Made, Nested, Raised, Text, Class}
 use Rattle.spds_rules.specs.declared.store.StoreAt.{StoreAt}
 use Rattle.spds_rules.specs.Demand.{Asked, Demand, target, source, base, arg as argument}
 use Rattle.spds_rules.specs.Nodes.{HasVar, IsNode, MayStand, arg_var, handed, site_at, site_of}
-use Rattle.spds_rules.specs.Stores.{IsStore, StoresInto}
+use Rattle.spds_rules.specs.Stores.{IsStore, StoresInto, level_var}
 use Rattle.demand_walk.proofs.Appended.{Has-one}
 
 -- the fact of the element at a place
@@ -51,6 +51,7 @@ module _ (p : LinkedProgram) (form : IsInForm p) where
   handed_fits m (code.Caught to) a f h = absurd (nothing a h)
   handed_fits m (code.New to class) a f h = absurd (nothing a h)
   handed_fits m (code.NewArray to) a f h = absurd (nothing a h)
+  handed_fits m (code.NewMulti to levels) a f h = absurd (nothing a h)
   handed_fits m (code.Numeric to divides) a f h = absurd (nothing a h)
   handed_fits m (code.Length to x) a f h = absurd (nothing a h)
   handed_fits m (code.Load to w field) a f h = absurd (nothing a h)
@@ -73,9 +74,14 @@ module _ (p : LinkedProgram) (form : IsInForm p) where
   arg_stands m c arg.Null v f h e = cc
 
   -- both variables of a store do
+  level_stands : (m : LinkedMethod) (to levels outer : ℕ) → outer < levels → HasVar m (code.NewMulti to levels) false (level_var outer)
+  level_stands m to levels zero less = tt
+  level_stands m to levels (suc outer) less = (omega arith, less)
+
   stores_stand : (m : LinkedMethod) (c : Code) (f : ℕ) (w v : Var) → FitsCode p m c → StoresInto c f w v → HasVar m c false w × HasVar m c false v
   stores_stand m (code.Store x field a) f w v fit s = (rw (s.1) (fit.0), arg_stands m (code.Store x field a) a v (fit.2) (0, refl) (s.2))
   stores_stand m (code.StoreCell x a) f w v fit s = (rw (s.1) (fit.0), arg_stands m (code.StoreCell x a) a v (fit.1) (0, refl) (s.2))
+  stores_stand m (code.NewMulti to levels) f w v fit s = (rw (s.3) (level_stands m to levels s.1 (omega (arith, s.2))), rw (s.4) (omega arith, s.2))
   stores_stand m (code.Copy to x) f w v fit s = absurd s
   stores_stand m (code.Cast to x) f w v fit s = absurd s
   stores_stand m (code.StoreStatic field x) f w v fit s = absurd s
@@ -139,6 +145,8 @@ module _ (p : LinkedProgram) (form : IsInForm p) where
       → slice_get m.code place.index ≡ Some c → place.raised ≡ raised → HasVar m c raised v → site_at place v ≡ Some s → IsSite p s
   site_stands place Made s m c false there here un has e =
       let is : s ≡ site.New place = cc in rw is (un, record { code = c; at = record { method = m; there = there; here = here }; is_so = has })
+  site_stands place (Nested level) s m c false there here un has e =
+      let is : s ≡ site.Nested place level = cc in rw is (un, record { code = c; at = record { method = m; there = there; here = here }; is_so = has })
   site_stands place (Raised kind) s m c false there here un has e =
       let is : s ≡ site.Raised place kind = cc in rw is (un, record { code = c; at = record { method = m; there = there; here = here }; is_so = has })
   site_stands place (Text i) s m c false there here un has e =
@@ -146,6 +154,7 @@ module _ (p : LinkedProgram) (form : IsInForm p) where
   site_stands place (Class i) s m c false there here un has e =
       let is : s ≡ site.Class i = cc in rw is (handed_fits m c (arg.Class i) (fits place.method place.index m c there here) has)
   site_stands place Made s m c true there here un has e = absurd has
+  site_stands place (Nested level) s m c true there here un has e = absurd has
   site_stands place (Raised kind) s m c true there here un has e = absurd has
   site_stands place (Text i) s m c true there here un has e = absurd has
   site_stands place (Class i) s m c true there here un has e = absurd has

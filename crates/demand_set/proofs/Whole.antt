@@ -1,10 +1,7 @@
 -- A demand that was found whole.
-use Rattle.std.proofs.Common.{◌≡◌, ◌∙◌, ℕ, ◌+◌, ◌<◌, ◌⊎◌, ◌↔◌, Bool, true, List, [], ◌∷◌, ◌++◌, length, take, get_or, sym, ap, inl, inr, arith, length-take}
-use Rattle.std.proofs.lemmas.List.{take_more}
-use Rattle.std.proofs.lemmas.Option.{slice_get-get_or}
-use Rattle.indexmap.specs.IndexSet.{insert_key}
-use Rattle.jim_ast.specs.Lists.{Adds, Has, IsApart}
-use Rattle.jim_ast.proofs.Places.{Has-adds_itself, slice_get-adds, slice_get-added, slice_get-below}
+use Rattle.std.proofs.Common.{◌≡◌, ◌⊎◌, ◌↔◌, List, inl, inr}
+use Rattle.jim_ast.specs.Lists.{Adds, Has}
+use Rattle.jim_ast.proofs.Places.{Has-adds_itself, slice_get-adds, slice_get-added}
 use Rattle.link_rules.specs.Linked.{LinkedProgram}
 use Rattle.link_sites.specs.declared.site.Site.{Site}
 use Rattle.spds_rules.specs.declared.node.Node.{Node}
@@ -15,8 +12,6 @@ use Rattle.spds_rules.specs.Nodes.{IsNode}
 use Rattle.spds_rules.specs.Stores.{IsStore}
 use Rattle.demand_walk.specs.declared.demanded.Walk.{Walk}
 use Rattle.demand_walk.specs.Walks.{IsWalk}
-use Rattle.demand_walk.proofs.Appended.{slice_get-take}
-use Rattle.demand_walk.proofs.Keys.{Adds-insert_key}
 use Rattle.demand_set.specs.Demands.{DemandParts, IsDemandOf}
 use Rattle.demand_set.specs.Starts.{HasStart}
 
@@ -26,19 +21,6 @@ Has-adds old new x adds y = (
   λ h. elim (slice_get-added old new x adds h.0 y h.1) [ inl a ↦ inl (h.0, a) | inr b ↦ inr b ],
   λ h. elim h [ inl a ↦ (a.0, slice_get-adds old new x adds a.0 y a.1) | inr b ↦ rw b (Has-adds_itself old new x adds) ],
 )
-
--- a set that takes in a list without doubles has its elements in their order
-pub insert_key-next : {X : Type 0} (eq : X → X → Bool) (same : (x y : X) → eq x y ≡ true → x ≡ y) (self : (x : X) → eq x x ≡ true) (xs old new : List X) (i : ℕ) (d : X)
-    → IsApart xs → i < length xs → old ≡ take i xs → new ≡ insert_key eq old (get_or xs i d) → new ≡ take (i + 1) xs
-insert_key-next eq same self xs old new i d apart h first put = elim (Adds-insert_key eq same self old (get_or xs i d)) [
-  | inl (has, stays) ↦
-      let at = rw first at (has.1) in
-      let here = slice_get-take i xs has.0 (get_or xs i d) at in
-      let twice : has.0 ≡ i = apart has.0 i (get_or xs i d) here (slice_get-get_or xs i d h) in
-      let below = slice_get-below (take i xs) has.0 (get_or xs i d) at in
-      absurd (omega (arith, twice, below, length-take i xs))
-  | inr (fresh, grown) ↦ put ∙ grown ∙ ap (λ ys. ys ++ get_or xs i d ∷ []) first ∙ sym (take_more xs i d h)
-]
 
 -- the sites of the demanded nodes are those of the demand
 pub AreSites-demanded : (p : LinkedProgram) (q : Asked) (nodes : List Node) (sites : List Site) → AreAll (Demand p q) nodes → ((n : Node) → Demand p q n → IsNode p n)

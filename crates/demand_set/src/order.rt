@@ -12,14 +12,15 @@ use link_sites::Site;
 use std::cmp::Ordering;
 
 // The numbers by which sites are compared first.
-fn numbers_of(site: Site) -> [u32; 4]
+fn numbers_of(site: Site) -> [u32; 5]
     ensures { result ≡ numbers_of site }
 {
     match site {
-        Site::New(place) => [0, place.method, place.index, 0],
-        Site::Raised(place, kind) => [0, place.method, place.index, u32::from(kind) + 1],
-        Site::Text(_) => [1, 0, 0, 0],
-        Site::Class(_) => [2, 0, 0, 0],
+        Site::New(place) => [0, place.method, place.index, 0, 0],
+        Site::Nested(place, level) => [0, place.method, place.index, 1, u32::from(level)],
+        Site::Raised(place, kind) => [0, place.method, place.index, 2, u32::from(kind)],
+        Site::Text(_) => [1, 0, 0, 0, 0],
+        Site::Class(_) => [2, 0, 0, 0, 0],
     }
 }
 

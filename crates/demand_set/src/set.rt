@@ -6,11 +6,12 @@ ghost use Rattle.spds_rules.specs.Demand.{AreAll};
 ghost use Rattle.spds_rules.specs.declared.node.Node.{Node as AnyNode};
 ghost use Rattle.spds_rules.specs.Answers.{AreSites};
 ghost use Rattle.spds_rules.specs.Nodes.{IsNode};
+ghost use Rattle.demand_walk.specs.Numbers.{AreEdgesAt};
 ghost use Rattle.demand_set.specs.Demands.{StartsAt};
 ghost use Rattle.demand_set.specs.Starts.{HasStart};
 
 use super::starts::{sites_of, starts_of};
-use demand_walk::Walk;
+use demand_walk::{EdgeAt, Nodes, Walked};
 use indexmap::IndexSet;
 use jim_ast::{List, NoMemory};
 use link_program::Linked;
@@ -23,8 +24,9 @@ use std::marker::Model;
 /// are demanded. Nodes and sites have numbers, by their order, from 0. Contracts see the five lists. What is read of it takes no memory.
 #[derive(Drop)]
 pub struct Demand {
-    nodes: IndexSet<Node>,
+    nodes: Nodes,
     edges: List<Edge>,
+    numbered: List<EdgeAt>,
     fields: List<u32>,
     stores: List<StoreAt>,
     sites: IndexSet<Site>,
@@ -40,32 +42,23 @@ impl Model for Demand {
     ghost use Rattle.demand_set.specs.Starts.{IsKept};
 
     ghost view = { λ d. record {
-      nodes = d.nodes.keys;
+      nodes = d.nodes;
       edges = d.edges;
       fields = d.fields;
       stores = d.stores;
       sites = d.sites.keys;
     } };
 
-    ghost invariant = { λ d. IsKept d.nodes.keys d.sites.keys (map (λ numbers. numbers.items) d.starts.items) };
-}
+    ghost use Rattle.demand_walk.specs.Numbers.{AreEdgesAt};
 
-// A set of the nodes, in their order.
-fn set_of(alloc: Global, nodes: &[Node]) -> Result<IndexSet<Node>, NoMemory>
-    requires { IsApart nodes.now }
-    ensures { IfOk result (λ set. set.keys ≡ nodes.now) }
-{
-    let mut set = IndexSet::with_capacity(alloc, nodes.len())?;
-    for node in nodes {
-        set.insert(*node)?;
-    }
-    Ok(set)
+    ghost invariant = { λ d. IsKept d.nodes d.sites.keys (map (λ numbers. numbers.items) d.starts.items) × AreEdgesAt d.nodes d.edges d.numbered };
 }
 
 impl Demand {
     /// What a walk over the program found, with the sites of which start nodes are among the nodes.
-    pub fn of_walk(alloc: Global, linked: &Linked, walk: Walk) -> Result<Demand, NoMemory>
+    pub fn of_walk(alloc: Global, linked: &Linked, walk: Walked) -> Result<Demand, NoMemory>
         requires apart { IsApart walk.nodes }
+        requires numbered { AreEdgesAt walk.nodes walk.edges walk.numbered }
         requires few { length walk.nodes < 2 ^ 32 }
         requires nodes { (n : AnyNode) → Has walk.nodes n → IsNode linked.now n }
         ensures nodes { IfOk result (λ d. d.nodes ≡ walk.nodes) }
@@ -74,12 +67,12 @@ impl Demand {
         ensures stores { IfOk result (λ d. d.stores ≡ walk.stores) }
         ensures sites { IfOk result (λ d. AreSites linked.now (HasStart walk.nodes) d.sites) }
     {
-        let nodes = set_of(alloc, walk.nodes.as_slice())?;
         let sites = sites_of(alloc, linked, walk.nodes.as_slice())?;
         let starts = starts_of(alloc, walk.nodes.as_slice(), &sites)?;
         Ok(Demand {
-            nodes,
+            nodes: walk.nodes,
             edges: walk.edges,
+            numbered: walk.numbered,
             fields: walk.fields,
             stores: walk.stores,
             sites,
@@ -99,6 +92,14 @@ impl Demand {
         ensures { result.now ≡ self.now.edges }
     {
         self.edges.as_slice()
+    }
+
+    /// The edges by the numbers of their nodes, in the same order.
+    pub fn numbered(&self) -> &[EdgeAt]
+        ensures value { AreEdgesAt self.now.nodes self.now.edges result.now }
+        ensures apart { IsApart self.now.nodes }
+    {
+        self.numbered.as_slice()
     }
 
     /// The fields that the edges load.
@@ -126,8 +127,7 @@ impl Demand {
     pub fn number_of(&self, node: Node) -> Option<u32>
         ensures { (i : ℕ) → (result ≡ Some i) ↔ (slice_get self.now.nodes i ≡ Some node) }
     {
-        let number = self.nodes.get_index_of(&node)?;
-        Some(number as u32)
+        self.nodes.find(node)
     }
 
     /// The numbers of the start nodes of the site with a number, each once.

@@ -1,13 +1,15 @@
 -- What was followed, and what is left to follow.
 use Rattle.std.proofs.Common.{◌≡◌, ℕ, ◌⊎◌, List, [], ◌∷◌, ◌++◌, Some, refl, sym, subst, ◌∙◌, ap, inl, inr, ◌+◌, ◌<◌, length, take, get_or, append_assoc}
 use Rattle.std.proofs.lemmas.List.{take_more}
+use Rattle.std.proofs.lemmas.Option.{slice_get-get_or}
 use Rattle.jim_ast.specs.Lists.{Has}
 use Rattle.spds_rules.specs.declared.edge.Edge.{Edge}
+use Rattle.spds_rules.specs.declared.edge.EdgeKind.{EdgeKind}
 use Rattle.spds_rules.specs.declared.edge.EdgeKind.TheVariants.{Load}
 use Rattle.spds_rules.specs.declared.node.Node.{Node}
 use Rattle.spds_rules.specs.declared.store.StoreAt.{StoreAt}
 use Rattle.spds_rules.specs.Demand.{AreAll}
-use Rattle.demand_walk.specs.Graphs.{AreSameStores, StoreOf}
+use Rattle.demand_walk.specs.Graphs.{AreSameStores, EdgeInto, StoreOf}
 use Rattle.demand_walk.specs.Searches.{ComesFrom, ComesFromOne, Grows, IsEndOf, IsFollowed, IsStored}
 use Rattle.demand_walk.proofs.Appended.{AreAll-append, AreAll-same, Has-append_left, Has-append_right, Has-appended, Has-one, Has-take_kept, Has-take_last}
 use Rattle.demand_walk.proofs.Grown.{Grows-twice, Has-grows}
@@ -119,3 +121,8 @@ pub Grows-followed : (Old New : StoreAt → Type 0) (start mid new : List Node) 
 Grows-followed Old New start mid new items i d h same first second = Grows-twice start mid new first second
     (λ n from. (from.0, Has-take_kept items i d from.0 h from.1, from.2))
     (λ n from. (get_or items i d, Has-take_last items i d h, ComesFrom-same Old New (get_or items i d) n same from))
+
+-- each of the edges into a node leads there
+pub into_node : (Edges : Node → EdgeKind → Node → Type 0) (node : Node) (items : List Edge) (i : ℕ) (d : Edge) → AreAll (EdgeInto Edges node) items → i < length items
+    → (get_or items i d).to ≡ node
+into_node Edges node items i d are h = (are.each (get_or items i d) (i, slice_get-get_or items i d h)).1

@@ -7,3 +7,4 @@ pub mod Followed
 pub mod Searched
 pub mod Counts
 pub mod Selected
+pub mod EdgesAt

@@ -1,3 +1,4 @@
 pub mod Graphs
 pub mod Walks
 pub mod Searches
+pub mod Numbers

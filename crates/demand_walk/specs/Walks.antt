@@ -7,7 +7,12 @@ use Rattle.spds_rules.specs.declared.node.Node.{Node}
 use Rattle.spds_rules.specs.declared.store.StoreAt.{StoreAt}
 use Rattle.spds_rules.specs.Demand.{AreAll, Demanded, IsFieldDemanded}
 use Rattle.demand_walk.specs.declared.demanded.Walk.{Walk}
+use Rattle.demand_walk.specs.declared.demanded.Walked.{Walked}
 use Rattle.demand_walk.specs.Graphs.{Asks}
+
+-- what was walked, but for the numbers
+abbrev pub walk_of : Walked → Walk
+walk_of w = record { nodes = w.nodes; edges = w.edges; fields = w.fields; stores = w.stores }
 
 -- the demanded nodes, the edges into them, the fields that these load, and the stores of these fields
 pub record IsWalk (Edges : Node → EdgeKind → Node → Type 0) (Stores : StoreAt → Type 0) (targets : List Node) (w : Walk) : Type 0 where

@@ -7,13 +7,14 @@ mod fields;
 mod graph;
 mod listed;
 mod nodes;
+mod numbered;
 mod searching;
-#[cfg(test)]
-mod tests;
 mod visiting;
 mod walking;
 
-pub use demanded::{DemandError, Walk};
+pub use demanded::{DemandError, Walk, Walked};
 pub use graph::{Graph, NoMemory};
 pub use listed::ListedGraph;
-pub use walking::walk;
+pub use nodes::Nodes;
+pub use numbered::EdgeAt;
+pub use walking::{walk, walk_numbered};

@@ -1,28 +1,25 @@
 //! The nodes that a walk has found.
-ghost use Rattle.std.specs.Prelude.{◌≡◌, [], length, IfOk, OnOk};
+ghost use Rattle.std.specs.Prelude.{◌≡◌, ◌<◌, ◌^◌, ◌↔◌, ℕ, [], length, slice_get, IfOk, OnOk, Some};
 ghost use Rattle.jim_ast.specs.Lists.{Adds, IsApart};
 
-use indexmap::IndexSet;
+use lists::Numbered;
 use spds_rules::Node;
 use std::alloc::{AllocError, Global};
 use std::marker::Model;
 
-/// Nodes in the order in which they were found, each once.
+/// Nodes in the order in which they were found, each once, with their numbers.
 #[derive(Drop)]
 pub struct Nodes {
-    keys: IndexSet<Node>,
+    keys: Numbered<Node>,
 }
 
 impl Model for Nodes {
     ghost use Rattle.std.specs.Prelude.{List};
-    ghost use Rattle.jim_ast.specs.Lists.{IsApart};
     ghost use Rattle.spds_rules.specs.declared.node.Node.{Node};
 
     ghost Value = { List Node };
 
     ghost view = { λ s. s.keys.keys };
-
-    ghost invariant = { λ s. IsApart s.keys.keys };
 }
 
 impl Nodes {
@@ -31,13 +28,14 @@ impl Nodes {
         ensures { result ≡ [] }
     {
         Nodes {
-            keys: IndexSet::new(alloc),
+            keys: Numbered::new(alloc),
         }
     }
 
     /// How many nodes there are.
     pub fn len(&self) -> usize
-        ensures { result ≡ length self.now }
+        ensures value { result ≡ length self.now }
+        ensures few { result < 2 ^ 32 }
     {
         self.keys.len()
     }
@@ -47,14 +45,22 @@ impl Nodes {
         ensures value { result.now ≡ self.now }
         ensures apart { IsApart self.now }
     {
-        self.keys.as_slice()
+        self.keys.keys()
     }
 
-    /// Puts a node last, unless it is there already. Costs one look-up.
-    pub fn add(&mut self, node: Node) -> Result<(), AllocError>
-        ensures { OnOk result (Adds self.old node self.new) }
+    /// The number of the node, if it is there.
+    pub fn find(&self, node: Node) -> Option<u32>
+        ensures { (i : ℕ) → (result ≡ Some i) ↔ (slice_get self.now i ≡ Some node) }
     {
-        self.keys.insert(node)?;
-        Ok(())
+        self.keys.find(node)
+    }
+
+    /// The number of the node, which is put last unless it is there already. Costs one look-up.
+    pub fn add(&mut self, node: Node) -> Result<u32, AllocError>
+        ensures added { OnOk result (Adds self.old node self.new) }
+        ensures number { IfOk result (λ number. slice_get self.new number ≡ Some node) }
+    {
+        let (number, _) = self.keys.add(node)?;
+        Ok(number)
     }
 }

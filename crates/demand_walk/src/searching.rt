@@ -1,9 +1,10 @@
 //! The search of a walk.
 ghost use Rattle.std.specs.Prelude.{◌≡◌, ◌≤◌, ℕ, [], length, Err, OnErr, OnOk};
-ghost use Rattle.jim_ast.specs.Lists.{Has};
+ghost use Rattle.jim_ast.specs.Lists.{Has, IsApart};
 ghost use Rattle.spds_rules.specs.declared.node.Node.{Node};
 ghost use Rattle.spds_rules.specs.Demand.{Demanded, HasMore};
 ghost use Rattle.demand_walk.specs.Graphs.{AreSameEdges, AreSameStores, Asks};
+ghost use Rattle.demand_walk.specs.Numbers.{AreEdgesAt};
 ghost use Rattle.demand_walk.specs.Searches.{Grows, IsSearched};
 ghost use Rattle.demand_walk.specs.Walks.{AsksFew};
 
@@ -36,12 +37,15 @@ pub fn search<G: Graph>(
 ) -> Result<(), DemandError>
     requires nodes { found.old.nodes ≡ [] }
     requires edges { found.old.edges.items ≡ [] }
+    requires numbered { found.old.numbered.items ≡ [] }
     requires fields { found.old.fields ≡ [] }
     requires stores { found.old.stores.items ≡ [] }
     ensures same_edges { AreSameEdges (G.edge graph.old) (G.edge graph.new) }
     ensures same_stores { AreSameStores (G.store graph.old) (G.store graph.new) }
     ensures searched { OnOk result ((k : ℕ) × (length found.new.nodes ≤ k) × IsSearched (G.edge graph.old) (G.store graph.old) targets.now k
         found.new.nodes found.new.edges.items found.new.fields found.new.stores.items) }
+    ensures numbered { OnOk result (AreEdgesAt found.new.nodes found.new.edges.items found.new.numbered.items) }
+    ensures apart { OnOk result (IsApart found.new.nodes) }
     ensures within { OnOk result (length found.new.nodes ≤ budget) }
     ensures asked { OnOk result (Asks (G.asked graph.old) found.new.nodes (G.asked graph.new)) }
     ensures asked_few { OnErr result (AsksFew (Demanded (G.edge graph.old) (G.store graph.old) targets.now) budget (G.asked graph.old) (G.asked graph.new)) }
@@ -52,7 +56,7 @@ pub fn search<G: Graph>(
     let mut at = 0;
     while at < found.nodes.len() && found.nodes.len() <= budget as usize {
         let node = found.nodes.as_slice()[at];
-        visit(alloc, graph, found, node)?;
+        visit(alloc, graph, found, node, at as u32)?;
         at += 1;
     }
     if found.nodes.as_slice().len() > budget as usize {

@@ -3,9 +3,10 @@ ghost use Rattle.std.specs.Prelude.{◌≡◌, ◌≢◌, ◌≤◌, ℕ, length
 ghost use Rattle.jim_ast.specs.Lists.{IsApart};
 ghost use Rattle.spds_rules.specs.Demand.{Demanded, HasMore};
 ghost use Rattle.demand_walk.specs.Graphs.{AreSameEdges, AreSameStores, Asks};
-ghost use Rattle.demand_walk.specs.Walks.{AsksFew, HasAtMost, IsWalk};
+ghost use Rattle.demand_walk.specs.Numbers.{AreEdgesAt};
+ghost use Rattle.demand_walk.specs.Walks.{AsksFew, HasAtMost, IsWalk, walk_of};
 
-use super::demanded::{DemandError, Walk};
+use super::demanded::{DemandError, Walk, Walked};
 use super::fields::Fields;
 use super::graph::{Graph, NoMemory};
 use super::nodes::Nodes;
@@ -17,30 +18,31 @@ use std::alloc::Global;
 
 // Nothing found. Takes no memory.
 fn nothing(alloc: Global) -> Found
-    ensures { (result.nodes ≡ []) × (result.edges.items ≡ []) × (result.fields ≡ []) × (result.stores.items ≡ []) }
+    ensures { (result.nodes ≡ []) × (result.edges.items ≡ []) × (result.numbered.items ≡ []) × (result.fields ≡ []) × (result.stores.items ≡ []) }
 {
     Found {
         nodes: Nodes::new(alloc),
         edges: Vec::new(alloc),
+        numbered: Vec::new(alloc),
         fields: Fields::new(alloc),
         stores: Vec::new(alloc),
     }
 }
 
 // What was found, as lists.
-fn walk_of(alloc: Global, found: Found) -> Result<Walk, NoMemory>
-    ensures nodes_apart { IsApart found.nodes }
+fn walked_of(alloc: Global, found: Found) -> Result<Walked, NoMemory>
     ensures fields_apart { IsApart found.fields }
     ensures nodes { IfOk result (λ w. w.nodes ≡ found.nodes) }
     ensures edges { IfOk result (λ w. w.edges ≡ found.edges.items) }
+    ensures numbered { IfOk result (λ w. w.numbered ≡ found.numbered.items) }
     ensures fields { IfOk result (λ w. w.fields ≡ found.fields) }
     ensures stores { IfOk result (λ w. w.stores ≡ found.stores.items) }
 {
-    let nodes = found.nodes.as_slice().to_vec(alloc)?;
     let fields = found.fields.as_slice().to_vec(alloc)?;
-    Ok(Walk {
-        nodes: List::from_vec(nodes),
+    Ok(Walked {
+        nodes: found.nodes,
         edges: List::from_vec(found.edges),
+        numbered: List::from_vec(found.numbered),
         fields: List::from_vec(fields),
         stores: List::from_vec(found.stores),
     })
@@ -48,11 +50,36 @@ fn walk_of(alloc: Global, found: Found) -> Result<Walk, NoMemory>
 
 /// What the targets demand: the least set of nodes that has them, the source of each edge into it, and, for each edge into it that loads a field,
 /// the two nodes of each store of the field; with the edges into these nodes, the fields that are loaded along these, and the stores of these
-/// fields. Each stands once.
+/// fields. Each stands once; of the edges it also gives the numbers.
 ///
 /// It learns of the graph from the graph alone. It asks for the edges into each node once, in the order of the answer, and for the stores of each
 /// field once. Costs one look-up for each edge. The error is `OverBudget` exactly where more nodes are demanded than `budget`; then at most
 /// `budget` nodes were asked for. The other error is `NoMemory`. After each error only demanded nodes were asked for, none twice.
+pub fn walk_numbered<G: Graph>(
+    alloc: Global,
+    graph: &mut G,
+    targets: &[Node],
+    budget: u32,
+) -> Result<Walked, DemandError>
+    ensures same_edges { AreSameEdges (G.edge graph.old) (G.edge graph.new) }
+    ensures same_stores { AreSameStores (G.store graph.old) (G.store graph.new) }
+    ensures walked { IfOk result (λ w. IsWalk (G.edge graph.old) (G.store graph.old) targets.now (walk_of w)) }
+    ensures numbered { IfOk result (λ w. AreEdgesAt w.nodes w.edges w.numbered) }
+    ensures within { IfOk result (λ w. length w.nodes ≤ budget) }
+    ensures over { (b : ℕ) → result ≡ Err (DemandError.OverBudget b)
+        → (b ≡ budget) × HasMore (Demanded (G.edge graph.old) (G.store graph.old) targets.now) budget }
+    ensures beyond { HasMore (Demanded (G.edge graph.old) (G.store graph.old) targets.now) budget → IsErr result }
+    ensures enough { (b : ℕ) → HasAtMost (Demanded (G.edge graph.old) (G.store graph.old) targets.now) budget
+        → result ≢ Err (DemandError.OverBudget b) }
+    ensures asked { IfOk result (λ w. Asks (G.asked graph.old) w.nodes (G.asked graph.new)) }
+    ensures asked_few { OnErr result (AsksFew (Demanded (G.edge graph.old) (G.store graph.old) targets.now) budget (G.asked graph.old) (G.asked graph.new)) }
+{
+    let mut found = nothing(alloc);
+    search(alloc, graph, &mut found, targets, budget)?;
+    Ok(walked_of(alloc, found)?)
+}
+
+/// What the targets demand, as `walk_numbered` finds it, as lists alone.
 pub fn walk<G: Graph>(
     alloc: Global,
     graph: &mut G,
@@ -71,7 +98,6 @@ pub fn walk<G: Graph>(
     ensures asked { IfOk result (λ w. Asks (G.asked graph.old) w.nodes (G.asked graph.new)) }
     ensures asked_few { OnErr result (AsksFew (Demanded (G.edge graph.old) (G.store graph.old) targets.now) budget (G.asked graph.old) (G.asked graph.new)) }
 {
-    let mut found = nothing(alloc);
-    search(alloc, graph, &mut found, targets, budget)?;
-    Ok(walk_of(alloc, found)?)
+    let walked = walk_numbered(alloc, graph, targets, budget)?;
+    Ok(walked.into_walk(alloc)?)
 }

@@ -9,9 +9,6 @@ ghost use Rattle.demo_text.specs.Demo.{calls_of, declarations_of, demo_source, e
 
 use std::alloc::{AllocError, Global};
 
-#[cfg(test)]
-mod tests;
-
 /// Memory that was asked for wasn't found.
 pub type NoMemory = AllocError;
 

@@ -16,6 +16,3 @@ pub use syntax::{
     Base, Body, Class, Expr, FieldDecl, FieldSig, Imm, Invoke, Label, MethodDecl, MethodSig, Mode,
     Program, Stmt, Trap, Ty,
 };
-
-#[cfg(test)]
-mod tests;

@@ -9,6 +9,3 @@ mod members;
 mod modifiers;
 
 pub use classes::{build, derives_one};
-
-#[cfg(test)]
-mod tests;

@@ -15,6 +15,3 @@ mod table;
 pub use laws::{least_place_is_one, texts_go_by_classes};
 pub use read::least_refused;
 pub use set::LeadSet;
-
-#[cfg(test)]
-mod tests;

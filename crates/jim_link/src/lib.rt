@@ -14,6 +14,3 @@ pub use declares::declares_named;
 pub use link_program::Linked;
 pub use link_rules::{Arg, Catch, Code, LinkError, LinkKind};
 pub use linking::link;
-
-#[cfg(test)]
-mod tests;

@@ -6,6 +6,3 @@ mod reader;
 
 pub use laws::{has_one_place, has_one_program};
 pub use reader::{ParseError, parse};
-
-#[cfg(test)]
-mod tests;

@@ -10,6 +10,3 @@ mod word;
 pub use law::{has_tokens, names_are_firsts};
 pub use lead::{Lead, Sign, Signs};
 pub use sign::signs;
-
-#[cfg(test)]
-mod tests;

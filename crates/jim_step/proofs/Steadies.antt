@@ -28,7 +28,7 @@ use Rattle.step_rules.specs.Offers.{CallsWith, Offers, OffersBy, Row, UnwindsAt}
 use Rattle.step_rules.specs.Slots.{operands_of, slot_of}
 use Rattle.step_rules.specs.Shapes.{EachOf, FitsFrame, FitsPoint, FitsSlot, HasShape, HasShapeBy, IsCall, IsKnown, Waits}
 use Rattle.step_rules.specs.States.{Ending, Frame, HeapObject, Point, State, ended, ill_typed, running, state_of, uncaught, catches, gets, goes_on, goes_to, throws, under, written}
-use Rattle.step_rules.specs.Steps.{Becomes, Choices, Receives, ReceivesAt, made, raised, with_object, with_static}
+use Rattle.step_rules.specs.Steps.{Becomes, Choices, Receives, ReceivesAt, made, nested, raised, with_object, with_static}
 use Rattle.step_rules.specs.declared.parts.Slot.{Slot}
 use Rattle.step_rules.proofs.Shaping.{frames_fit}
 use Rattle.step_rules.proofs.Listing.{at_all, each_last, last_same, same_place}
@@ -153,6 +153,7 @@ module _ (p : LinkedProgram) (at : Point) (new : State) (few : length at.below +
   depth_after (planned.Goes index) kept counted room w = same_depth (goes_to index at) refl w
   depth_after (planned.Gets to value) kept counted room w = same_depth (gets to value at) refl w
   depth_after (planned.Makes to class) kept counted room w = same_depth (made to class at) refl w
+  depth_after (planned.Nests to o inner class) kept counted room w = same_depth (nested to o w.0 inner class at) refl w.2
   depth_after (planned.Writes o field value) kept counted room w = same_depth (goes_on (with_object o (written w.0 field value) at)) refl w.2
   depth_after (planned.Sets field value) kept counted room w = same_depth (goes_on (with_static field value at)) refl w
   depth_after (planned.Calls number this) kept counted room w =

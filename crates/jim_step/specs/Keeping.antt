@@ -6,12 +6,13 @@ use Rattle.jim_step.specs.declared.plan.Effect.TheVariants as effect
 use Rattle.jim_step.specs.Frames.{frames_of}
 use Rattle.jim_step.specs.Plans.{meant}
 use Rattle.link_rules.specs.Linked.{LinkedProgram}
+use Rattle.link_sites.specs.declared.site.Site.{Site}
 use Rattle.step_rules.specs.declared.parts.Moved.{Moved}
 use Rattle.step_rules.specs.declared.parts.Moved.TheVariants as moved
 use Rattle.step_rules.specs.declared.parts.Value.{Value}
 use Rattle.step_rules.specs.Shapes.{FitsEffect}
 use Rattle.step_rules.specs.States.{Ending, HeapObject, Point, State, ended, goes_on, ill_typed, running, state_of, uncaught, written}
-use Rattle.step_rules.specs.Steps.{Becomes, with_object}
+use Rattle.step_rules.specs.Steps.{Becomes, nested, with_object}
 
 -- how a run has ended, by where its last step led
 abbrev pub ending_of : Moved → Ending
@@ -56,6 +57,11 @@ MovesTo R old new = (at : Point) → state_in old ≡ state_of at → R at (stat
 abbrev pub Writes : ℕ → ℕ → Value → Point → State → Type 0
 Writes o field value at new =
     (object : HeapObject) × (slice_get at.heap o ≡ Some object) × (new ≡ state_of (goes_on (with_object o (written object field value) at)))
+
+-- a new array is made as an element of another, and a local of the top frame gets it
+abbrev pub Nests : ℕ → ℕ → Site → ℕ → Point → State → Type 0
+Nests to o inner class at new =
+    (outer : HeapObject) × (slice_get at.heap o ≡ Some outer) × (new ≡ state_of (nested to o outer inner class at))
 
 -- a frame that is added has a number
 abbrev pub HasRoom : Effect → Kept → Type 0

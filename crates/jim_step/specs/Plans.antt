@@ -1,5 +1,6 @@
 -- What a plan lists.
 use Rattle.std.specs.Prelude.{ℕ, ◌⊎◌, ◌+◌, ◌<◌, ◌≤◌, ◌^◌, ◌++◌, List, [], ◌∷◌, Option, Some, None, length, map, slice_get}
+use Rattle.std.specs.Option.{option_to_list}
 use Rattle.jim_step.specs.declared.plan.Effect.{Effect as Planned}
 use Rattle.jim_step.specs.declared.plan.Effect.TheVariants as planned
 use Rattle.jim_step.specs.declared.plan.Plan.{Plan}
@@ -58,6 +59,7 @@ meant p top (planned.Throws o) = effect.throws o
 meant p top (planned.Goes index) = effect.goes index
 meant p top (planned.Gets to value) = effect.gets to value
 meant p top (planned.Makes to class) = effect.makes to class
+meant p top (planned.Nests to o inner class) = effect.nests to o inner class
 meant p top (planned.Writes o field value) = effect.writes o field value
 meant p top (planned.Sets field value) = effect.sets field value
 meant p top (planned.Calls number this) = effect.calls (called_frame p top number this)
@@ -65,16 +67,20 @@ meant p top (planned.Returns value) = effect.returns value
 meant p top (planned.Handles index o) = effect.handles index o
 meant p top (planned.Leaves o) = effect.leaves o
 
+-- the effects of a load from an array that aren't elements, behind these
+abbrev pub listed_behind : LinkedProgram → Frame → Option Planned → List Effect
+listed_behind p top more = effect.raises 1 ∷ map (λ e. meant p top e) (option_to_list more)
+
 -- the effects of a load from an array with these elements
-abbrev pub listed_cells : ℕ → List Value → List Effect
-listed_cells to cells = effect.gets to Null ∷ map (λ cell. effect.gets to cell) cells ++ effect.raises 1 ∷ []
+abbrev pub listed_cells : LinkedProgram → Frame → ℕ → List Value → Option Planned → List Effect
+listed_cells p top to cells more = effect.gets to Null ∷ map (λ cell. effect.gets to cell) cells ++ listed_behind p top more
 
 -- the effects that a plan lists
 abbrev pub listed : LinkedProgram → Frame → Plan → List Effect
 listed p top (plan.One only) = meant p top only ∷ []
 listed p top (plan.Two first second) = meant p top first ∷ meant p top second ∷ []
 listed p top (plan.Three first second third) = meant p top first ∷ meant p top second ∷ meant p top third ∷ []
-listed p top (plan.Cells to cells) = listed_cells to cells.now
+listed p top (plan.Cells to cells more) = listed_cells p top to cells.now more
 listed p top (plan.Jumps jumps) = map (λ jump. effect.goes jump) jumps.now
 
 -- how many choices a plan has
@@ -82,12 +88,12 @@ abbrev pub count_of : Plan → ℕ
 count_of (plan.One only) = 1
 count_of (plan.Two first second) = 2
 count_of (plan.Three first second third) = 3
-count_of (plan.Cells to cells) = length cells.now + 2
+count_of (plan.Cells to cells more) = length cells.now + 2 + length (option_to_list more)
 count_of (plan.Jumps jumps) = length jumps.now
 
 -- a plan's choices have numbers
 abbrev pub IsCountable : Plan → Type 0
-IsCountable (plan.Cells to cells) = length cells.now ≤ 4294967290
+IsCountable (plan.Cells to cells more) = length cells.now ≤ 4294967290
 IsCountable (plan.Jumps jumps) = length jumps.now < 2 ^ 32
 IsCountable _ = Unit {0}
 

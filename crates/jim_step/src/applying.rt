@@ -10,7 +10,7 @@ use super::classes::Classes;
 use super::entering::enter;
 use super::kept::Kept;
 use super::leaving::{give, leave, stop};
-use super::moves::{make, raise, set, write};
+use super::moves::{make, nest, raise, set, write};
 use super::plan::Effect;
 use super::stack::{top_catches, top_gets, top_goes_to, top_throws};
 use link_program::Linked;
@@ -46,6 +46,9 @@ pub fn apply(
             return raise(alloc, kept, kind, classes.exceptions[kind as usize]);
         }
         Effect::Makes(to, class) => return make(alloc, kept, to, class),
+        Effect::Nests(to, array, inner, class) => {
+            return nest(alloc, kept, to, array, inner, class);
+        }
         Effect::Writes(object, field, value) => return write(kept, object, field, value),
         Effect::Calls(number, this) => return enter(alloc, linked, kept, number, this),
     }

@@ -1,13 +1,16 @@
 //! What loads and stores may do.
-ghost use Rattle.std.specs.Prelude.{◌≡◌, ◌≢◌, ◌<◌, ◌↔◌, ◌++◌, ◌∷◌, [], IsTrue, length, map};
+ghost use Rattle.std.specs.Prelude.{◌≡◌, ◌≢◌, ◌+◌, ◌<◌, ◌↔◌, ◌∷◌, [], IfNone, IfSome, IsTrue, length};
 ghost use Rattle.jim_step.specs.Plans.{IsCountable, Lists, ListsOver};
 ghost use Rattle.link_sites.specs.Places.{HasCode};
-ghost use Rattle.link_sites.specs.Sites.{HasDeclared, IsArraySite, MakesArrays};
-ghost use Rattle.step_rules.specs.declared.parts.Value.TheVariants.{Null};
+ghost use Rattle.link_rules.specs.Classes.{object_name};
+ghost use Rattle.link_rules.specs.WellLinked.{MakesArrays};
+ghost use Rattle.link_sites.specs.Sites.{HasDeclared, HasLevel, IsArraySite, IsInnerSite, IsNamedClass, IsUnraised};
+ghost use Rattle.link_sites.specs.declared.site.Site.{Site as ASite};
+ghost use Rattle.link_sites.specs.declared.site.Site.TheVariants.{Nested};
 ghost use Rattle.step_rules.specs.Effects.{gets, raises, writes};
-ghost use Rattle.step_rules.specs.Offers.{Loads, LoadsCell, Stores, StoresCell, Where};
+ghost use Rattle.step_rules.specs.Offers.{FindsElement, Loads, LoadsCell, Stores, StoresCell, Where};
 ghost use Rattle.step_rules.specs.Shapes.{EachOf, FitsObject, FitsSlot};
-ghost use Rattle.step_rules.specs.Slots.{cells, field_of};
+ghost use Rattle.step_rules.specs.Slots.{field_of};
 
 use super::plan::{Effect, Plan};
 use link_program::Linked;
@@ -36,7 +39,20 @@ fn makes_array(linked: &Linked, place: Place) -> bool
         return false;
     }
     match linked.code(place.method).get(place.index as usize) {
-        Some(Code::NewArray { to: _ }) => true,
+        Some(Code::NewArray { .. } | Code::NewMulti { .. }) => true,
+        _ => false,
+    }
+}
+
+// Whether the statement at a place makes arrays of arrays of which this is an inner level.
+fn has_level(linked: &Linked, place: Place, level: u32) -> bool
+    ensures { IsTrue result ↔ HasCode linked.now place.method place.index (HasLevel level) }
+{
+    if place.method >= linked.methods() {
+        return false;
+    }
+    match linked.code(place.method).get(place.index as usize) {
+        Some(Code::NewMulti { levels, .. }) => level > 0 && level < u32::from(*levels),
         _ => false,
     }
 }
@@ -47,7 +63,33 @@ fn is_array(linked: &Linked, site: Site) -> bool
 {
     match site {
         Site::New(place) => !place.raised && makes_array(linked, place),
+        Site::Nested(place, level) => !place.raised && has_level(linked, place, u32::from(level)),
         _ => false,
+    }
+}
+
+// The site of the arrays that those of a place and a level hold, where there is one.
+fn level_within(linked: &Linked, place: Place, level: u8) -> Option<Site>
+    ensures some { IfSome result (λ inner. IsUnraised linked.now place (HasLevel (level + 1)) × (inner ≡ Nested place (level + 1))) }
+    ensures none { IfNone result (IsUnraised linked.now place (HasLevel (level + 1)) → ⊥) }
+{
+    linked.tell_form();
+    let inner = level.checked_add(1)?;
+    if !place.raised && has_level(linked, place, u32::from(inner)) {
+        return Some(Site::Nested(place, inner));
+    }
+    None
+}
+
+// The site of the arrays that those of a site hold, where there is one.
+fn site_within(linked: &Linked, site: Site) -> Option<Site>
+    ensures some { IfSome result (IsInnerSite linked.now site) }
+    ensures none { IfNone result ((inner : ASite) → IsInnerSite linked.now site inner → ⊥) }
+{
+    match site {
+        Site::New(place) => level_within(linked, place, 0),
+        Site::Nested(place, level) => level_within(linked, place, level),
+        Site::Raised(..) | Site::Text(_) | Site::Class(_) => None,
     }
 }
 
@@ -124,20 +166,40 @@ pub fn store<'a>(
     }
 }
 
-// A load from an array.
-fn load_element<'a>(linked: &Linked, object: &'a Object, to: u32) -> Plan<'a>
+// A load from an array. `class` is the class of arrays.
+fn load_element<'a>(
+    linked: &Linked,
+    object: &'a Object,
+    number: u32,
+    class: u32,
+    to: u32,
+) -> Plan<'a>
+    requires class { IsNamedClass linked.now object_name class }
     ensures countable { IsCountable result }
-    ensures row { Lists result (Where (IsArraySite linked.now object.now.site) (gets to Null ∷ map (λ cell. gets to cell) (cells object.now) ++ raises 1 ∷ [])) }
+    ensures row { Lists result (FindsElement linked.now to number object.now) }
 {
-    if is_array(linked, object.site()) {
-        Plan::Cells(to, object.cells())
-    } else {
-        Plan::One(Effect::IllTyped)
+    let site = object.site();
+    if !is_array(linked, site) {
+        return Plan::One(Effect::IllTyped);
+    }
+    match site_within(linked, site) {
+        Some(inner) => {
+            let nests = Effect::Nests(to, number, inner, class);
+            Plan::Cells(to, object.cells(), Some(nests))
+        }
+        None => Plan::Cells(to, object.cells(), None),
     }
 }
 
-/// A load from the array that the base holds.
-pub fn load_cell<'a>(linked: &Linked, heap: &'a Heap, to: u32, base: Option<Value>) -> Plan<'a>
+/// A load from the array that the base holds. `class` is the class of arrays.
+pub fn load_cell<'a>(
+    linked: &Linked,
+    heap: &'a Heap,
+    class: u32,
+    to: u32,
+    base: Option<Value>,
+) -> Plan<'a>
+    requires class { IsNamedClass linked.now object_name class }
     requires base { FitsSlot (length heap.now) base }
     ensures countable { IsCountable result }
     ensures row { ListsOver heap.now result (λ at. LoadsCell linked.now at to base) }
@@ -146,7 +208,7 @@ pub fn load_cell<'a>(linked: &Linked, heap: &'a Heap, to: u32, base: Option<Valu
         return Plan::One(Effect::IllTyped);
     };
     match value {
-        Value::Object(number) => load_element(linked, heap.object(number), to),
+        Value::Object(number) => load_element(linked, heap.object(number), number, class, to),
         Value::Null => Plan::One(Effect::Raises(0)),
         Value::Number => Plan::One(Effect::IllTyped),
     }

@@ -23,6 +23,3 @@ mod starting;
 mod unwinds;
 
 pub use machine::{Machine, start};
-
-#[cfg(test)]
-mod tests;

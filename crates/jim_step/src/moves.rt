@@ -1,7 +1,7 @@
 //! What effects do to the state that is kept.
 ghost use Rattle.std.specs.Prelude.{◌≡◌, ◌+◌, ◌<◌, ◌^◌, ◌++◌, ◌∷◌, [], IfNone, IfSome, List, OnErr, OnOk, Some, length};
 ghost use Rattle.jim_step.specs.Frames.{frame_of, frames_of};
-ghost use Rattle.jim_step.specs.Keeping.{IsSameState, Moves, MovesTo, Writes};
+ghost use Rattle.jim_step.specs.Keeping.{IsSameState, Moves, MovesTo, Nests, Writes};
 ghost use Rattle.jim_step.specs.Plans.{called_frame};
 ghost use Rattle.jim_step.specs.Stacks.{EachTop};
 ghost use Rattle.link_rules.specs.WellLinked.{IsInForm};
@@ -51,6 +51,28 @@ pub fn make(alloc: Global, kept: &mut Kept, to: u32, class: u32) -> Result<(), A
     let number = kept.heap.len();
     let place = top_place(kept.frames.as_slice());
     kept.heap.push(alloc, Site::New(place), class)?;
+    top_gets(&mut kept.frames, to, Value::Object(number));
+    Ok(())
+}
+
+/// A new array is made as an element of another, and a local gets it. Where there is no memory for it, the state is as before.
+pub fn nest(
+    alloc: Global,
+    kept: &mut Kept,
+    to: u32,
+    array: u32,
+    inner: Site,
+    class: u32,
+) -> Result<(), AllocError>
+    requires some { 0 < length kept.old.frames.items }
+    requires next { EachTop (λ f. f.index + 1 < 2 ^ 32) kept.old.frames.items }
+    requires local { EachTop (λ f. to < length f.locals) kept.old.frames.items }
+    requires array { array < length kept.old.heap }
+    ensures ok { OnOk result (MovesTo (Nests to array inner class) kept.old kept.new) }
+    ensures err { OnErr result (IsSameState kept.old kept.new) }
+{
+    let number = kept.heap.len();
+    kept.heap.push_into(alloc, array, inner, class)?;
     top_gets(&mut kept.frames, to, Value::Object(number));
     Ok(())
 }

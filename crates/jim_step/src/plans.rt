@@ -96,7 +96,9 @@ fn row<'a>(
         Code::Copy { to, arg } => assign(*to, operand(linked, frame, *arg)),
         Code::Cast { to, arg } => cast(*to, operand(linked, frame, *arg)),
         Code::New { to, class } => Plan::One(Effect::Makes(*to, *class)),
-        Code::NewArray { to } => Plan::Two(Effect::Makes(*to, classes.object), Effect::Raises(3)),
+        Code::NewArray { to } | Code::NewMulti { to, .. } => {
+            Plan::Two(Effect::Makes(*to, classes.object), Effect::Raises(3))
+        }
         Code::Numeric { to, divides } => compute(*to, *divides),
         Code::Length { to, arg } => measure(*to, operand(linked, frame, *arg)),
         Code::Load { to, base, field } => load(linked, heap, *to, *field, frame.local(*base)),
@@ -104,7 +106,9 @@ fn row<'a>(
             let source = operand(linked, frame, *arg);
             store(linked, heap, *field, frame.local(*base), source)
         }
-        Code::LoadCell { to, base } => load_cell(linked, heap, *to, frame.local(*base)),
+        Code::LoadCell { to, base } => {
+            load_cell(linked, heap, classes.object, *to, frame.local(*base))
+        }
         Code::StoreCell { base, arg } => {
             let source = operand(linked, frame, *arg);
             store_cell(linked, heap, frame.local(*base), source)

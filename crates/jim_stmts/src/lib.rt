@@ -20,6 +20,3 @@ pub use operands::imm;
 pub use reader::Reader;
 pub use signatures::{field_sig, maybe_types, method_sig, outcome, ty, types};
 pub use stmts::stmt;
-
-#[cfg(test)]
-mod tests;

@@ -54,6 +54,3 @@ pub enum LexError {
     /// There is no memory for the tokens.
     NoMemory,
 }
-
-#[cfg(test)]
-mod tests;

@@ -6,6 +6,3 @@ mod places;
 mod repeats;
 
 pub use index::BodyIndex;
-
-#[cfg(test)]
-mod tests;

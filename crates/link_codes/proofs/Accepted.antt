@@ -131,7 +131,7 @@ module _ (w : World) (method_rows : List ℕ) (m : DeclaredMethod) (body : Body)
   expr_there i x (expr.Use a) there within = operand_there i (stmt.Assign x (expr.Use a)) there a within (Has-operand (x ∷ []) a)
   expr_there i x (expr.New class) there within = new_there i (stmt.Assign x (expr.New class)) there class (within 0 class (omega arith)) refl
   expr_there i x (expr.NewArray ty) there within = within
-  expr_there i x (expr.NewMulti ty sized) there within = absurd (accepted i rule.NestedArray (x, ty, sized, at i (stmt.Assign x (expr.NewMulti ty sized)) there))
+  expr_there i x (expr.NewMulti ty sized) there within = within
   expr_there i x (expr.Cast ty a) there within =
       operand_there i (stmt.Assign x (expr.Cast ty a)) there a
       (within_part m.names (type_names ty ++ operand_names a) (operand_names a) within (λ y h. Has-right (type_names ty) (operand_names a) y h)) (Has-operand (x ∷ []) a)

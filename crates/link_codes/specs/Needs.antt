@@ -69,7 +69,7 @@ abbrev pub HasExpr : Context → Expr → Type 0
 HasExpr c (expr.Use a) = HasOperand c a
 HasExpr c (expr.New class) = HasClass c class
 HasExpr c (expr.NewArray ty) = AreWithin c.names (type_names ty)
-HasExpr c (expr.NewMulti ty sized) = ⊥
+HasExpr c (expr.NewMulti ty sized) = AreWithin c.names (type_names ty)
 HasExpr c (expr.Cast ty a) = HasOperand c a
 HasExpr c (expr.Length a) = HasOperand c a
 HasExpr c (expr.Numeric divides) = Unit {0}

@@ -1,13 +1,10 @@
 //! The arrays that a method makes.
 ghost use Rattle.std.specs.Prelude.{◌≡◌, [], ℕ, List as Items, All, IfNone, IfOk, IfSome};
-ghost use Rattle.jim_ast.specs.declared.names.NameId.{NameId as ANameId};
-ghost use Rattle.jim_ast.specs.declared.syntax.Expr.TheVariants.{NewArray};
-ghost use Rattle.jim_ast.specs.declared.syntax.Stmt.TheVariants.{Assign};
 ghost use Rattle.link_rules.specs.Conditions.{AreWithin, type_names};
 ghost use Rattle.link_rules.specs.Linked.{element_at, elements_of};
 ghost use Rattle.link_rules.specs.Names.{type_text};
 ghost use Rattle.link_codes.specs.Contexts.{context_of};
-ghost use Rattle.link_codes.specs.Elements.{elements_in};
+ghost use Rattle.link_codes.specs.Elements.{NamesType, elements_in};
 ghost use Rattle.link_codes.specs.Needs.{HasParts};
 
 use super::scope::MethodScope;
@@ -15,20 +12,20 @@ use super::types::push_type;
 use jim_ast::{Expr, Name, NoMemory, Stmt, Ty};
 use std::alloc::{AllocError, Global};
 
-/// A statement that makes an array, by its index, and the text of the type of its elements.
+/// A statement that makes arrays, by its index, and the text of the type of what the innermost ones hold.
 #[derive(Drop)]
 pub struct ElementText {
     pub index: u32,
     pub text: Name,
 }
 
-// The type of the elements of the array that a statement makes, if it makes one.
+// The type of what the innermost arrays hold that a statement makes, if it makes any.
 fn element_type(stmt: &Stmt) -> Option<Ty>
-    ensures some { IfSome result (λ ty. (x : ANameId) × (stmt.now ≡ Assign x (NewArray ty))) }
+    ensures some { IfSome result (NamesType stmt.now) }
     ensures none { IfNone result ((names : Items (Items ℕ)) (index : ℕ) → element_at names index stmt.now ≡ []) }
 {
     match stmt {
-        Stmt::Assign(_, Expr::NewArray(ty)) => Some(*ty),
+        Stmt::Assign(_, Expr::NewArray(ty) | Expr::NewMulti(ty, _)) => Some(*ty),
         _ => None,
     }
 }

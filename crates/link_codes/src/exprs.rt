@@ -83,7 +83,7 @@ pub(crate) fn assignment(
             class: scope.class(*class),
         }),
         Expr::NewArray(_) => Ok(Code::NewArray { to }),
-        Expr::NewMulti(_, _) => unreachable!(),
+        Expr::NewMulti(_, sized) => Ok(Code::NewMulti { to, levels: *sized }),
         Expr::Cast(ty, operand) => cast(scope, constants, to, *ty, *operand),
         Expr::Length(operand) => Ok(Code::Length {
             to,

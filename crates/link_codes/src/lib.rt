@@ -25,6 +25,3 @@ pub use fields::{FieldNumber, FieldNumbers};
 pub use method::{MethodCode, method_code};
 pub use numbering::Numbering;
 pub use types::push_type;
-
-#[cfg(test)]
-mod tests;

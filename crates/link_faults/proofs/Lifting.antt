@@ -14,7 +14,7 @@ use Rattle.link_rules.specs.declared.refusal.LinkKind.{LinkKind}
 use Rattle.link_rules.specs.declared.refusal.LinkKind.TheVariants as rule
 use Rattle.link_rules.specs.Bodies.{HasNoLabel, MayFollow}
 use Rattle.link_rules.specs.Classes.{DeclaredMethod, IsDeclared}
-use Rattle.link_rules.specs.Faults.{AccessAt, CallsIn, IsOfThreads, IsReflective, MakesObject, MakesNested, NamesNoParam, NamesNoReceiver, TakesNoResult}
+use Rattle.link_rules.specs.Faults.{AccessAt, CallsIn, IsOfThreads, IsReflective, MakesObject, LacksFirstSize, NamesNoParam, NamesNoReceiver, TakesNoResult}
 use Rattle.link_rules.specs.Names.{text_of}
 use Rattle.link_rules.specs.Reach.{RefusesAt}
 use Rattle.link_rules.specs.Statements.{Access, HasBody, PlainCall, PlainCallAt, StmtAt, access_of, new_of}
@@ -22,7 +22,7 @@ use Rattle.link_rules.specs.Targets.{CallAt}
 use Rattle.link_rules.specs.World.{World}
 use Rattle.link_faults.specs.Progress.{RefusesBody}
 use Rattle.link_faults.specs.Parts.{AreNamed, plain_call}
-use Rattle.link_faults.specs.Sites.{AssignsVoid, FindsNo, HasWrongCount, IsAmbiguousCall, IsBadIdentity, IsMissing, IsNested, IsNestedExpr, IsNotConcrete, IsRet, IsUndeclared, IsUndeclaredCall, IsVoidCall, IsVoidExpr, RefusesStmt, RunsNative}
+use Rattle.link_faults.specs.Sites.{AssignsVoid, FindsNo, HasWrongCount, IsAmbiguousCall, IsBadIdentity, IsMissing, IsUnsized, IsUnsizedExpr, IsNotConcrete, IsRet, IsUndeclared, IsUndeclaredCall, IsVoidCall, IsVoidExpr, RefusesStmt, RunsNative}
 use Rattle.link_faults.proofs.BodyFaults.{one_body}
 use Rattle.link_faults.proofs.StmtParts.{and_some, is_call_of, missing_by_parts, missing_local, plain_call_is, some_and}
 
@@ -57,11 +57,12 @@ module _ (w : World) (m : DeclaredMethod) (body : Body) (in_body : HasBody m bod
   ret stmt.Ret there h = stmt_at stmt.Ret there
   ret _ there h = absurd h
 
-  nested : (s : Stmt) → slice_get body.stmts index ≡ Some s → IsNested s → MakesNested m index
+  nested : (s : Stmt) → slice_get body.stmts index ≡ Some s → IsUnsized s → LacksFirstSize m index
   nested (stmt.Assign x e) there h = of_expr e there h
     where
-      of_expr : (e : Expr) → slice_get body.stmts index ≡ Some (stmt.Assign x e) → IsNestedExpr e → MakesNested m index
-      of_expr (expr.NewMulti ty sized) there h = (x, ty, sized, stmt_at (stmt.Assign x (expr.NewMulti ty sized)) there)
+      of_expr : (e : Expr) → slice_get body.stmts index ≡ Some (stmt.Assign x e) → IsUnsizedExpr e → LacksFirstSize m index
+      of_expr (expr.NewMulti ty sized) there h =
+          (x, ty, subst (λ n. StmtAt m index (stmt.Assign x (expr.NewMulti ty n))) h (stmt_at (stmt.Assign x (expr.NewMulti ty sized)) there))
       of_expr _ there h = absurd h
   nested _ there h = absurd h
 
@@ -161,7 +162,7 @@ module _ (w : World) (m : DeclaredMethod) (body : Body) (in_body : HasBody m bod
   refused_there rule.Threads (name, inl o, h) = inr (refused rule.Threads o.here (inl (made (IsOfThreads w) o h)))
   refused_there rule.Threads (name, inr c, h) = inr (refused rule.Threads c.at.here (inr (calls (IsOfThreads w) c h)))
   refused_there rule.RetStatement h = inr (refused rule.RetStatement h tt)
-  refused_there rule.NestedArray (x, ty, sized, here) = inr (refused rule.NestedArray here tt)
+  refused_there rule.NestedArray (x, ty, here) = inr (refused rule.NestedArray here refl)
   refused_there rule.UnknownClass (inl (name, inl o, h)) = inr (refused rule.UnknownClass o.here (inl (made (λ text. IsDeclared w.classes text → ⊥) o h)))
   refused_there rule.UnknownClass (inl (name, inr (inl c), h)) = inr (refused rule.UnknownClass c.at.here (inr (inl (calls (λ text. IsDeclared w.classes text → ⊥) c h))))
   refused_there rule.UnknownClass (inl (name, inr (inr (a, named)), h)) =

@@ -258,7 +258,7 @@ module _ (w : World) (m : DeclaredMethod) where
   refused_in i rule.Threads (name, inl o, h) = (o.here.body, o.here.in_body)
   refused_in i rule.Threads (name, inr c, h) = (c.at.here.body, c.at.here.in_body)
   refused_in i rule.RetStatement h = (h.body, h.in_body)
-  refused_in i rule.NestedArray h = (h.3.body, h.3.in_body)
+  refused_in i rule.NestedArray h = (h.2.body, h.2.in_body)
   refused_in i rule.UnknownClass (inl (name, inl o, h)) = (o.here.body, o.here.in_body)
   refused_in i rule.UnknownClass (inl (name, inr (inl c), h)) = (c.at.here.body, c.at.here.in_body)
   refused_in i rule.UnknownClass (inl (name, inr (inr a), h)) = (a.0.here.body, a.0.here.in_body)

@@ -59,14 +59,14 @@ IsBadIdentity decl (stmt.This x) = decl.is_static ≡ true
 IsBadIdentity decl (stmt.Param x number) = length decl.params ≤ number
 IsBadIdentity decl _ = ⊥
 
--- a `newmultiarray`
-abbrev pub IsNestedExpr : Expr → Type 0
-IsNestedExpr (expr.NewMulti ty sized) = Unit {0}
-IsNestedExpr _ = ⊥
+-- a `newmultiarray` without a size in its first pair of brackets
+abbrev pub IsUnsizedExpr : Expr → Type 0
+IsUnsizedExpr (expr.NewMulti ty sized) = sized ≡ 0
+IsUnsizedExpr _ = ⊥
 
-abbrev pub IsNested : Stmt → Type 0
-IsNested (stmt.Assign x e) = IsNestedExpr e
-IsNested _ = ⊥
+abbrev pub IsUnsized : Stmt → Type 0
+IsUnsized (stmt.Assign x e) = IsUnsizedExpr e
+IsUnsized _ = ⊥
 
 -- a `ret`
 abbrev pub IsRet : Stmt → Type 0
@@ -154,7 +154,7 @@ RefusesStmt w m body index s rule.DynamicInvoke = call_of s ≡ Some Dynamic
 RefusesStmt w m body index s rule.Reflection = IsReflection m.names s
 RefusesStmt w m body index s rule.Threads = IsThreads w m.names s
 RefusesStmt w m body index s rule.RetStatement = IsRet s
-RefusesStmt w m body index s rule.NestedArray = IsNested s
+RefusesStmt w m body index s rule.NestedArray = IsUnsized s
 RefusesStmt w m body index s rule.UnknownClass = HasUndeclared w m.names s
 RefusesStmt w m body index s rule.UnknownField = IsSomeAnd (access_of s) (FindsNo w m.names)
 RefusesStmt w m body index s rule.AbstractNew = IsSomeAnd (new_of s) (λ class. IsNotConcrete w (text_of m.names class))

@@ -3,7 +3,7 @@ ghost use Rattle.std.specs.Prelude.{◌≡◌, ◌↔◌, Some, IsTrue};
 ghost use Rattle.jim_ast.specs.declared.syntax.Invoke.TheVariants as invoke;
 ghost use Rattle.link_rules.specs.Statements.{call_of};
 ghost use Rattle.link_faults.specs.Parts.{seen_call};
-ghost use Rattle.link_faults.specs.Sites.{AssignsVoid, HasWrongCount, IsBadIdentity, IsNested, IsRet, IsVoidCall};
+ghost use Rattle.link_faults.specs.Sites.{AssignsVoid, HasWrongCount, IsBadIdentity, IsUnsized, IsRet, IsVoidCall};
 
 use super::parts::{Called, call_of};
 use jim_ast::{Base, Expr, Invoke, MethodDecl, Stmt};
@@ -39,12 +39,12 @@ pub(crate) fn is_ret(stmt: &Stmt) -> bool
     }
 }
 
-// Whether the statement is a `newmultiarray`.
-pub(crate) fn is_nested(stmt: &Stmt) -> bool
-    ensures { IsTrue result ↔ IsNested stmt.now }
+// Whether the statement is a `newmultiarray` without a size in its first pair of brackets.
+pub(crate) fn is_unsized(stmt: &Stmt) -> bool
+    ensures { IsTrue result ↔ IsUnsized stmt.now }
 {
     match stmt {
-        Stmt::Assign(_, Expr::NewMulti(_, _)) => true,
+        Stmt::Assign(_, Expr::NewMulti(_, sized)) => *sized == 0,
         _ => false,
     }
 }

@@ -5,7 +5,7 @@ ghost use Rattle.link_faults.specs.AtSite.{AccessesUndeclared, CallsThread, Call
 
 use super::callees::{Callee, finds_none, has_native};
 use super::checks::{
-    assigns_void, has_wrong_count, is_bad_identity, is_dynamic, is_nested, is_ret,
+    assigns_void, has_wrong_count, is_bad_identity, is_dynamic, is_ret, is_unsized,
 };
 use super::labels::{has_missing_label, named_labels, runs_off};
 use super::locals::has_missing_local;
@@ -220,7 +220,7 @@ impl<'a, 'c> Site<'a, 'c> {
             LinkKind::Reflection => self.calls_reflection(),
             LinkKind::Threads => self.makes_thread() || self.calls_thread(),
             LinkKind::RetStatement => is_ret(self.stmt),
-            LinkKind::NestedArray => is_nested(self.stmt),
+            LinkKind::NestedArray => is_unsized(self.stmt),
             LinkKind::UnknownClass => {
                 self.makes_undeclared() || self.calls_undeclared() || self.accesses_undeclared()
             }

@@ -1,8 +1,8 @@
 -- What an index lists a statement for.
-use Rattle.std.specs.Prelude.{◌≡◌, ℕ}
+use Rattle.std.specs.Prelude.{◌≡◌, ℕ, ◌<◌}
 use Rattle.jim_ast.specs.Lists.{Has}
 use Rattle.link_rules.specs.declared.code.Code.{Code}
-use Rattle.link_rules.specs.declared.code.Code.TheVariants.{Store, StoreCell, StoreStatic, Call, Return, Throw}
+use Rattle.link_rules.specs.declared.code.Code.TheVariants.{NewMulti, Store, StoreCell, StoreStatic, Call, Return, Throw}
 use Rattle.link_rules.specs.Flow.{MayRaise}
 use Rattle.link_indexes.specs.declared.facts.Key.{Key}
 use Rattle.link_indexes.specs.declared.facts.Key.TheVariants as key
@@ -14,10 +14,11 @@ abbrev pub Calls : ℕ → Code → Type 0
 Calls target (Call to mode class key receiver args targets) = Has targets target
 Calls target _ = ⊥
 
--- a store into the instance field. The number 0 stands for the elements of arrays
+-- a store into the instance field. The number 0 stands for the elements of arrays, into which inner arrays are stored where an array of arrays is made
 abbrev pub Stores : ℕ → Code → Type 0
 Stores field (Store base number arg) = field ≡ number
 Stores field (StoreCell base arg) = field ≡ 0
+Stores field (NewMulti to levels) = (field ≡ 0) × (1 < levels)
 Stores field _ = ⊥
 
 -- a store into the static field

@@ -42,6 +42,7 @@ fn stored_by(code: &Code) -> &[u32]
     match code {
         Code::Store { field, .. } => from_ref(field),
         Code::StoreCell { .. } => from_ref(&CELLS),
+        Code::NewMulti { levels, .. } if *levels > 1 => from_ref(&CELLS),
         _ => &[],
     }
 }
@@ -80,7 +81,7 @@ fn is_raised(code: &Code) -> bool
         Code::Throw { .. } | Code::Call { .. } => true,
         Code::Load { .. } | Code::Store { .. } | Code::Length { .. } | Code::Monitor { .. } => true,
         Code::LoadCell { .. } | Code::StoreCell { .. } => true,
-        Code::NewArray { .. } | Code::Cast { .. } => true,
+        Code::NewArray { .. } | Code::NewMulti { .. } | Code::Cast { .. } => true,
         Code::Numeric { divides, .. } => *divides,
         _ => false,
     }

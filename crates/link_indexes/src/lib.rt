@@ -12,6 +12,3 @@ mod rows;
 
 pub use indexes::{Indexes, NoMemory};
 pub use method::{MethodCode, Place};
-
-#[cfg(test)]
-mod tests;

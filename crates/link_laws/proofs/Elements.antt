@@ -10,32 +10,46 @@ use Rattle.jim_ast.specs.declared.syntax.Expr.TheVariants as expr
 use Rattle.jim_ast.specs.declared.syntax.Invoke.TheVariants.{Plain, Dynamic}
 use Rattle.jim_ast.specs.declared.syntax.Stmt.{Stmt}
 use Rattle.jim_ast.specs.declared.syntax.Stmt.TheVariants as stmt
-use Rattle.jim_ast.specs.declared.syntax.Ty.{Ty}
+use Rattle.link_rules.specs.declared.code.Code.{Code}
 use Rattle.link_rules.specs.declared.code.Code.TheVariants as code
 use Rattle.link_rules.specs.Codes.{IsAssignment, IsCode, Scope}
 use Rattle.link_rules.specs.Linked.{Element, element_at, elements_of}
 use Rattle.link_rules.specs.Lists.{AreIncreasing}
+use Rattle.link_rules.specs.WellLinked.{MakesArrays}
 use Rattle.link_laws.proofs.Lists.{all_at, at_map, slice_get-append_right, slice_get-appended}
 
--- what `newarray` is made of
-assigns_array : (in_scope : Scope) (x : NameId) (e : Expr) (to : ℕ) → IsAssignment in_scope x e (code.NewArray to) → (ty : Ty) × (e ≡ expr.NewArray ty)
-assigns_array in_scope x (expr.NewArray ty) to h = (ty, refl)
-assigns_array in_scope x (expr.Invoke (Plain mode y sig args)) to h = elim h [ ]
-assigns_array in_scope x (expr.Invoke Dynamic) to h = elim h [ ]
-assigns_array in_scope x e to h = elim h [ ]
+-- what the element of a statement is, if it makes an array
+abbrev HasOne : List (List ℕ) → ℕ → Stmt → Type 0
+HasOne names n s = (a : Element) × (element_at names n s ≡ a ∷ []) × (a.index ≡ n)
 
--- a statement whose code makes an array is an assignment of one
-pub makes_array : (in_scope : Scope) (s : Stmt) (to : ℕ) → IsCode in_scope s (code.NewArray to)
-    → (x : NameId) × (ty : Ty) × (s ≡ stmt.Assign x (expr.NewArray ty))
-makes_array in_scope (stmt.Assign x e) to h = let a = assigns_array in_scope x e to h in (x, a.0, ap (stmt.Assign x) a.1)
-makes_array in_scope (stmt.Call (Plain mode y sig args)) to h = elim h [ ]
-makes_array in_scope (stmt.Call Dynamic) to h = elim h [ ]
-makes_array in_scope s to h = elim h [ ]
+assigned_one : (names : List (List ℕ)) (n : ℕ) (in_scope : Scope) (x : NameId) (e : Expr) (c : Code) → IsAssignment in_scope x e c → MakesArrays c
+    → HasOne names n (stmt.Assign x e)
+assigned_one names n in_scope x (expr.NewArray ty) (code.NewArray to) h makes = (_, refl, refl)
+assigned_one names n in_scope x (expr.Invoke (Plain mode y sig args)) (code.NewArray to) h makes = elim h [ ]
+assigned_one names n in_scope x (expr.Invoke Dynamic) (code.NewArray to) h makes = elim h [ ]
+assigned_one names n in_scope x e (code.NewArray to) h makes = elim h [ ]
+assigned_one names n in_scope x (expr.NewMulti ty sized) (code.NewMulti to levels) h makes = (_, refl, refl)
+assigned_one names n in_scope x (expr.Invoke (Plain mode y sig args)) (code.NewMulti to levels) h makes = elim h [ ]
+assigned_one names n in_scope x (expr.Invoke Dynamic) (code.NewMulti to levels) h makes = elim h [ ]
+assigned_one names n in_scope x e (code.NewMulti to levels) h makes = elim h [ ]
+assigned_one names n in_scope x e c h makes = elim makes [ ]
+
+-- a statement whose code makes an array has an element
+pub makes_one : (names : List (List ℕ)) (n : ℕ) (in_scope : Scope) (s : Stmt) (c : Code) → IsCode in_scope s c → MakesArrays c → HasOne names n s
+makes_one names n in_scope (stmt.Assign x e) c h makes = assigned_one names n in_scope x e c h makes
+makes_one names n in_scope (stmt.Call (Plain mode y sig args)) (code.NewArray to) h makes = elim h [ ]
+makes_one names n in_scope (stmt.Call Dynamic) (code.NewArray to) h makes = elim h [ ]
+makes_one names n in_scope s (code.NewArray to) h makes = elim h [ ]
+makes_one names n in_scope (stmt.Call (Plain mode y sig args)) (code.NewMulti to levels) h makes = elim h [ ]
+makes_one names n in_scope (stmt.Call Dynamic) (code.NewMulti to levels) h makes = elim h [ ]
+makes_one names n in_scope s (code.NewMulti to levels) h makes = elim h [ ]
+makes_one names n in_scope s c h makes = elim makes [ ]
 
 -- a statement makes one array at most
 expr_one : (names : List (List ℕ)) (n : ℕ) (x : NameId) (e : Expr)
     → (element_at names n (stmt.Assign x e) ≡ []) ⊎ ((a : Element) × (element_at names n (stmt.Assign x e) ≡ a ∷ []) × (a.index ≡ n))
 expr_one names n x (expr.NewArray ty) = inr (_, refl, refl)
+expr_one names n x (expr.NewMulti ty sized) = inr (_, refl, refl)
 expr_one names n x e = inl refl
 
 -- any statement makes one array at most, at its own index
@@ -49,18 +63,16 @@ module _ (names : List (List ℕ)) where
   from n stmts = flat_map (λ s. element_at names s.0 s.1) (enumerate_from n stmts)
 
   -- each array has its element type
-  has_element : (n : ℕ) (stmts : List Stmt) (i : ℕ) (x : NameId) (ty : Ty) → slice_get stmts i ≡ Some (stmt.Assign x (expr.NewArray ty))
+  has_element : (n : ℕ) (stmts : List Stmt) (i : ℕ) (s : Stmt) → slice_get stmts i ≡ Some s → ((n : ℕ) → HasOne names n s)
       → (a : Element) × Has (from n stmts) a × (a.index ≡ n + i)
   unfolding from
-  has_element n [] i x ty e = cc
-  has_element n (s ∷ stmts) zero x ty e =
-      let one = ap (element_at names n) (same_Some s _ e) in (
-        record { index = n; text = _ },
-        (0, ap (λ front. slice_get (front ++ flat_map (λ (s : ℕ × Stmt). element_at names s.0 s.1) (enumerate_from (n + 1) stmts)) 0) one),
-        omega arith,
-      )
-  has_element n (s ∷ stmts) (suc i) x ty e =
-      let later = has_element (n + 1) stmts i x ty e in
+  has_element n [] i made e one = cc
+  has_element n (s ∷ stmts) zero made e one =
+      let a = one n in
+      let here = ap (element_at names n) (same_Some s made e) ∙ a.1 in
+      (a.0, (0, ap (λ front. slice_get (front ++ flat_map (λ (s : ℕ × Stmt). element_at names s.0 s.1) (enumerate_from (n + 1) stmts)) 0) here), omega (arith, a.2))
+  has_element n (s ∷ stmts) (suc i) made e one =
+      let later = has_element (n + 1) stmts i made e one in
       let place = slice_get-append_right (element_at names n s) (flat_map (λ (s : ℕ × Stmt). element_at names s.0 s.1) (enumerate_from (n + 1) stmts)) later.1.0 in
       (later.0, (length (element_at names n s) + later.1.0, place ∙ later.1.1), omega (arith, later.2))
 
@@ -99,10 +111,10 @@ module _ (names : List (List ℕ)) where
   ]
 
 -- of all statements of a method
-pub has_element_at : (names : List (List ℕ)) (stmts : List Stmt) (i : ℕ) (x : NameId) (ty : Ty) → slice_get stmts i ≡ Some (stmt.Assign x (expr.NewArray ty))
+pub has_element_at : (names : List (List ℕ)) (stmts : List Stmt) (i : ℕ) (s : Stmt) → slice_get stmts i ≡ Some s → ((n : ℕ) → HasOne names n s)
     → (a : Element) × Has (elements_of names stmts) a × (a.index ≡ i)
 unfolding from
-has_element_at names stmts i x ty e = let a = has_element names 0 stmts i x ty e in (a.0, a.1, omega (arith, a.2))
+has_element_at names stmts i s e one = let a = has_element names 0 stmts i s e one in (a.0, a.1, omega (arith, a.2))
 
 -- the indexes of a method's arrays increase
 pub elements_increase : (names : List (List ℕ)) (stmts : List Stmt) → AreIncreasing (map (λ (a : Element). a.index) (elements_of names stmts))

@@ -1,6 +1,6 @@
 -- The code of a statement fits the method and the program, is well linked, and may be followed by what may follow the statement.
 use Rattle.std.proofs.Common.{◌≡◌, ◌≢◌, ℕ, ◌<◌, not, Option, Some, None, List, [], ◌∷◌, length, IfSome, refl, sym, ap, ◌∙◌, subst, inl, inr, arith}
-use Rattle.std.proofs.lemmas.Bool.{cases_lt, false_from_ne_true}
+use Rattle.std.proofs.lemmas.Bool.{cases_eq, cases_lt, false_from_ne_true}
 use Rattle.jim_ast.specs.declared.names.NameId.{NameId}
 use Rattle.jim_ast.specs.declared.syntax.Body.{Body}
 use Rattle.jim_ast.specs.declared.syntax.Expr.{Expr}
@@ -83,6 +83,13 @@ module _ (w : World) (p : LinkedProgram) (made : IsMade w p) (m : DeclaredMethod
         follows = λ next e. inl (tt, e);
       }
   fit_assign x (expr.NewArray ty) (code.NewArray to) here read h = record { fits = local x to h; well = tt; follows = λ next e. inl (tt, e) }
+  fit_assign x (expr.NewMulti ty sized) (code.NewMulti to levels) here read h =
+      let same = h.1 in
+      let some : 0 < levels = elim (cases_eq sized 0) [
+        | inl none ↦ absurd (st.allowed index rule.NestedArray (x, ty, subst (λ n. StmtAt m index (stmt.Assign x (expr.NewMulti ty n))) none here))
+        | inr other ↦ omega (arith, same, other)
+      ] in
+      record { fits = (local x to h.0, some, omega (arith, same, read)); well = tt; follows = λ next e. inl (tt, e) }
   fit_assign x (expr.Cast ty a) (code.Cast to b) here read h = record { fits = (local x to h.0, operand a b h.1); well = tt; follows = λ next e. inl (tt, e) }
   fit_assign x (expr.Cast ty a) (code.Copy to b) here read h = record { fits = (local x to h.0, operand a b h.1); well = tt; follows = λ next e. inl (tt, e) }
   fit_assign x (expr.Length a) (code.Length to b) here read h = record { fits = (local x to h.0, operand a b h.1); well = tt; follows = λ next e. inl (tt, e) }

@@ -8,7 +8,6 @@ use Rattle.jim_ast.specs.declared.syntax.Label.{Label}
 use Rattle.jim_ast.specs.declared.syntax.Stmt.{Stmt}
 use Rattle.link_rules.specs.declared.code.Catch.{Catch}
 use Rattle.link_rules.specs.declared.code.Code.{Code}
-use Rattle.link_rules.specs.declared.code.Code.TheVariants as code
 use Rattle.link_rules.specs.declared.refusal.LinkKind.TheVariants as rule
 use Rattle.link_rules.specs.Bodies.{IsLabel, MayFollow}
 use Rattle.link_rules.specs.Classes.{DeclaredMethod}
@@ -19,9 +18,9 @@ use Rattle.link_rules.specs.Linked.{Element, LinkedMethod, LinkedProgram, scope_
 use Rattle.link_rules.specs.Lists.{AreIncreasing}
 use Rattle.link_rules.specs.Names.{text_of}
 use Rattle.link_rules.specs.Statements.{StmtAt}
-use Rattle.link_rules.specs.WellLinked.{FitsCatch, FitsCode, FitsMethod, IsWellLinkedCode}
+use Rattle.link_rules.specs.WellLinked.{FitsCatch, FitsCode, FitsMethod, IsWellLinkedCode, MakesArrays}
 use Rattle.link_rules.specs.World.{World}
-use Rattle.link_laws.proofs.Elements.{elements_increase, has_element_at, makes_array}
+use Rattle.link_laws.proofs.Elements.{elements_increase, has_element_at, makes_one}
 use Rattle.link_laws.proofs.Fitting.{IsFit, fit}
 use Rattle.link_laws.proofs.Lists.{all_at, at_all, each_right}
 use Rattle.link_laws.proofs.Parts.{class_fits}
@@ -80,11 +79,10 @@ module _ (w : World) (p : LinkedProgram) (made : IsMade w p) (m : DeclaredMethod
       )
 
   -- each array has its element type
-  array_has : (t to : ℕ) → slice_get l.code t ≡ Some (code.NewArray to) → (e : Element) × Has l.elements e × (e.index ≡ t)
-  array_has t to e =
-      let s = stmt_at t (code.NewArray to) e in
-      let made = makes_array (scope_of w p m st.linked.body) s.0 to s.3 in
-      let a = has_element_at m.names st.linked.body.stmts t made.0 made.1 (s.2 ∙ ap Some made.2) in
+  array_has : (t : ℕ) (c : Code) → slice_get l.code t ≡ Some c → MakesArrays c → (e : Element) × Has l.elements e × (e.index ≡ t)
+  array_has t c e makes =
+      let s = stmt_at t c e in
+      let a = has_element_at m.names st.linked.body.stmts t s.0 s.2 (λ n. makes_one m.names n (scope_of w p m st.linked.body) s.0 c s.3 makes) in
       (a.0, subst (λ es. Has es a.0) (sym st.linked.elements) a.1, a.2)
 
   -- the method fits

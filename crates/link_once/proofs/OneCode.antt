@@ -124,6 +124,10 @@ module _ (s : Scope) (one : HasOneEach s) where
   assignment_one x (expr.NewArray ty) (code.NewArray to) (code.NewArray to') p q = ap code.NewArray (local_one x to to' p q)
   assignment_one x (expr.NewArray ty) (code.NewArray to) _ p q = absurd q
   assignment_one x (expr.NewArray ty) _ d p q = absurd p
+  assignment_one x (expr.NewMulti ty sized) (code.NewMulti to n) (code.NewMulti to' n') p q =
+      let to_is = local_one x to to' p.0 q.0 in let n_is = p.1 ∙ sym q.1 in λ j. code.NewMulti (to_is j) (n_is j)
+  assignment_one x (expr.NewMulti ty sized) (code.NewMulti to n) _ p q = absurd q
+  assignment_one x (expr.NewMulti ty sized) _ d p q = absurd p
   assignment_one x (expr.Cast ty a) (code.Cast to b) (code.Cast to' b') p q = let to_is = local_one x to to' p.0 q.0 in let b_is = arg_one a b b' p.1 q.1 in λ j. code.Cast (to_is j) (b_is j)
   assignment_one x (expr.Cast ty a) (code.Cast to b) (code.Copy to' b') p q = absurd (p.2 q.2)
   assignment_one x (expr.Cast ty a) (code.Copy to b) (code.Cast to' b') p q = absurd (q.2 p.2)

@@ -88,7 +88,7 @@ ordered_pairs elements ordered i j d less below =
 pub makes_found : (p : LinkedProgram) (number index : ℕ) → IsInForm p → (a : MakesArray p number index) → (text : List ℕ) × HasElementText a.method.elements index text
 makes_found p number index form a =
     let fits : FitsMethod p a.method = subst (FitsMethod p) (get_or_from_slice_get p.methods number a.method a.method a.there) (form.methods number a.method (slice_get-below p.methods number a.method a.there)) in
-    let e = fits.elements index a.to a.makes in
+    let e = fits.elements index a.code a.here a.makes in
     (e.0.text, record { element = e.0; has = e.1; at = e.2; is_text = refl })
 
 -- they stand in the order of their indexes

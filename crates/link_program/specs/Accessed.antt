@@ -2,8 +2,8 @@
 use Rattle.std.specs.Prelude.{◌≡◌, ℕ, zero, suc, ◌+◌, ◌<◌, List, Option, Some, None, length, map, slice_get}
 use Rattle.jim_ast.specs.Lists.{Has}
 use Rattle.link_rules.specs.declared.code.Code.{Code}
-use Rattle.link_rules.specs.declared.code.Code.TheVariants.{NewArray}
 use Rattle.link_rules.specs.Linked.{Element, LinkedMethod, LinkedProgram}
+use Rattle.link_rules.specs.WellLinked.{MakesArrays}
 
 -- the fact holds of what stands there
 abbrev pub At : {X : Type 0} → List X → ℕ → (X → Type 0) → Type 0
@@ -22,8 +22,9 @@ field_class p (suc field) = slice_get p.field_classes field
 pub record MakesArray (p : LinkedProgram) (number index : ℕ) : Type 0 where
   pub method : LinkedMethod
   pub there : slice_get p.methods number ≡ Some method
-  pub to : ℕ
-  pub makes : slice_get method.code index ≡ Some (NewArray to)
+  pub code : Code
+  pub here : slice_get method.code index ≡ Some code
+  pub makes : MakesArrays code
 
 -- one of the elements is of this index, and has this text
 pub record HasElementText (elements : List Element) (index : ℕ) (text : List ℕ) : Type 0 where

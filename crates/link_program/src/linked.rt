@@ -135,7 +135,7 @@ impl Linked {
         self.code.methods.head(method).text.as_str()
     }
 
-    /// The text of the type of the elements of the array that the statement at an index of a method makes.
+    /// The text of the type of what the arrays hold that the statement at an index of a method makes, of the innermost level where it makes several.
     pub fn element_text(&self, method: u32, index: u32) -> &str
         requires { MakesArray self.now method index }
         ensures { At self.now.methods method (λ m. HasElementText m.elements index result.now) }

@@ -119,6 +119,7 @@ abbrev pub IsAssignment : Scope → NameId → Expr → Code → Type 0
 IsAssignment in_scope x (expr.Use a) (code.Copy to b) = IsLocal in_scope x to × IsArg in_scope a b
 IsAssignment in_scope x (expr.New class) (code.New to number) = IsLocal in_scope x to × IsClass in_scope class number
 IsAssignment in_scope x (expr.NewArray ty) (code.NewArray to) = IsLocal in_scope x to
+IsAssignment in_scope x (expr.NewMulti ty sized) (code.NewMulti to levels) = IsLocal in_scope x to × (levels ≡ sized)
 IsAssignment in_scope x (expr.Cast ty a) (code.Cast to b) = IsLocal in_scope x to × IsArg in_scope a b × (IsPrimitive ty → ⊥)
 IsAssignment in_scope x (expr.Cast ty a) (code.Copy to b) = IsLocal in_scope x to × IsArg in_scope a b × IsPrimitive ty
 IsAssignment in_scope x (expr.Length a) (code.Length to b) = IsLocal in_scope x to × IsArg in_scope a b
@@ -128,7 +129,17 @@ IsAssignment in_scope x (expr.Static sig) (code.LoadStatic to field) = IsLocal i
 IsAssignment in_scope x (expr.Cell y) (code.LoadCell to base) = IsLocal in_scope x to × IsLocal in_scope y base
 IsAssignment in_scope x (expr.Invoke (Plain mode y sig args)) (code.Call (Some to) mode_too class key receiver codes targets) =
     IsLocal in_scope x to × (mode_too ≡ mode) × BothOrNone (IsLocal in_scope) y receiver × IsCall in_scope mode sig args class key codes targets
-IsAssignment in_scope _ _ _ = ⊥
+IsAssignment in_scope _ (expr.Use _) _ = ⊥
+IsAssignment in_scope _ (expr.New _) _ = ⊥
+IsAssignment in_scope _ (expr.NewArray _) _ = ⊥
+IsAssignment in_scope _ (expr.NewMulti _ _) _ = ⊥
+IsAssignment in_scope _ (expr.Cast _ _) _ = ⊥
+IsAssignment in_scope _ (expr.Length _) _ = ⊥
+IsAssignment in_scope _ (expr.Numeric _) _ = ⊥
+IsAssignment in_scope _ (expr.Field _ _) _ = ⊥
+IsAssignment in_scope _ (expr.Static _) _ = ⊥
+IsAssignment in_scope _ (expr.Cell _) _ = ⊥
+IsAssignment in_scope _ (expr.Invoke _) _ = ⊥
 
 -- the code of a statement
 abbrev pub IsCode : Scope → Stmt → Code → Type 0

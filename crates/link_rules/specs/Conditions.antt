@@ -112,9 +112,11 @@ IsReadCall Dynamic = Unit {0}
 
 abbrev pub IsReadExpr : Expr → Type 0
 IsReadExpr (expr.Invoke call) = IsReadCall call
+IsReadExpr (expr.NewMulti ty sized) = sized < 256
 IsReadExpr _ = Unit {0}
 
--- a statement as it is read: a call has a receiver exactly where its mode isn't static, and a switch has its default
+-- a statement as it is read: a call has a receiver exactly where its mode isn't static, a switch has its default, and sizes are given for 255 levels
+-- of an array of arrays at most
 abbrev pub IsReadStmt : Stmt → Type 0
 IsReadStmt (stmt.Assign x e) = IsReadExpr e
 IsReadStmt (stmt.Call call) = IsReadCall call

@@ -152,9 +152,9 @@ IsOfThreads w name = (name ≡ thread_name) ⊎ IsBelowName w name thread_name
 abbrev pub UsesThreads : World → DeclaredMethod → ℕ → Type 0
 UsesThreads w m index = (name : List ℕ) × (MakesObject m index name ⊎ CallsIn m index name) × IsOfThreads w name
 
--- an array of arrays is made
-abbrev pub MakesNested : DeclaredMethod → ℕ → Type 0
-MakesNested m index = (x : NameId) × (ty : Ty) × (sized : ℕ) × StmtAt m index (stmt.Assign x (expr.NewMulti ty sized))
+-- an array of arrays is made, and none of its sizes counts: there is none in the first pair of brackets
+abbrev pub LacksFirstSize : DeclaredMethod → ℕ → Type 0
+LacksFirstSize m index = (x : NameId) × (ty : Ty) × StmtAt m index (stmt.Assign x (expr.NewMulti ty 0))
 
 -- the statement reads or writes this field
 pub record AccessAt (m : DeclaredMethod) (index : ℕ) : Type 0 where

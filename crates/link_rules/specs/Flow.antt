@@ -3,7 +3,7 @@ use Rattle.std.specs.Prelude.{◌≡◌, ℕ, ◌+◌, ◌<◌, ◌≤◌, ◌�
 use Rattle.jim_ast.specs.Lists.{Has}
 use Rattle.link_rules.specs.declared.code.Catch.{Catch}
 use Rattle.link_rules.specs.declared.code.Code.{Code}
-use Rattle.link_rules.specs.declared.code.Code.TheVariants.{This, Param, Caught, Copy, Cast, New, NewArray, Numeric, Length, Load, Store, LoadCell, StoreCell, LoadStatic, StoreStatic, Call, If, Goto, Switch, Return, Throw, Monitor, Skip}
+use Rattle.link_rules.specs.declared.code.Code.TheVariants.{This, Param, Caught, Copy, Cast, New, NewArray, NewMulti, Numeric, Length, Load, Store, LoadCell, StoreCell, LoadStatic, StoreStatic, Call, If, Goto, Switch, Return, Throw, Monitor, Skip}
 
 -- a run may go on from the statement at t to the one at s
 abbrev pub Next : Code → ℕ → ℕ → Type 0
@@ -19,6 +19,7 @@ Next (Copy to arg) t s = s ≡ t + 1
 Next (Cast to arg) t s = s ≡ t + 1
 Next (New to class) t s = s ≡ t + 1
 Next (NewArray to) t s = s ≡ t + 1
+Next (NewMulti to levels) t s = s ≡ t + 1
 Next (Numeric to divides) t s = s ≡ t + 1
 Next (Length to arg) t s = s ≡ t + 1
 Next (Load to base field) t s = s ≡ t + 1
@@ -56,6 +57,7 @@ MayRaise (Call to mode class key receiver args targets) k = RaisesNull receiver 
 MayRaise (LoadCell to base) k = k < 2
 MayRaise (StoreCell base arg) k = k < 3
 MayRaise (NewArray to) k = k ≡ 3
+MayRaise (NewMulti to levels) k = k ≡ 3
 MayRaise (Cast to arg) k = k ≡ 4
 MayRaise (Numeric to divides) k = (divides ≡ true) × (k ≡ 5)
 MayRaise (This to) k = ⊥

@@ -25,7 +25,7 @@ use Rattle.link_rules.specs.Statements.{HasBody, operands}
 use Rattle.link_rules.specs.Targets.{IsInstantiable}
 use Rattle.link_rules.specs.World.{IsWorld, World}
 
--- a `newarray` at an index, and the text of the type of its elements
+-- a `newarray` or `newmultiarray` at an index, and the text of the type of what the arrays that it makes hold, of the innermost level where it makes several
 pub record Element : Type 0 where
   pub index : ℕ
   pub text : List ℕ
@@ -77,9 +77,10 @@ class_text_in names _ = None
 abbrev pub used_by : (List (List ℕ) → Imm → Option (List ℕ)) → DeclaredMethod → List (List ℕ)
 used_by kind m = flat_map (λ body. flat_map (λ s. filter_map (kind m.names) (operands s)) body.stmts) (option_to_list m.decl.body)
 
--- the element type of the statement at an index, if it makes an array
+-- what the innermost arrays hold that the statement at an index makes, if it makes any
 abbrev pub element_at : List (List ℕ) → ℕ → Stmt → List Element
 element_at names index (stmt.Assign x (expr.NewArray ty)) = record { index = index; text = type_text names ty } ∷ []
+element_at names index (stmt.Assign x (expr.NewMulti ty sized)) = record { index = index; text = type_text names ty } ∷ []
 element_at names index _ = []
 
 -- those of all statements

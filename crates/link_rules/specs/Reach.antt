@@ -9,7 +9,7 @@ use Rattle.jim_ast.specs.declared.syntax.Stmt.TheVariants as stmt
 use Rattle.link_rules.specs.declared.refusal.LinkKind.{LinkKind}
 use Rattle.link_rules.specs.declared.refusal.LinkKind.TheVariants as rule
 use Rattle.link_rules.specs.Classes.{DeclaredMethod, IsNamed, methods_of}
-use Rattle.link_rules.specs.Faults.{AccessAt, CallsAmbiguous, CallsDynamically, CallsIn, CallsNative, CallsReflection, CallsUndeclared, FindsNoField, HandlesAtEnd, HasLocalTwice, HasWrongArguments, IsEmpty, JumpsNowhere, MakesObject, MakesAbstract, MakesNested, NamesNoClass, NamesNoLocal, NamesNoParam, NamesNoReceiver, RepeatsLabel, RunsOff, TakesNoResult, TrapsNoClass, TrapsNowhere, UsesThreads}
+use Rattle.link_rules.specs.Faults.{AccessAt, CallsAmbiguous, CallsDynamically, CallsIn, CallsNative, CallsReflection, CallsUndeclared, FindsNoField, HandlesAtEnd, HasLocalTwice, HasWrongArguments, IsEmpty, JumpsNowhere, MakesObject, MakesAbstract, LacksFirstSize, NamesNoClass, NamesNoLocal, NamesNoParam, NamesNoReceiver, RepeatsLabel, RunsOff, TakesNoResult, TrapsNoClass, TrapsNowhere, UsesThreads}
 use Rattle.link_rules.specs.Keys.{IsMethodKeyNumber, MethodKey}
 use Rattle.link_rules.specs.Lists.{AreIncreasing}
 use Rattle.link_rules.specs.Names.{text_of}
@@ -30,7 +30,7 @@ RefusesAt w m index rule.DynamicInvoke = CallsDynamically m index
 RefusesAt w m index rule.Reflection = CallsReflection m index
 RefusesAt w m index rule.Threads = UsesThreads w m index
 RefusesAt w m index rule.RetStatement = StmtAt m index stmt.Ret
-RefusesAt w m index rule.NestedArray = MakesNested m index
+RefusesAt w m index rule.NestedArray = LacksFirstSize m index
 RefusesAt w m index rule.UnknownClass = NamesNoClass w m index ⊎ TrapsNoClass w m index
 RefusesAt w m index rule.UnknownField = FindsNoField w m index
 RefusesAt w m index rule.AbstractNew = MakesAbstract w m index

@@ -8,7 +8,7 @@ use Rattle.link_rules.specs.declared.code.Arg.{Arg}
 use Rattle.link_rules.specs.declared.code.Arg.TheVariants as arg
 use Rattle.link_rules.specs.declared.code.Catch.{Catch}
 use Rattle.link_rules.specs.declared.code.Code.{Code}
-use Rattle.link_rules.specs.declared.code.Code.TheVariants.{This, Param, Caught, Copy, Cast, New, NewArray, Numeric, Length, Load, Store, LoadCell, StoreCell, LoadStatic, StoreStatic, Call, If, Goto, Switch, Return, Throw, Monitor, Skip}
+use Rattle.link_rules.specs.declared.code.Code.TheVariants.{This, Param, Caught, Copy, Cast, New, NewArray, NewMulti, Numeric, Length, Load, Store, LoadCell, StoreCell, LoadStatic, StoreStatic, Call, If, Goto, Switch, Return, Throw, Monitor, Skip}
 use Rattle.link_rules.specs.Flow.{Next}
 use Rattle.link_rules.specs.Keys.{HasReceiverByMode, is_static_mode}
 use Rattle.link_rules.specs.Linked.{Element, LinkedClass, LinkedKey, LinkedMethod, LinkedProgram}
@@ -45,6 +45,7 @@ FitsCode p m (Copy to a) = IsLocalOf m to × FitsArg p m a
 FitsCode p m (Cast to a) = IsLocalOf m to × FitsArg p m a
 FitsCode p m (New to class) = IsLocalOf m to × (class < length p.classes)
 FitsCode p m (NewArray to) = IsLocalOf m to
+FitsCode p m (NewMulti to levels) = IsLocalOf m to × (0 < levels) × (levels < 256)
 FitsCode p m (Numeric to divides) = IsLocalOf m to
 FitsCode p m (Length to a) = IsLocalOf m to × FitsArg p m a
 FitsCode p m (Load to base f) = IsLocalOf m to × IsLocalOf m base × IsFieldOf p f
@@ -67,12 +68,39 @@ FitsCode p m Skip = Unit {0}
 abbrev pub FitsCatch : LinkedProgram → LinkedMethod → Catch → Type 0
 FitsCatch p m catch = (catch.class < length p.classes) × (catch.handler < length m.code)
 
--- the numbers of a method are in range, what may follow one of its statements is one of them, and each array that is made has one element type
+-- the statement makes arrays
+abbrev pub MakesArrays : Code → Type 0
+MakesArrays (NewArray to) = Unit {0}
+MakesArrays (NewMulti to levels) = Unit {0}
+MakesArrays (This to) = ⊥
+MakesArrays (Param to number) = ⊥
+MakesArrays (Caught to) = ⊥
+MakesArrays (Copy to arg) = ⊥
+MakesArrays (Cast to arg) = ⊥
+MakesArrays (New to class) = ⊥
+MakesArrays (Numeric to divides) = ⊥
+MakesArrays (Length to arg) = ⊥
+MakesArrays (Load to base field) = ⊥
+MakesArrays (Store base field arg) = ⊥
+MakesArrays (LoadCell to base) = ⊥
+MakesArrays (StoreCell base arg) = ⊥
+MakesArrays (LoadStatic to field) = ⊥
+MakesArrays (StoreStatic field arg) = ⊥
+MakesArrays (Call to mode class key receiver args targets) = ⊥
+MakesArrays (If jump) = ⊥
+MakesArrays (Goto jump) = ⊥
+MakesArrays (Switch jumps) = ⊥
+MakesArrays (Return arg) = ⊥
+MakesArrays (Throw arg) = ⊥
+MakesArrays (Monitor arg) = ⊥
+MakesArrays Skip = ⊥
+
+-- the numbers of a method are in range, what may follow one of its statements is one of them, and each statement that makes arrays has one text of what the innermost hold
 pub record FitsMethod (p : LinkedProgram) (m : LinkedMethod) : Type 0 where
   pub codes : All (FitsCode p m) m.code
   pub catches : All (FitsCatch p m) m.catches
   pub stays : (t next : ℕ) (c : Code) → slice_get m.code t ≡ Some c → Next c t next → next < length m.code
-  pub elements : (t to : ℕ) → slice_get m.code t ≡ Some (NewArray to) → (e : Element) × Has m.elements e × (e.index ≡ t)
+  pub elements : (t : ℕ) (c : Code) → slice_get m.code t ≡ Some c → MakesArrays c → (e : Element) × Has m.elements e × (e.index ≡ t)
   pub one_each : AreIncreasing (map (λ e. e.index) m.elements)
 
 -- the last method, which has statements, no parameters and no receiver

@@ -48,6 +48,11 @@ pub enum Code {
     NewArray {
         to: u32,
     },
+    /// An array of arrays, of so many levels, one at least, for which sizes are given.
+    NewMulti {
+        to: u32,
+        levels: u8,
+    },
     /// A number is computed, by a division or not.
     Numeric {
         to: u32,

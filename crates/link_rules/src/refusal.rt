@@ -37,7 +37,7 @@ pub enum LinkKind {
     Threads = 14,
     /// A `ret`.
     RetStatement = 15,
-    /// A `newmultiarray`.
+    /// A `newmultiarray` without a size in its first pair of brackets.
     NestedArray = 16,
     /// The class of a `new`, a field, a call or a trap isn't declared.
     UnknownClass = 17,

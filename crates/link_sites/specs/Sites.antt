@@ -1,15 +1,16 @@
 -- The allocation sites of a linked program, the classes of their objects, and the fields that these have.
-use Rattle.std.specs.Prelude.{◌≡◌, ℕ, ◌<◌, ◌⊎◌, List, Some, false, codes, length, slice_get}
+use Rattle.std.specs.Prelude.{◌≡◌, ℕ, ◌+◌, ◌<◌, ◌⊎◌, List, Some, false, codes, length, slice_get}
 use Rattle.std.specs.Cmp.Lexicographic.{slice_cmp}
 use Rattle.std.specs.Ordering.{nat_cmp}
 use Rattle.std.specs.declared.cmp.Ordering.TheVariants.{Less}
 use Rattle.class_tree.specs.Rows.{Sub}
 use Rattle.link_rules.specs.declared.code.Code.{Code}
-use Rattle.link_rules.specs.declared.code.Code.TheVariants.{This, Param, Caught, Copy, Cast, New, NewArray, Numeric, Length, Load, Store, LoadCell, StoreCell, LoadStatic, StoreStatic, Call, If, Goto, Switch, Return, Throw, Monitor, Skip}
+use Rattle.link_rules.specs.declared.code.Code.TheVariants.{This, Param, Caught, Copy, Cast, New, NewArray, NewMulti, Numeric, Length, Load, Store, LoadCell, StoreCell, LoadStatic, StoreStatic, Call, If, Goto, Switch, Return, Throw, Monitor, Skip}
 use Rattle.link_rules.specs.Classes.{object_name}
 use Rattle.link_rules.specs.Flow.{MayRaise}
 use Rattle.link_rules.specs.Linked.{LinkedProgram}
 use Rattle.link_rules.specs.Targets.{exception_names}
+use Rattle.link_rules.specs.WellLinked.{MakesArrays}
 use Rattle.link_program.specs.Accessed.{field_class}
 use Rattle.link_program.specs.Classes.{names_of}
 use Rattle.link_program.specs.Places.{IsFirstPlace}
@@ -22,6 +23,7 @@ use Rattle.link_sites.specs.Places.{ComesBefore, HasCode, IsSameStatement}
 abbrev pub Makes : Code → Type 0
 Makes (New to class) = Unit {0}
 Makes (NewArray to) = Unit {0}
+Makes (NewMulti to levels) = Unit {0}
 Makes (This to) = ⊥
 Makes (Param to number) = ⊥
 Makes (Caught to) = ⊥
@@ -44,31 +46,10 @@ Makes (Throw arg) = ⊥
 Makes (Monitor arg) = ⊥
 Makes Skip = ⊥
 
--- the statement makes arrays
-abbrev pub MakesArrays : Code → Type 0
-MakesArrays (NewArray to) = Unit {0}
-MakesArrays (This to) = ⊥
-MakesArrays (Param to number) = ⊥
-MakesArrays (Caught to) = ⊥
-MakesArrays (Copy to arg) = ⊥
-MakesArrays (Cast to arg) = ⊥
-MakesArrays (New to class) = ⊥
-MakesArrays (Numeric to divides) = ⊥
-MakesArrays (Length to arg) = ⊥
-MakesArrays (Load to base field) = ⊥
-MakesArrays (Store base field arg) = ⊥
-MakesArrays (LoadCell to base) = ⊥
-MakesArrays (StoreCell base arg) = ⊥
-MakesArrays (LoadStatic to field) = ⊥
-MakesArrays (StoreStatic field arg) = ⊥
-MakesArrays (Call to mode class key receiver args targets) = ⊥
-MakesArrays (If jump) = ⊥
-MakesArrays (Goto jump) = ⊥
-MakesArrays (Switch jumps) = ⊥
-MakesArrays (Return arg) = ⊥
-MakesArrays (Throw arg) = ⊥
-MakesArrays (Monitor arg) = ⊥
-MakesArrays Skip = ⊥
+-- the statement makes arrays of arrays, of which this is an inner level: the outermost level is 0
+abbrev pub HasLevel : ℕ → Code → Type 0
+HasLevel level (NewMulti to levels) = (0 < level) × (level < levels)
+HasLevel level _ = ⊥
 
 -- the statement at the place has the fact, and no exception is in flight there
 abbrev pub IsUnraised : LinkedProgram → Place → (Code → Type 0) → Type 0
@@ -77,6 +58,7 @@ IsUnraised p place Fact = (place.raised ≡ false) × HasCode p place.method pla
 -- a site of the program. A constant that no start node has is one too: it has an object, which nothing holds
 abbrev pub IsSite : LinkedProgram → Site → Type 0
 IsSite p (site.New place) = IsUnraised p place Makes
+IsSite p (site.Nested place level) = IsUnraised p place (HasLevel level)
 IsSite p (site.Raised place kind) = IsUnraised p place (λ code. MayRaise code kind)
 IsSite p (site.Text number) = number < length p.texts
 IsSite p (site.Class number) = number < length p.class_texts
@@ -89,6 +71,7 @@ IsNamedClass p name class = IsFirstPlace (names_of p.classes) name class
 abbrev pub IsClassOfMade : LinkedProgram → Code → ℕ → Type 0
 IsClassOfMade p (New to made) class = class ≡ made
 IsClassOfMade p (NewArray to) class = IsNamedClass p object_name class
+IsClassOfMade p (NewMulti to levels) class = IsNamedClass p object_name class
 IsClassOfMade p (This to) class = ⊥
 IsClassOfMade p (Param to number) class = ⊥
 IsClassOfMade p (Caught to) class = ⊥
@@ -118,6 +101,7 @@ IsClassOfRaised p kind class = (name : List ℕ) × (slice_get exception_names k
 -- the class of the objects of a site
 abbrev pub IsSiteClass : LinkedProgram → Site → ℕ → Type 0
 IsSiteClass p (site.New place) class = IsUnraised p place (λ code. IsClassOfMade p code class)
+IsSiteClass p (site.Nested place level) class = IsUnraised p place (HasLevel level) × IsNamedClass p object_name class
 IsSiteClass p (site.Raised place kind) class = IsUnraised p place (λ code. MayRaise code kind) × IsClassOfRaised p kind class
 IsSiteClass p (site.Text number) class = (number < length p.texts) × IsNamedClass p (codes "java.lang.String") class
 IsSiteClass p (site.Class number) class = (number < length p.class_texts) × IsNamedClass p (codes "java.lang.Class") class
@@ -125,9 +109,18 @@ IsSiteClass p (site.Class number) class = (number < length p.class_texts) × IsN
 -- the objects of the site are arrays
 abbrev pub IsArraySite : LinkedProgram → Site → Type 0
 IsArraySite p (site.New place) = IsUnraised p place MakesArrays
+IsArraySite p (site.Nested place level) = IsUnraised p place (HasLevel level)
 IsArraySite p (site.Raised place kind) = ⊥
 IsArraySite p (site.Text number) = ⊥
 IsArraySite p (site.Class number) = ⊥
+
+-- the arrays of the outer site hold those of the inner one: the next level, where there is one
+abbrev pub IsInnerSite : LinkedProgram → Site → Site → Type 0
+IsInnerSite p (site.New place) inner = IsUnraised p place (HasLevel 1) × (inner ≡ site.Nested place 1)
+IsInnerSite p (site.Nested place level) inner = IsUnraised p place (HasLevel (level + 1)) × (inner ≡ site.Nested place (level + 1))
+IsInnerSite p (site.Raised place kind) inner = ⊥
+IsInnerSite p (site.Text number) inner = ⊥
+IsInnerSite p (site.Class number) inner = ⊥
 
 -- objects of this class have the instance field: the class is below the one that declares it
 abbrev pub HasDeclared : LinkedProgram → ℕ → ℕ → Type 0
@@ -142,18 +135,31 @@ abbrev pub IsTextBefore : List (List ℕ) → ℕ → ℕ → Type 0
 IsTextBefore texts a b = (first : List ℕ) × (second : List ℕ) × (slice_get texts a ≡ Some first) × (slice_get texts b ≡ Some second)
     × (slice_cmp nat_cmp first second ≡ Less)
 
--- the order in which sites are printed: what statements make and raise by statement, at one statement what it makes first and then by kind; then
--- texts and then class constants, each by bytes
+-- the order in which sites are printed: what statements make and raise by statement, at one statement what it makes first, then inner levels, and
+-- then what it raises, by kind; then texts and then class constants, each by bytes
 abbrev pub Precedes : LinkedProgram → Site → Site → Type 0
 Precedes p (site.New a) (site.New b) = ComesBefore a b
+Precedes p (site.New a) (site.Nested b level) = ComesBefore a b ⊎ IsSameStatement a b
 Precedes p (site.New a) (site.Raised b kind) = ComesBefore a b ⊎ IsSameStatement a b
-Precedes p (site.Raised a kind) (site.New b) = ComesBefore a b
-Precedes p (site.Raised a kind) (site.Raised b other) = ComesBefore a b ⊎ (IsSameStatement a b × (kind < other))
 Precedes p (site.New a) (site.Text b) = Unit {0}
 Precedes p (site.New a) (site.Class b) = Unit {0}
+Precedes p (site.Nested a level) (site.New b) = ComesBefore a b
+Precedes p (site.Nested a level) (site.Nested b other) = ComesBefore a b ⊎ (IsSameStatement a b × (level < other))
+Precedes p (site.Nested a level) (site.Raised b kind) = ComesBefore a b ⊎ IsSameStatement a b
+Precedes p (site.Nested a level) (site.Text b) = Unit {0}
+Precedes p (site.Nested a level) (site.Class b) = Unit {0}
+Precedes p (site.Raised a kind) (site.New b) = ComesBefore a b
+Precedes p (site.Raised a kind) (site.Nested b level) = ComesBefore a b
+Precedes p (site.Raised a kind) (site.Raised b other) = ComesBefore a b ⊎ (IsSameStatement a b × (kind < other))
 Precedes p (site.Raised a kind) (site.Text b) = Unit {0}
 Precedes p (site.Raised a kind) (site.Class b) = Unit {0}
+Precedes p (site.Text a) (site.New b) = ⊥
+Precedes p (site.Text a) (site.Nested b level) = ⊥
+Precedes p (site.Text a) (site.Raised b kind) = ⊥
 Precedes p (site.Text a) (site.Text b) = IsTextBefore p.texts a b
 Precedes p (site.Text a) (site.Class b) = Unit {0}
+Precedes p (site.Class a) (site.New b) = ⊥
+Precedes p (site.Class a) (site.Nested b level) = ⊥
+Precedes p (site.Class a) (site.Raised b kind) = ⊥
+Precedes p (site.Class a) (site.Text b) = ⊥
 Precedes p (site.Class a) (site.Class b) = IsTextBefore p.class_texts a b
-Precedes p _ _ = ⊥

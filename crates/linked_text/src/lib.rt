@@ -4,4 +4,4 @@
 mod reading;
 pub mod spots;
 
-pub use reading::linked_of;
+pub use reading::{linked_of, program_of};

@@ -1,4 +1,4 @@
-//! Linked programs from texts.
+//! Programs and linked programs from texts.
 ghost use Rattle.std.specs.Prelude.{IfSome};
 ghost use Rattle.link_rules.specs.Conditions.{IsRead};
 ghost use Rattle.link_rules.specs.WellLinked.{IsWellLinked};
@@ -12,8 +12,8 @@ use link_program::Linked;
 use read_laws::derived_programs_are_read;
 use std::alloc::Global;
 
-// The program of a text, if it is one.
-fn read(alloc: Global, text: &str) -> Option<Program>
+/// The program of a text. `None` where the text is none, and for want of memory.
+pub fn program_of(alloc: Global, text: &str) -> Option<Program>
     ensures { IfSome result IsRead }
 {
     derived_programs_are_read();
@@ -42,7 +42,7 @@ fn linked_with(alloc: Global, input: &Program) -> Option<Linked>
     requires { IsRead input.now }
     ensures { IfSome result IsWellLinked }
 {
-    let prelude = read(alloc, PRELUDE)?;
+    let prelude = program_of(alloc, PRELUDE)?;
     joined(alloc, input, &prelude)
 }
 
@@ -51,6 +51,6 @@ fn linked_with(alloc: Global, input: &Program) -> Option<Linked>
 pub fn linked_of(alloc: Global, text: &str) -> Option<Linked>
     ensures { IfSome result IsWellLinked }
 {
-    let input = read(alloc, text)?;
+    let input = program_of(alloc, text)?;
     linked_with(alloc, &input)
 }

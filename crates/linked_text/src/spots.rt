@@ -23,6 +23,8 @@ pub enum Link {
 #[derive(Clone, Copy)]
 pub enum Origin {
     Made(u32, u32),
+    /// The arrays of an inner level that the statement makes.
+    Inner(u32, u32, u8),
     Fault(u32, u32, u8),
     Text(u32),
     Class(u32),
@@ -76,6 +78,7 @@ pub fn edge(link: Link, to: Node) -> Edge {
 pub fn site(origin: Origin) -> Site {
     match origin {
         Origin::Made(method, index) => Site::New(before(method, index)),
+        Origin::Inner(method, index, level) => Site::Nested(before(method, index), level),
         Origin::Fault(method, index, kind) => Site::Raised(before(method, index), kind),
         Origin::Text(number) => Site::Text(number),
         Origin::Class(number) => Site::Class(number),

@@ -11,6 +11,3 @@ mod rows;
 pub use groups::{Groups, Keyed};
 pub use key::Key;
 pub use numbered::Numbered;
-
-#[cfg(test)]
-mod tests;

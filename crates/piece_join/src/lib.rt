@@ -7,8 +7,6 @@
 
 mod gate;
 mod pieces;
-#[cfg(test)]
-mod tests;
 
 pub use gate::{Gate, Open};
 pub use pieces::{Bring, bring_all, bring_here};

@@ -14,6 +14,3 @@ pub use laws::words_are_determined;
 pub use protocol::Protocol;
 pub use reading::read_protocol;
 pub use track_rules::ProtocolRow;
-
-#[cfg(test)]
-mod tests;

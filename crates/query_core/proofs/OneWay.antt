@@ -35,7 +35,15 @@ texts_one_way texts a b (first, second, at_a, at_b, less) (other, another, from_
 -- no site comes before one that comes before it
 pub sites_one_way : (p : LinkedProgram) (a b : Site) → Precedes p a b → Precedes p b a → ⊥
 sites_one_way p (site.New a) (site.New b) r s = statements_one_way a b r s
+sites_one_way p (site.New a) (site.Nested b level) r s = elim r [ inl r ↦ statements_one_way a b r s | inr r ↦ statements_apart a b r s ]
 sites_one_way p (site.New a) (site.Raised b kind) r s = elim r [ inl r ↦ statements_one_way a b r s | inr r ↦ statements_apart a b r s ]
+sites_one_way p (site.Nested a level) (site.New b) r s = elim s [ inl s ↦ statements_one_way a b r s | inr s ↦ statements_apart b a s r ]
+sites_one_way p (site.Nested a level) (site.Nested b other) r s = elim r [
+  | inl r ↦ elim s [ inl s ↦ statements_one_way a b r s | inr s ↦ statements_apart b a s.0 r ]
+  | inr r ↦ elim s [ inl s ↦ statements_apart a b r.0 s | inr s ↦ omega (arith, r.1, s.1) ]
+]
+sites_one_way p (site.Nested a level) (site.Raised b kind) r s = elim r [ inl r ↦ statements_one_way a b r s | inr r ↦ statements_apart a b r s ]
+sites_one_way p (site.Raised a kind) (site.Nested b level) r s = elim s [ inl s ↦ statements_one_way a b r s | inr s ↦ statements_apart b a s r ]
 sites_one_way p (site.Raised a kind) (site.New b) r s = elim s [ inl s ↦ statements_one_way a b r s | inr s ↦ statements_apart b a s r ]
 sites_one_way p (site.Raised a kind) (site.Raised b other) r s = elim r [
   | inl r ↦ elim s [ inl s ↦ statements_one_way a b r s | inr s ↦ statements_apart b a s.0 r ]
@@ -43,13 +51,17 @@ sites_one_way p (site.Raised a kind) (site.Raised b other) r s = elim r [
 ]
 sites_one_way p (site.New a) (site.Text b) r s = s
 sites_one_way p (site.New a) (site.Class b) r s = s
+sites_one_way p (site.Nested a level) (site.Text b) r s = s
+sites_one_way p (site.Nested a level) (site.Class b) r s = s
 sites_one_way p (site.Raised a kind) (site.Text b) r s = s
 sites_one_way p (site.Raised a kind) (site.Class b) r s = s
 sites_one_way p (site.Text a) (site.Text b) r s = texts_one_way p.texts a b r s
 sites_one_way p (site.Text a) (site.Class b) r s = s
 sites_one_way p (site.Text a) (site.New b) r s = r
+sites_one_way p (site.Text a) (site.Nested b level) r s = r
 sites_one_way p (site.Text a) (site.Raised b kind) r s = r
 sites_one_way p (site.Class a) (site.Class b) r s = texts_one_way p.class_texts a b r s
 sites_one_way p (site.Class a) (site.Text b) r s = r
 sites_one_way p (site.Class a) (site.New b) r s = r
+sites_one_way p (site.Class a) (site.Nested b level) r s = r
 sites_one_way p (site.Class a) (site.Raised b kind) r s = r

@@ -1,19 +1,20 @@
 -- Bodies as they are read.
-use Rattle.std.proofs.Common.{◌≡◌, ◌≢◌, ℕ, zero, suc, ◌+◌, ◌≤◌, false, List, [], ◌∷◌, length, Some, refl, ◌∙◌, subst, arith}
+use Rattle.std.proofs.Common.{◌≡◌, ◌≢◌, ℕ, zero, suc, ◌+◌, ◌≤◌, false, List, [], ◌∷◌, length, Some, None, refl, ap, ◌∙◌, subst, arith}
 use Rattle.std.specs.List.{AllByRecursion}
 use Rattle.std.proofs.lemmas.Bool.{true≢false, false≢true}
 use Rattle.std.proofs.lemmas.List.Elements.{All-from_recursion}
 use Rattle.jim_ast.specs.Lists.{Has}
+use Rattle.jim_ast.specs.declared.syntax.Base.{Base}
 use Rattle.jim_ast.specs.declared.syntax.Body.{Body}
 use Rattle.jim_ast.specs.declared.syntax.Class.{Class}
 use Rattle.jim_ast.specs.declared.syntax.Label.{Label}
 use Rattle.jim_ast.specs.declared.syntax.MethodDecl.{MethodDecl}
 use Rattle.jim_signs.specs.declared.lead.Lead.{Lead}
 use Rattle.jim_signs.specs.declared.lead.Lead.TheVariants as lead
-use Rattle.jim_grammar.specs.Forms.{LabelLine, StmtLine, FieldMember, MethodMember, NoBody, WithBody, InvokeExpr, OnReceiver, OnClass, Dynamic, AssignStmt, CallStmt, SwitchStmt}
-use Rattle.jim_grammar.specs.Expressions.{Tree}
-use Rattle.jim_grammar.specs.Grammar.{invoke, expr, case_line, stmt, line, body, ending, member, class, program}
-use Rattle.jim_stmts.specs.Meanings.{mode_by, invoke_of, expr_of, switch_of, stmt_of}
+use Rattle.jim_grammar.specs.Forms.{LabelLine, StmtLine, FieldMember, MethodMember, NoBody, WithBody, InvokeExpr, MultiExpr, OnReceiver, OnClass, Dynamic, AssignStmt, CallStmt, SwitchStmt}
+use Rattle.jim_grammar.specs.Expressions.{Between, Tree}
+use Rattle.jim_grammar.specs.Grammar.{invoke, expr, own, first_own, pair, case_line, stmt, line, body, ending, member, class, program}
+use Rattle.jim_stmts.specs.Meanings.{base_by, mode_by, invoke_of, expr_of, multi_of, owns_of, sized_of, switch_of, stmt_of}
 use Rattle.jim_build.specs.Bodies.{stmts_of, labels_from, body_of}
 use Rattle.jim_build.specs.Members.{ending_of, methods_of}
 use Rattle.jim_build.specs.Classes.{classes_of}
@@ -32,9 +33,27 @@ call_read (OnReceiver, (w, _)) = λ e. true≢false (e ∙ receiver_mode w.lead)
 call_read (OnClass, _) = false≢true
 call_read (Dynamic, _) = tt
 
--- and so does one in an expression
+-- no more sizes are given than there are pairs of brackets
+sized_most : (owns : List (Tree own)) → sized_of owns ≤ length owns
+sized_most [] = omega arith
+sized_most ((_, (None, _)) ∷ more) = omega arith
+sized_most ((_, (Some _, _)) ∷ more) = let most = sized_most more in omega (arith, most)
+
+-- of an array of arrays no more than 255
+multi_read : (b : Base) (m : Between 254 (Tree pair) (Tree first_own) (Tree own)) → IsReadExpr (multi_of b m)
+multi_read b m = by m.middle refl
+  where
+    by : (first : Tree first_own) → m.middle ≡ first → IsReadExpr (multi_of b m)
+    by (_, (o, _)) e =
+        let most = sized_most (owns_of m.middle m.after) in
+        let many : length (owns_of m.middle m.after) ≡ suc (length m.after) = ap (λ x. length (owns_of x m.after)) e in
+        let few = m.few in
+        omega (arith, most, many, few)
+
+-- an expression is as it is read
 expr_read : (t : Tree expr) → IsReadExpr (expr_of t)
 expr_read (InvokeExpr, (v, _)) = call_read v
+expr_read (MultiExpr, (_, (_, (b, (m, _))))) = multi_read (base_by b.lead b.text) m
 expr_read (_, _) = tt
 
 -- a switch has a label, since it has its default

@@ -1,9 +1,11 @@
 -- Texts that grow by lines.
-use Rattle.std.proofs.Common.{◌≡◌, ℕ, ◌+◌, ◌<◌, List, [], ◌∷◌, ◌++◌, length, take, get_or, refl, sym, ap, ◌∙◌, append_assoc, append-nil}
+use Rattle.std.proofs.Common.{◌≡◌, ℕ, zero, suc, ◌+◌, add-one, codes, ◌<◌, List, [], ◌∷◌, ◌++◌, length, take, get_or, refl, sym, ap, ◌∙◌, append_assoc, append-nil}
 use Rattle.std.proofs.lemmas.List.{take_more}
 use Rattle.link_rules.specs.Lists.{Each}
 use Rattle.link_classes.proofs.Growing.{Each-push}
+use Rattle.link_rules.specs.Names.{brackets}
 use Rattle.report_text.specs.Lines.{AddsLine, AddsLines, text_of}
+use Rattle.report_text.specs.Texts.{AddsText}
 
 -- the text of lines and more lines
 pub text_of-append : (xs ys : List (List ℕ)) → text_of (xs ++ ys) ≡ text_of xs ++ text_of ys
@@ -32,3 +34,15 @@ pub text_of-three : (first lines last : List (List ℕ)) (a b c : List ℕ) → 
 text_of-three first lines last a b c p q r =
     r ∙ ap (λ t. t ++ text_of last) (q ∙ ap (λ t. t ++ text_of lines) p) ∙ append_assoc (text_of first) (text_of lines) (text_of last)
     ∙ ap (λ t. text_of first ++ t) (sym (text_of-append lines last)) ∙ sym (text_of-append first (lines ++ last))
+
+-- a text that has another fact too
+pub AddsText-weaker : (P Q : List ℕ → Type 0) (old new : List ℕ) → ((text : List ℕ) → P text → Q text) → AddsText P old new → AddsText Q old new
+AddsText-weaker P Q old new then adds = record { added = adds.added; is_so = then adds.added adds.is_so; grown = adds.grown }
+
+-- a pair of brackets more
+pub brackets_more : (n : ℕ) → brackets (n + 1) ≡ brackets n ++ codes "[]"
+brackets_more n = rw add-one (by n)
+  where
+    by : (n : ℕ) → brackets (suc n) ≡ brackets n ++ codes "[]"
+    by zero = refl
+    by (suc n) = ap (λ l. codes "[]" ++ l) (by n)

@@ -6,8 +6,6 @@
 mod answers;
 mod places;
 mod sites;
-#[cfg(test)]
-mod tests;
 
 pub use answers::{alias_text, answer_text};
 pub use places::{place_text, push_place_text};

@@ -11,6 +11,3 @@ mod laws;
 pub use cells::{Cell, cells_of};
 pub use contraction::{Contracted, contract};
 pub use laws::{derivations_are_extended, ones_have_no_offset, values_are_extended};
-
-#[cfg(test)]
-mod tests;

@@ -10,10 +10,11 @@ use Rattle.link_rules.specs.Linked.{LinkedMethod, LinkedProgram}
 use Rattle.link_rules.specs.Keys.{is_static_mode}
 use Rattle.link_rules.specs.WellLinked.{FitsCode, FitsMethod, IsInstantiableIn, IsWellLinked, IsWellLinkedCode}
 use Rattle.link_laws.proofs.Lists.{at_all}
+use Rattle.link_sites.specs.declared.site.Site.{Site}
 use Rattle.link_sites.specs.Places.{CodeAt}
 use Rattle.step_rules.specs.declared.parts.Value.{Value}
-use Rattle.step_rules.specs.Effects.{Effect, is_ill_typed, raises, throws, goes, gets, makes, writes, sets, calls, returns, handles, leaves}
-use Rattle.step_rules.specs.Offers.{AtObject, Only, Where, WithObject, WithValue, CallsOn, CallsWith, Enters, EntersBelow, EntersBy, Finds, GivesBack, Offers, OffersBy, Row, UnwindsAt}
+use Rattle.step_rules.specs.Effects.{Effect, is_ill_typed, raises, throws, goes, gets, makes, nests, writes, sets, calls, returns, handles, leaves}
+use Rattle.step_rules.specs.Offers.{AtObject, Only, Where, WithObject, WithValue, CallsOn, CallsWith, Enters, EntersBelow, EntersBy, Finds, FindsElement, GivesBack, Nests, Offers, OffersBy, Row, UnwindsAt}
 use Rattle.link_sites.specs.Sites.{HasDeclared, IsArraySite}
 use Rattle.step_rules.specs.Slots.{cells, field_of, local_of, operand_of, operands_of}
 use Rattle.step_rules.specs.States.{Frame, HeapObject, Point}
@@ -42,6 +43,7 @@ pub record IsCalled (p : LinkedProgram) (at : Point) (frame : Frame) : Type 0 wh
 -- what is made has an instantiable class, and what is called is found by look-up
 abbrev pub IsSound : LinkedProgram → Point → Effect → Type 0
 IsSound p at (makes to class) = IsInstantiableIn p class
+IsSound p at (nests to o inner class) = IsInstantiableIn p class
 IsSound p at (calls frame) = IsCalled p at frame
 IsSound p at _ = Unit {0}
 
@@ -167,6 +169,23 @@ module _ (p : LinkedProgram) (well : IsWellLinked p) (at : Point) where
       (λ w. WithValue base (λ v. WithObject v (λ o. AtObject at.heap o (λ object. Where (Fact object) (these w o object))))) offered
       (λ w r. by_access base Fact (these w) offered r (all w)) h
 
+  -- one more array within an array of arrays, or none
+  nests_one : (to o : ℕ) (outer : Site) (more : List Effect) → Nests p to o outer more → Sound more
+  nests_one to o outer more h = elim h [
+    | inl inner ↦ only (IsSound p at) (nests to o inner.0 inner.1 ∷ []) more inner.4 (object_real p well inner.1 inner.3, tt)
+    | inr none ↦ only (IsSound p at) [] more none.1 tt
+  ]
+
+  -- an element of an array
+  element : (to o : ℕ) (object : HeapObject) (offered : List Effect) → FindsElement p to o object offered → Sound offered
+  element to o object offered h = elim h [
+    | inl found ↦
+        let cell = found.1 in
+        only (IsSound p at) (gets to Null ∷ map (λ cell. gets to cell) (cells object) ++ raises 1 ∷ cell.0) offered cell.2
+        (tt, mapped (IsSound p at) (λ cell. gets to cell) (cells object) (raises 1 ∷ cell.0) (λ cell. tt) (tt, nests_one to o object.site cell.0 cell.1))
+    | inr other ↦ ill_typed (IsSound p at) ill null offered other.1
+  ]
+
   -- the rows of the table
   rows : (c : Code) (offered : List Effect) → CodeAt p at.top.method at.top.index c → Row p at c offered → Sound offered
   rows (code.This to) offered here h = by_value at.top.this (λ v. gets to v ∷ []) offered h (λ v. (tt, tt))
@@ -176,6 +195,7 @@ module _ (p : LinkedProgram) (well : IsWellLinked p) (at : Point) where
   rows (code.Cast to a) offered here h = by_value (operand_of p at.top a) (λ v. gets to v ∷ raises 4 ∷ []) offered h (λ v. (tt, (tt, tt)))
   rows (code.New to class) offered here h = only (IsSound p at) (makes to class ∷ []) offered h (fits (code.New to class) here, tt)
   rows (code.NewArray to) offered here h = only (IsSound p at) (makes to h.0 ∷ raises 3 ∷ []) offered h.2 (object_real p well h.0 h.1, (tt, tt))
+  rows (code.NewMulti to levels) offered here h = only (IsSound p at) (makes to h.0 ∷ raises 3 ∷ []) offered h.2 (object_real p well h.0 h.1, (tt, tt))
   rows (code.Numeric to true) offered here h = only (IsSound p at) (gets to Number ∷ raises 5 ∷ []) offered h (tt, (tt, tt))
   rows (code.Numeric to false) offered here h = only (IsSound p at) (gets to Number ∷ []) offered h (tt, tt)
   rows (code.Length to a) offered here h = by_object (operand_of p at.top a) (λ o. gets to Number ∷ []) offered h (λ o. (tt, tt))
@@ -184,9 +204,8 @@ module _ (p : LinkedProgram) (well : IsWellLinked p) (at : Point) where
   rows (code.Store base field a) offered here h =
       by_store (operand_of p at.top a) (local_of at.top base) (λ object. HasDeclared p object.class field) (λ w o object. writes o field w ∷ []) offered h (λ w o object. (tt, tt))
   rows (code.LoadCell to base) offered here h =
-      by_access (local_of at.top base) (λ object. IsArraySite p object.site)
-      (λ o object. gets to Null ∷ map (λ cell. gets to cell) (cells object) ++ raises 1 ∷ []) offered h
-      (λ o object. (tt, mapped (IsSound p at) (λ cell. gets to cell) (cells object) (raises 1 ∷ []) (λ cell. tt) (tt, tt)))
+      with_value (IsSound p at) ill null (local_of at.top base) (λ v. WithObject v (λ o. AtObject at.heap o (λ object. FindsElement p to o object))) offered
+      (λ v r. with_object (IsSound p at) ill null v (λ o. AtObject at.heap o (λ object. FindsElement p to o object)) offered (λ o s. element to o s.0 offered s.2) r) h
   rows (code.StoreCell base a) offered here h =
       by_store (operand_of p at.top a) (local_of at.top base) (λ object. IsArraySite p object.site) (λ w o object. writes o 0 w ∷ raises 1 ∷ raises 2 ∷ []) offered h
       (λ w o object. (tt, (tt, (tt, tt))))

@@ -1,5 +1,5 @@
 -- Each run enters targets of its calls.
-use Rattle.std.proofs.Common.{◌≡◌, ℕ, List, Option, Some, None, All, length, slice_get, refl, sym, subst, inl, inr, arith}
+use Rattle.std.proofs.Common.{◌≡◌, ℕ, List, [], ◌∷◌, ◌++◌, Option, Some, None, All, length, slice_get, refl, sym, subst, inl, inr, arith}
 use Rattle.class_tree.proofs.LawFacts.{path_one}
 use Rattle.class_tree.specs.Lookups.{OnPath, Resolve, ambiguous, by_default, nowhere, on_path}
 use Rattle.class_tree.specs.Rows.{Sub}
@@ -14,7 +14,7 @@ use Rattle.jim_ast.specs.declared.syntax.Stmt.TheVariants as stmt
 use Rattle.link_rules.specs.declared.code.Arg.{Arg}
 use Rattle.link_rules.specs.declared.code.Code.{Code}
 use Rattle.link_rules.specs.declared.code.Code.TheVariants as code
-use Rattle.jim_ast.proofs.Places.{slice_get-there}
+use Rattle.jim_ast.proofs.Places.{slice_get-append_left, slice_get-there}
 use Rattle.jim_ast.specs.Lists.{Has}
 use Rattle.jim_ast.specs.declared.syntax.Program.{Program}
 use Rattle.link_rules.specs.Conditions.{IsRead}
@@ -30,7 +30,8 @@ use Rattle.link_laws.proofs.Whole.{links_well}
 use Rattle.link_sites.specs.Places.{CodeAt}
 use Rattle.link_sites.specs.declared.site.Site.TheVariants as site
 use Rattle.step_rules.specs.declared.parts.Value.{Value}
-use Rattle.step_rules.specs.Effects.{Effect, is_ill_typed, raises, throws, goes, gets, makes, writes, sets, calls, returns, handles, leaves}
+use Rattle.step_rules.specs.declared.parts.Value.TheVariants.{Object}
+use Rattle.step_rules.specs.Effects.{Effect, is_ill_typed, raises, throws, goes, gets, makes, nests, writes, sets, calls, returns, handles, leaves}
 use Rattle.step_rules.specs.Runs.{Run, begins, steps}
 use Rattle.step_rules.specs.States.{Frame, Point, State, new_object, place_of, written}
 use Rattle.step_rules.specs.Steps.{Becomes, Receives, ReceivesAt}
@@ -65,6 +66,10 @@ module _ (p : LinkedProgram) (well : IsWellLinked p) where
   becomes_real at (goes index) new sound real h = same_heap at new _ h real
   becomes_real at (gets to value) new sound real h = same_heap at new _ h real
   becomes_real at (makes to class) new sound real h = same_heap at new _ h (pushed_real p well at.heap (new_object (site.New (place_of at.top)) class) real sound)
+  becomes_real at (nests to o inner class) new sound real h =
+      same_heap at new _ h.2
+      (replaced_real p well (at.heap ++ new_object inner class ∷ []) o h.0 (written h.0 0 (Object (length at.heap)))
+      (pushed_real p well at.heap (new_object inner class) real sound) (slice_get-append_left at.heap (new_object inner class ∷ []) o h.0 h.1) refl)
   becomes_real at (writes o field value) new sound real h =
       same_heap at new _ h.2 (replaced_real p well at.heap o h.0 (written h.0 field value) real h.1 refl)
   becomes_real at (sets field value) new sound real h = same_heap at new _ h real

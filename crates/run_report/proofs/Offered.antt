@@ -11,7 +11,7 @@ use Rattle.link_sites.specs.Sites.{HasDeclared, IsArraySite}
 use Rattle.step_rules.specs.declared.parts.Value.{Value}
 use Rattle.step_rules.specs.declared.parts.Value.TheVariants.{Null, Number, Object}
 use Rattle.step_rules.specs.Effects.{Effect, is_ill_typed, raises, throws, goes, gets, makes, writes, sets, calls, returns, handles, leaves}
-use Rattle.step_rules.specs.Offers.{AtObject, CallsOn, CallsWith, Enters, EntersBelow, EntersBy, GivesBack, OffersBy, Only, Row, UnwindsAt, Where, WithObject, WithValue, returned}
+use Rattle.step_rules.specs.Offers.{AtObject, CallsOn, CallsWith, Enters, EntersBelow, EntersBy, FindsElement, GivesBack, OffersBy, Only, Row, UnwindsAt, Where, WithObject, WithValue, returned}
 use Rattle.step_rules.specs.Slots.{cells, field_of, local_of, operand_of, operands_of}
 use Rattle.step_rules.specs.States.{HeapObject, Point, State, new_frame}
 use Rattle.step_rules.specs.Steps.{HasChoices}
@@ -87,6 +87,12 @@ module _ (p : LinkedProgram) (at : Point) where
   jumping [] some a h = absurd (some refl)
   jumping (j ∷ js) some a h = these (goes j) (map (λ jump. goes jump) js) a h
 
+  element : (to o : ℕ) (object : HeapObject) (a : List Effect) → FindsElement p to o object a → IsSome a
+  element to o object a h = elim h [
+    | inl found ↦ let cell = found.1 in these (gets to Null) (map (λ cell. gets to cell) (cells object) ++ raises 1 ∷ cell.0) a cell.2
+    | inr not ↦ these is_ill_typed [] a not.1
+  ]
+
   row_some : (m : LinkedMethod) (c : Code) → FitsCode p m c → (a : List Effect) → Row p at c a → IsSome a
   row_some m (code.This to) fit a h = values at.top.this (λ v. gets to v) (λ v. []) a h
   row_some m (code.Param to n) fit a h = values (slice_get at.top.params n) (λ v. gets to v) (λ v. []) a h
@@ -95,6 +101,7 @@ module _ (p : LinkedProgram) (at : Point) where
   row_some m (code.Cast to x) fit a h = values (operand_of p at.top x) (λ v. gets to v) (λ v. raises 4 ∷ []) a h
   row_some m (code.New to class) fit a h = these (makes to class) [] a h
   row_some m (code.NewArray to) fit a h = these (makes to h.0) (raises 3 ∷ []) a h.2
+  row_some m (code.NewMulti to levels) fit a h = these (makes to h.0) (raises 3 ∷ []) a h.2
   row_some m (code.Numeric to true) fit a h = these (gets to Number) (raises 5 ∷ []) a h
   row_some m (code.Numeric to false) fit a h = these (gets to Number) [] a h
   row_some m (code.Length to x) fit a h = objects (operand_of p at.top x) (λ o. gets to Number) a h
@@ -103,8 +110,8 @@ module _ (p : LinkedProgram) (at : Point) where
   row_some m (code.Store base field x) fit a h =
       stores at.heap (operand_of p at.top x) (local_of at.top base) (λ object. HasDeclared p object.class field) (λ w o object. writes o field w) [] a h
   row_some m (code.LoadCell to base) fit a h =
-      accesses at.heap (local_of at.top base) (λ object. IsArraySite p object.site) (λ o object. gets to Null)
-      (λ o object. map (λ cell. gets to cell) (cells object) ++ raises 1 ∷ []) a h
+      by_value (local_of at.top base) (λ v. WithObject v (λ o. AtObject at.heap o (λ object. FindsElement p to o object))) a
+      (λ v x. by_object v (λ o. AtObject at.heap o (λ object. FindsElement p to o object)) a (λ o y. element to o y.0 a y.2) x) h
   row_some m (code.StoreCell base x) fit a h =
       stores at.heap (operand_of p at.top x) (local_of at.top base) (λ object. IsArraySite p object.site) (λ w o object. writes o 0 w) (raises 1 ∷ raises 2 ∷ []) a h
   row_some m (code.LoadStatic to field) fit a h = these (gets to h.0) [] a h.2

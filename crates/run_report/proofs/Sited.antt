@@ -4,7 +4,7 @@ use Rattle.std.specs.List.{slice_set}
 use Rattle.jim_ast.specs.Lists.{Has}
 use Rattle.std.proofs.lemmas.List.FromFn.{get_or-map-range_with_len, length-map-range_with_len}
 use Rattle.std.proofs.lemmas.Option.{get_or_from_slice_get}
-use Rattle.jim_ast.proofs.Places.{slice_get-below, slice_get-pushed}
+use Rattle.jim_ast.proofs.Places.{slice_get-append_left, slice_get-below, slice_get-pushed}
 use Rattle.link_laws.proofs.Lists.{slice_get-appended}
 use Rattle.link_rules.specs.declared.code.Code.{Code}
 use Rattle.link_rules.specs.declared.code.Code.TheVariants as code
@@ -16,7 +16,7 @@ use Rattle.link_sites.specs.Places.{HasCode}
 use Rattle.link_sites.specs.Sites.{IsSite, Makes}
 use Rattle.step_rules.specs.declared.parts.Value.TheVariants.{Null, Number, Object}
 use Rattle.step_rules.specs.declared.parts.Value.{Value}
-use Rattle.step_rules.specs.Effects.{Effect, is_ill_typed, raises, throws, goes, gets, makes, writes, sets, calls, returns, handles, leaves}
+use Rattle.step_rules.specs.Effects.{Effect, is_ill_typed, raises, throws, goes, gets, makes, nests, writes, sets, calls, returns, handles, leaves}
 use Rattle.step_rules.specs.Offers.{Offers, OffersBy, UnwindsAt}
 use Rattle.step_rules.specs.Runs.{IsFirstState, Run, begins, constants, steps}
 use Rattle.step_rules.specs.States.{HeapObject, Point, State, new_object, place_of, under, written}
@@ -29,13 +29,15 @@ use Rattle.run_report.proofs.Allowed.{IsAllowed, row_allowed}
 abbrev IsSitedEffect : LinkedProgram → Point → Effect → Type 0
 IsSitedEffect p at (raises kind) = IsSite p (site.Raised (place_of at.top) kind)
 IsSitedEffect p at (makes to class) = IsSite p (site.New (place_of at.top))
+IsSitedEffect p at (nests to o inner class) = IsSite p inner
 IsSitedEffect p at _ = Unit {0}
 
 module _ (p : LinkedProgram) (at : Point) where
   -- what a statement may do
-  by_code : at.top.raised ≡ false → (c : Code) → HasCode p at.top.method at.top.index (λ code. code ≡ c) → (e : Effect) → IsAllowed c e → IsSitedEffect p at e
+  by_code : at.top.raised ≡ false → (c : Code) → HasCode p at.top.method at.top.index (λ code. code ≡ c) → (e : Effect) → IsAllowed p c e → IsSitedEffect p at e
   by_code unraised c here (raises kind) may = (unraised, record { code = here.code; at = here.at; is_so = subst (λ c. MayRaise c kind) (sym here.is_so) may })
   by_code unraised c here (makes to class) may = (unraised, record { code = here.code; at = here.at; is_so = subst (λ c. Makes c) (sym here.is_so) may })
+  by_code unraised c here (nests to o inner class) may = may
   by_code unraised c here is_ill_typed may = tt
   by_code unraised c here (throws o) may = tt
   by_code unraised c here (goes index) may = tt
@@ -59,7 +61,7 @@ module _ (p : LinkedProgram) (at : Point) where
 
   by_flight : (raised : Bool) → at.top.raised ≡ raised → (offered : List Effect) → OffersBy raised p at offered → (e : Effect) → Has offered e → IsSitedEffect p at e
   by_flight false unraised offered h e has =
-      by_code unraised h.code (record { code = h.code; at = h.at; is_so = refl }) e (one_of (IsAllowed h.code) offered e (row_allowed p at h.code offered h.is_so) has)
+      by_code unraised h.code (record { code = h.code; at = h.at; is_so = refl }) e (one_of (IsAllowed p h.code) offered e (row_allowed p at h.code offered h.is_so) has)
   by_flight true raised offered h e has = one_of (IsSitedEffect p at) offered e (unwinding at.top.thrown offered h) has
 
   -- what a step may do
@@ -118,6 +120,10 @@ module _ (p : LinkedProgram) (at : Point) where
   becomes_sited (goes index) new h is before = kept new at.heap (heap_of new _ h) before
   becomes_sited (gets to v) new h is before = kept new at.heap (heap_of new _ h) before
   becomes_sited (makes to class) new h is before = kept new _ (heap_of new _ h) (sited_more (new_object (site.New (place_of at.top)) class) is before)
+  becomes_sited (nests to o inner class) new h is before =
+      kept new _ (heap_of new _ h.2)
+      (sited_written (at.heap ++ new_object inner class ∷ []) o h.0 (written h.0 0 (Object (length at.heap)))
+      (slice_get-append_left at.heap (new_object inner class ∷ []) o h.0 h.1) refl (sited_more (new_object inner class) is before))
   becomes_sited (writes o field v) new h is before =
       kept new _ (heap_of new _ h.2) (sited_written at.heap o h.0 (written h.0 field v) h.1 refl before)
   becomes_sited (sets field v) new h is before = kept new at.heap (heap_of new _ h) before

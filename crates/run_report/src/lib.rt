@@ -7,8 +7,6 @@ mod locals;
 mod named;
 mod objects;
 mod report;
-#[cfg(test)]
-mod tests;
 
 pub use laws::named_runs_are_one;
 pub use report::run_text;

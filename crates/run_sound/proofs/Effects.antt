@@ -4,6 +4,7 @@ use Rattle.std.specs.List.{slice_set}
 use Rattle.jim_ast.proofs.Places.{slice_get-push}
 use Rattle.link_rules.specs.declared.code.Code.{Code}
 use Rattle.link_rules.specs.declared.code.Code.TheVariants as code
+use Rattle.link_rules.specs.Classes.{object_name}
 use Rattle.link_rules.specs.Flow.{MayRaise, Next}
 use Rattle.link_rules.specs.Linked.{LinkedMethod, LinkedProgram}
 use Rattle.link_rules.specs.WellLinked.{HasTarget}
@@ -12,19 +13,20 @@ use Rattle.link_sites.specs.declared.place.Place.{Place}
 use Rattle.link_sites.specs.declared.site.Site.{Site}
 use Rattle.link_sites.specs.declared.site.Site.TheVariants as site
 use Rattle.link_sites.specs.Places.{before, in_flight}
-use Rattle.link_sites.specs.Sites.{HasField, IsClassOfMade, IsClassOfRaised, IsSiteClass, Makes}
+use Rattle.link_sites.specs.Sites.{HasField, IsArraySite, IsClassOfMade, IsClassOfRaised, IsInnerSite, IsNamedClass, IsSiteClass, Makes}
 use Rattle.spds_rules.specs.declared.edge.EdgeKind.TheVariants.{Flow}
 use Rattle.spds_rules.specs.declared.node.Node.{Node}
 use Rattle.spds_rules.specs.declared.node.Var.{Var}
 use Rattle.spds_rules.specs.declared.node.Var.TheVariants.{Local, Made, Raised, Thrown}
 use Rattle.spds_rules.specs.Demand.{Asked, Demand}
-use Rattle.spds_rules.specs.Edges.{Assigns, AssignsTo, IsEdge, Returns}
+use Rattle.spds_rules.specs.Edges.{Assigns, AssignsTo, IsEdge, LoadsInto, Returns}
 use Rattle.spds_rules.specs.Nodes.{HasVar, at}
 use Rattle.spds_rules.specs.Systems.{IsString}
 use Rattle.step_rules.specs.declared.parts.Value.{Value}
 use Rattle.step_rules.specs.declared.parts.Value.TheVariants.{Object}
 use Rattle.step_rules.specs.Effects.{Effect}
 use Rattle.step_rules.specs.Effects as effect
+use Rattle.step_rules.specs.Slots.{local_of}
 use Rattle.step_rules.specs.States.{Ending, Frame, HeapObject, Point, allocates, enters, goes_on, new_object, state_of, stopped, written}
 use Rattle.step_rules.specs.Steps.{made, raised, with_object, with_static}
 use Rattle.run_sound.specs.Simulated.{IsLoadedFrom}
@@ -62,6 +64,19 @@ module _ (p : LinkedProgram) (q : Asked) (point : Point) (m : LinkedMethod) (c :
     pub makes : Makes c
     pub class_made : IsClassOfMade p c class
 
+  -- a new array of an inner level may be an element of the array, from which the local gets it
+  pub record CanNest (to o : ℕ) (inner : Site) (class : ℕ) : Type 0 where
+    pub base : ℕ
+    pub loads : LoadsInto c (Local base) 0 (Local to)
+    pub next : Next c point.top.index (point.top.index + 1)
+    pub only : AssignsTo c to
+    pub is_local : to < length m.locals
+    pub is_base : base < length m.locals
+    pub holds : local_of (standing point.top) base ≡ Some (Object o)
+    pub is_array : (outer : HeapObject) → slice_get point.heap o ≡ Some outer → IsArraySite p outer.site
+    pub is_inner : (outer : HeapObject) → slice_get point.heap o ≡ Some outer → IsInnerSite p outer.site inner
+    pub class_named : IsNamedClass p object_name class
+
   -- the value may be written into the field of the object
   pub record CanWrite (o field : ℕ) (value : Value) : Type 0 where
     pub next : Next c point.top.index (point.top.index + 1)
@@ -97,6 +112,7 @@ module _ (p : LinkedProgram) (q : Asked) (point : Point) (m : LinkedMethod) (c :
   IsJustified (effect.goes index) = Next c point.top.index index × AssignsNone c
   IsJustified (effect.gets to value) = CanGet to value
   IsJustified (effect.makes to class) = CanMake to class
+  IsJustified (effect.nests to o inner class) = CanNest to o inner class
   IsJustified (effect.writes o field value) = CanWrite o field value
   IsJustified (effect.sets field value) = CanSet field value
   IsJustified (effect.calls frame) = HasTarget p point.top.method point.top.index frame.method
@@ -118,13 +134,13 @@ may_raise (code.Call to mode class key receiver args targets) kind h = tt
 may_raise c kind h = (kind, h)
 
 -- the new object's site
-last_site : (heap : List HeapObject) (object : HeapObject) → slice_get (sites_of (heap ++ object ∷ [])) (length heap) ≡ Some object.site
+pub last_site : (heap : List HeapObject) (object : HeapObject) → slice_get (sites_of (heap ++ object ∷ [])) (length heap) ≡ Some object.site
 last_site heap object = site_there (heap ++ object ∷ []) (length heap) object (slice_get-push heap object)
 
 module _ (p : LinkedProgram) (q : Asked) (point : Point) (m : LinkedMethod) (string : List Place) (st : IsStanding p q point m string) (c : Code)
     (here : StandsBefore point m c) where
   -- with a new object, of a site of the statement
-  with_new : (site : Site) (class : ℕ) → IsSiteClass p site class → IsStanding p q (allocates (new_object site class) point) m string
+  pub with_new : (site : Site) (class : ℕ) → IsSiteClass p site class → IsStanding p q (allocates (new_object site class) point) m string
   with_new site class is_class =
       over_memory p q point m string st (point.heap ++ new_object site class ∷ []) point.statics (extends_more point.heap (new_object site class))
       (memory_allocated p q point.heap point.statics st.memory site class is_class)

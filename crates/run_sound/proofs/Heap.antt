@@ -5,10 +5,11 @@ use Rattle.link_rules.specs.declared.code.Code.{Code}
 use Rattle.link_rules.specs.declared.code.Code.TheVariants.{Load, Store, LoadCell, StoreCell}
 use Rattle.link_rules.specs.Flow.{Next}
 use Rattle.link_rules.specs.Linked.{LinkedMethod, LinkedProgram}
+use Rattle.link_rules.specs.WellLinked.{FitsCode}
 use Rattle.link_sites.specs.declared.place.Place.{Place}
 use Rattle.link_sites.specs.Places.{before}
-use Rattle.link_sites.specs.Sites.{HasDeclared, HasField, IsArraySite}
-use Rattle.run_covers.proofs.Offered.{AllOf}
+use Rattle.link_sites.specs.Sites.{HasDeclared, HasField, IsArraySite, IsInnerSite}
+use Rattle.run_covers.proofs.Offered.{AllOf, only}
 use Rattle.spds_laws.proofs.Compose.{strings_within, words_composed}
 use Rattle.spds_rules.specs.declared.edge.EdgeKind.TheVariants as edge_kind
 use Rattle.spds_rules.specs.declared.node.Node.{Node}
@@ -22,15 +23,15 @@ use Rattle.spds_rules.specs.Systems.{Calls, Fields, InCalls, InFields}
 use Rattle.step_rules.specs.declared.parts.Slot.TheVariants as slot
 use Rattle.step_rules.specs.declared.parts.Value.{Value}
 use Rattle.step_rules.specs.declared.parts.Value.TheVariants.{Null, Object}
-use Rattle.step_rules.specs.Effects.{Effect, gets, raises, writes}
-use Rattle.step_rules.specs.Offers.{Row}
+use Rattle.step_rules.specs.Effects.{Effect, gets, nests, raises, writes}
+use Rattle.step_rules.specs.Offers.{FindsElement, Nests, Row}
 use Rattle.step_rules.specs.Slots.{cells, field_of, local_of, operand_of}
 use Rattle.step_rules.specs.States.{HeapObject, Point}
 use Rattle.run_sound.proofs.Effects.{CanWrite, Comes, IsJustified}
 use Rattle.run_sound.proofs.Invariant.{IsReached, IsStored, sites_of}
 use Rattle.run_sound.proofs.Moves.{AssignsNone}
 use Rattle.run_sound.proofs.Nodes.{node_at, node_next}
-use Rattle.run_sound.proofs.Offered.{by_access, each_mapped, of_value}
+use Rattle.run_sound.proofs.Offered.{by_access, each_mapped, not_typed, of_object, of_value}
 use Rattle.run_sound.proofs.Operands.{IsSource, fits_here, source_of}
 use Rattle.run_sound.proofs.Standing.{IsStanding, StandsBefore, place_at, standing, unraised}
 use Rattle.run_sound.proofs.Words.{IsMet, WasWritten, field_written, met, site_there, values_written}
@@ -59,7 +60,7 @@ module _ (p : LinkedProgram) (q : Asked) (point : Point) (m : LinkedMethod) (str
   -- ---- loads
 
   -- what was written into a field of the base comes to the local that it is loaded into
-  loaded : (c : Code) (here : StandsBefore point m c) (to base field o x : ℕ) (object : HeapObject) → LoadsInto c (Local base) field (Local to)
+  pub loaded : (c : Code) (here : StandsBefore point m c) (to base field o x : ℕ) (object : HeapObject) → LoadsInto c (Local base) field (Local to)
       → Next c point.top.index (point.top.index + 1) → to < length m.locals → base < length m.locals
       → local_of (standing point.top) base ≡ Some (Object o) → slice_get point.heap o ≡ Some object → WasWritten object field (Object x)
       → Comes p q point m c string (at (before point.top.method (point.top.index + 1)) (Local to)) x
@@ -125,19 +126,54 @@ module _ (p : LinkedProgram) (q : Asked) (point : Point) (m : LinkedMethod) (str
   pub load_cell_row : (to base : ℕ) → StandsBefore point m (LoadCell to base) → (offered : List Effect) → Row p (unraised point) (LoadCell to base) offered
       → AllOf (IsJustified p q point m (LoadCell to base) string) offered
   load_cell_row to base here offered h =
-      let fits = fits_here p q point m string st (LoadCell to base) here in
-      by_access (IsJustified p q point m (LoadCell to base) string) tt (omega arith) point.heap (local_of (standing point.top) base)
-      (λ object. IsArraySite p object.site) (λ o object. gets to Null ∷ map (λ cell. gets to cell) (cells object) ++ raises 1 ∷ []) offered h
-      (λ o object e there has. (
-        record { next = refl; only = refl; is_local = fits.0; comes = λ x is. cc },
-        each_mapped (IsJustified p q point m (LoadCell to base) string) (λ cell. gets to cell) (cells object) (raises 1 ∷ []) (λ cell has_cell. record {
-          next = refl;
-          only = refl;
-          is_local = fits.0;
-          comes = λ x is. loaded (LoadCell to base) here to base 0 o x object (refl, refl, refl) refl fits.0 fits.1 e there
-              (values_written object 0 (Object x) (has_cell.0, has_cell.1 ∙ ap Some is));
-        }) (omega arith, tt),
-      ))
+      of_value J tt (local_of (standing point.top) base) _ offered
+      (λ v held r. of_object J tt (omega arith) v _ offered (λ o is at. found o (held ∙ ap Some is) at.0 at.1 at.2) r) h
+    where
+      J : Effect → Type 0
+      J = IsJustified p q point m (LoadCell to base) string
+
+      fits : FitsCode p m (LoadCell to base)
+      fits = fits_here p q point m string st (LoadCell to base) here
+
+      -- an array of an inner level
+      nested : (o : ℕ) → local_of (standing point.top) base ≡ Some (Object o) → (object : HeapObject) → slice_get point.heap o ≡ Some object
+          → IsArraySite p object.site → (more : List Effect) → Nests p to o object.site more → AllOf J more
+      nested o held object there is_array more n = elim n [
+        | inl one ↦ only J (nests to o one.0 one.1 ∷ []) more one.4 (
+          record {
+            base = base;
+            loads = (refl, refl, refl);
+            next = refl;
+            only = refl;
+            is_local = fits.0;
+            is_base = fits.1;
+            holds = held;
+            is_array = λ other same. let is : object ≡ other = cc in subst (λ (h : HeapObject). IsArraySite p h.site) is is_array;
+            is_inner = λ other same. let is : object ≡ other = cc in subst (λ (h : HeapObject). IsInnerSite p h.site one.0) is one.2;
+            class_named = one.3;
+          },
+          tt,
+        )
+        | inr none ↦ only J [] more none.1 tt
+      ]
+
+      found : (o : ℕ) → local_of (standing point.top) base ≡ Some (Object o) → (object : HeapObject) → slice_get point.heap o ≡ Some object
+          → FindsElement p to o object offered → AllOf J offered
+      found o held object there finds = elim finds [
+        | inl a ↦
+            let cell = a.1 in
+            only J (gets to Null ∷ map (λ cell. gets to cell) (cells object) ++ raises 1 ∷ cell.0) offered cell.2 (
+              record { next = refl; only = refl; is_local = fits.0; comes = λ x is. cc },
+              each_mapped J (λ cell. gets to cell) (cells object) (raises 1 ∷ cell.0) (λ value has_cell. record {
+                next = refl;
+                only = refl;
+                is_local = fits.0;
+                comes = λ x is. loaded (LoadCell to base) here to base 0 o x object (refl, refl, refl) refl fits.0 fits.1 held there
+                    (values_written object 0 (Object x) (has_cell.0, has_cell.1 ∙ ap Some is));
+              }) (omega arith, nested o held object there a.0 cell.0 cell.1),
+            )
+        | inr b ↦ not_typed J tt offered b.1
+      ]
 
   -- ---- stores
 

@@ -2,7 +2,7 @@
 use Rattle.std.proofs.Common.{ℕ, ◌+◌, List, [], ◌∷◌, slice_get, refl}
 use Rattle.link_rules.specs.declared.code.Arg.{Arg}
 use Rattle.link_rules.specs.declared.code.Code.{Code}
-use Rattle.link_rules.specs.declared.code.Code.TheVariants.{This, Param, Caught, Copy, Cast, New, NewArray}
+use Rattle.link_rules.specs.declared.code.Code.TheVariants.{This, Param, Caught, Copy, Cast, New, NewArray, NewMulti}
 use Rattle.link_rules.specs.Linked.{LinkedMethod, LinkedProgram}
 use Rattle.link_sites.specs.declared.place.Place.{Place}
 use Rattle.run_covers.proofs.Offered.{AllOf, only}
@@ -126,6 +126,22 @@ module _ (p : LinkedProgram) (q : Asked) (point : Point) (m : LinkedMethod) (str
           next = refl;
           only = refl;
           is_local = fits;
+          assigns = (refl, refl);
+          makes = tt;
+          class_made = h.1;
+        },
+        (refl, tt),
+      )
+
+  -- an array of arrays is made
+  pub nested_row : (to levels : ℕ) → StandsBefore point m (NewMulti to levels) → Row p (unraised point) (NewMulti to levels) offered → Fine (NewMulti to levels)
+  nested_row to levels here h =
+      let fits = fits_here p q point m string st (NewMulti to levels) here in
+      only (IsJustified p q point m (NewMulti to levels) string) (makes to h.0 ∷ raises 3 ∷ []) offered h.2 (
+        record {
+          next = refl;
+          only = refl;
+          is_local = fits.0;
           assigns = (refl, refl);
           makes = tt;
           class_made = h.1;

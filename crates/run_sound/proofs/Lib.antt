@@ -18,6 +18,7 @@ pub mod Operands
 pub mod Identities
 pub mod Numbers
 pub mod Heap
+pub mod Nesting
 pub mod Statics
 pub mod Leaving
 pub mod Calling

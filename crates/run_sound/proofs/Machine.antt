@@ -17,7 +17,7 @@ use Rattle.step_rules.specs.Steps.{Becomes, Step}
 use Rattle.run_sound.proofs.Calling.{call_row}
 use Rattle.run_sound.proofs.Effects.{IsJustified}
 use Rattle.run_sound.proofs.Heap.{load_cell_row, load_row, store_cell_row, store_row}
-use Rattle.run_sound.proofs.Identities.{array_row, cast_row, caught_row, copy_row, new_row, param_row, this_row}
+use Rattle.run_sound.proofs.Identities.{array_row, cast_row, caught_row, copy_row, nested_row, new_row, param_row, this_row}
 use Rattle.run_sound.proofs.Invariant.{AreFrames, IsKept, IsKeptAt, sites_of}
 use Rattle.run_sound.proofs.Leaving.{return_row, throw_row}
 use Rattle.run_sound.proofs.Lists.{not_empty, same_parts}
@@ -39,6 +39,7 @@ module _ (p : LinkedProgram) (q : Asked) (well : IsWellLinked p) where
   rows point m string st (code.Cast to a) here offered h = cast_row p q point m string st offered to a here h
   rows point m string st (code.New to class) here offered h = new_row p q point m string st offered to class here h
   rows point m string st (code.NewArray to) here offered h = array_row p q point m string st offered to here h
+  rows point m string st (code.NewMulti to levels) here offered h = nested_row p q point m string st offered to levels here h
   rows point m string st (code.Numeric to divides) here offered h = numeric_row p q point m string st offered to divides here h
   rows point m string st (code.Length to a) here offered h = length_row p q point m string st offered to a here h
   rows point m string st (code.Load to base field) here offered h = load_row p q point m string st to base field here offered h

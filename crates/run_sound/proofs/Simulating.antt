@@ -107,6 +107,7 @@ constant_site : (p : LinkedProgram) (sites : List Site) → HasConstants p sites
 constant_site p sites has (site.Text i) x is = subst (λ x. slice_get sites x ≡ Some (site.Text i)) (sym is.0) (has.texts i is.1)
 constant_site p sites has (site.Class i) x is = subst (λ x. slice_get sites x ≡ Some (site.Class i)) (sym is.0) (has.classes i is.1)
 constant_site p sites has (site.New place) x is = elim is [ ]
+constant_site p sites has (site.Nested place level) x is = elim is [ ]
 constant_site p sites has (site.Raised place kind) x is = elim is [ ]
 
 -- the same of constants

@@ -11,6 +11,7 @@ use Rattle.step_rules.specs.States.{Frame, Point, State, ill_typed}
 use Rattle.step_rules.specs.Steps.{Becomes}
 use Rattle.run_sound.proofs.Effects.{IsJustified, kept_calls, kept_makes, kept_raises, kept_sets, kept_stopped, kept_writes}
 use Rattle.run_sound.proofs.Invariant.{IsKept}
+use Rattle.run_sound.proofs.Nesting.{kept_nests}
 use Rattle.run_sound.proofs.Moves.{kept_gets, kept_goes, kept_throws}
 use Rattle.run_sound.proofs.Returning.{kept_returns}
 use Rattle.run_sound.proofs.Standing.{IsStanding, StandsBefore, unraised}
@@ -28,6 +29,8 @@ module _ (p : LinkedProgram) (q : Asked) (well : IsWellLinked p) (point : Point)
   kept_effect (effect.gets to value) j target new b =
       subst (IsKept p q) (sym b) (kept_gets p q point m string st c here to value j.next j.only j.is_local j.comes)
   kept_effect (effect.makes to class) j target new b = subst (IsKept p q) (sym b) (kept_makes p q point m string st c here to class j)
+  kept_effect (effect.nests to o inner class) j target new b =
+      subst (IsKept p q) (sym b.2) (kept_nests p q well point m string st c here to o inner class j b.0 b.1)
   kept_effect (effect.writes o field value) j target new b =
       subst (IsKept p q) (sym b.2) (kept_writes p q point m string st c here o field value j b.0 b.1)
   kept_effect (effect.sets field value) j target new b = subst (IsKept p q) (sym b) (kept_sets p q point m string st c here field value j)

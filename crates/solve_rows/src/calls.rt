@@ -1,4 +1,6 @@
 //! Calls by number, and the call strings of methods as base steps.
+ghost use Rattle.call_side.specs.Calls.{AreTheCalls};
+
 use super::programs::TWO_CALLS;
 use call_side::{Calls, bases};
 use jim_ast::NoMemory;
@@ -40,10 +42,19 @@ fn are_strings(steps: &[BaseStep], root: u32) -> bool {
             .any(|step| step.base == 1 && step.below == root)
 }
 
+// Whether the base steps of the calls are those strings.
+fn lead_home(alloc: Global, linked: &Linked, calls: &Calls) -> Result<bool, NoMemory>
+    requires { AreTheCalls linked.now calls.now }
+{
+    let steps = bases(alloc, linked, calls)?;
+    Ok(are_strings(&steps, linked.root()))
+}
+
 fn is_right(alloc: Global, linked: &Linked) -> Result<bool, NoMemory> {
-    let calls = Calls::new(alloc, linked)?;
-    let steps = bases(alloc, linked, &calls)?;
-    Ok(are_numbered(&calls) && are_strings(&steps, linked.root()))
+    match Calls::new(alloc, linked) {
+        Ok(calls) => Ok(are_numbered(&calls) && lead_home(alloc, linked, &calls)?),
+        Err(error) => Err(error),
+    }
 }
 
 fn is_right_of(alloc: Global, text: &str) -> Result<bool, NoMemory> {

@@ -1,15 +1,28 @@
 -- Numbered edges, and edges between cells.
 use Rattle.std.proofs.Common.{◌≡◌, ℕ, List, length, slice_get, Some, sym, ◌∙◌, subst}
+use Rattle.jim_ast.specs.Lists.{IsApart}
 use Rattle.jim_ast.proofs.Places.{slice_get-below}
 use Rattle.link_laws.proofs.Lists.{each_left, each_right}
 use Rattle.link_rules.specs.Lists.{Each}
 use Rattle.spds_rules.specs.declared.edge.Edge.{Edge}
 use Rattle.spds_rules.specs.declared.node.Node.{Node}
-use Rattle.spds_cells.specs.declared.numbered.EdgeAt.{EdgeAt}
+use Rattle.demand_walk.specs.declared.numbered.EdgeAt.{EdgeAt}
+use Rattle.demand_walk.specs.Numbers.{AreEdgesAt}
 use Rattle.spds_cells.specs.Between.{IsJoined, IsNumbered}
 use Rattle.spds_cells.specs.Edges.{IsBetween}
 use Rattle.spds_cells.specs.Entered.{AreWithin}
 use Rattle.spds_cells.specs.Gathered.{AreGathered}
+
+-- where no node stands twice, no end has another number
+pub numbered_apart : (nodes : List Node) (all : List Edge) (edges : List EdgeAt) → IsApart nodes → AreEdgesAt nodes all edges → Each (IsNumbered nodes) all edges
+numbered_apart nodes all edges apart are = record {
+  as_many = are.as_many;
+  each = λ i x e p q. let at = are.each i x e p q in record {
+    from_is = record { there = at.from_is; only = λ other is. apart other e.from x.from is at.from_is };
+    to_is = record { there = at.to_is; only = λ other is. apart other e.to x.to is at.to_is };
+    kind_is = at.kind_is;
+  };
+}
 
 module _ (nodes : List Node) (all : List Edge) (edges : List EdgeAt) (each : Each (IsNumbered nodes) all edges) where
   -- the ends of numbered edges are numbers of nodes

@@ -13,7 +13,7 @@ use Rattle.spds_rules.specs.declared.node.Node.{Node}
 use Rattle.spds_rules.specs.Demand.{Asked, EdgeIn}
 use Rattle.spds_cells.specs.declared.cells.Entered.{Entered}
 use Rattle.spds_cells.specs.declared.cells.Entered.TheVariants.{Once}
-use Rattle.spds_cells.specs.declared.numbered.EdgeAt.{EdgeAt}
+use Rattle.demand_walk.specs.declared.numbered.EdgeAt.{EdgeAt}
 use Rattle.spds_cells.specs.Between.{IsNumbered}
 use Rattle.spds_cells.specs.Cells.{AreCells, IsCarried, IsCarriedFrom}
 use Rattle.spds_cells.specs.Entered.{AreEntered, AreLed, IsLed}

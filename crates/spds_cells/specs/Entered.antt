@@ -8,7 +8,7 @@ use Rattle.spds_rules.specs.declared.node.Node.{Node}
 use Rattle.spds_rules.specs.Nodes.{site_of}
 use Rattle.spds_cells.specs.declared.cells.Entered.{Entered}
 use Rattle.spds_cells.specs.declared.cells.Entered.TheVariants.{Never, Once, Otherwise}
-use Rattle.spds_cells.specs.declared.numbered.EdgeAt.{EdgeAt}
+use Rattle.demand_walk.specs.declared.numbered.EdgeAt.{EdgeAt}
 
 -- the ends of the edges are among so many
 abbrev pub AreWithin : ℕ → List EdgeAt → Type 0

@@ -4,7 +4,7 @@ ghost use Rattle.spds_cells.specs.declared.cells.Entered.{Entered as AnyEntered}
 ghost use Rattle.spds_cells.specs.Entered.{AreEntered, AreLed, AreWithin, ComeFrom, entered_first, entered_more};
 ghost use Rattle.spds_rules.specs.Nodes.{site_of};
 
-use super::numbered::EdgeAt;
+use demand_walk::EdgeAt;
 use jim_ast::NoMemory;
 use spds_nodes::site_of;
 use spds_rules::{EdgeKind, Node};

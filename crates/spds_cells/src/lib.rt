@@ -5,7 +5,5 @@
 
 mod cells;
 mod contraction;
-mod numbered;
 
 pub use contraction::{Contracted, contract};
-pub use numbered::EdgeAt;

@@ -9,7 +9,7 @@ use Rattle.link_rules.specs.Flow.{MayRaise}
 use Rattle.spds_rules.specs.declared.edge.EdgeKind.{EdgeKind}
 use Rattle.spds_rules.specs.declared.edge.EdgeKind.TheVariants.{Flow, Load, Call, Return, Jump}
 use Rattle.spds_rules.specs.declared.node.Var.{Var}
-use Rattle.spds_rules.specs.declared.node.Var.TheVariants.{Local, This, Param, Caught, Thrown, Made, Raised, Text, Class}
+use Rattle.spds_rules.specs.declared.node.Var.TheVariants.{Local, This, Param, Caught, Thrown, Made, Nested, Raised, Text, Class}
 use Rattle.spds_rules.specs.Edges.{Assigns, AssignsTo, IsThrownBy, LoadsInto}
 use Rattle.spds_rules.specs.Nodes.{arg_var}
 use Rattle.spds_nodes.specs.Codes.{Brings, IsKindIn, Throws}
@@ -27,6 +27,7 @@ Assigns-local (code.Copy to a) v x h = local_to to x h.1
 Assigns-local (code.Cast to a) v x h = local_to to x h.1
 Assigns-local (code.New to class) v x h = local_to to x h.1
 Assigns-local (code.NewArray to) v x h = local_to to x h.1
+Assigns-local (code.NewMulti to levels) v x h = local_to to x h.1
 Assigns-local _ v x h = absurd h
 
 -- what is loaded is, too
@@ -71,6 +72,7 @@ thrown_by (code.Throw a) from to kinds (Param x) = no_kind _
 thrown_by (code.Throw a) from to kinds Caught = no_kind _
 thrown_by (code.Throw a) from to kinds Thrown = no_kind _
 thrown_by (code.Throw a) from to kinds Made = no_kind _
+thrown_by (code.Throw a) from to kinds (Nested x) = no_kind _
 thrown_by (code.Throw a) from to kinds (Text x) = no_kind _
 thrown_by (code.Throw a) from to kinds (Class x) = no_kind _
 thrown_by _ from to kinds (Local x) = no_kind _
@@ -79,6 +81,7 @@ thrown_by _ from to kinds (Param x) = no_kind _
 thrown_by _ from to kinds Caught = no_kind _
 thrown_by _ from to kinds Thrown = no_kind _
 thrown_by _ from to kinds Made = no_kind _
+thrown_by _ from to kinds (Nested x) = no_kind _
 thrown_by _ from to kinds (Text x) = no_kind _
 thrown_by _ from to kinds (Class x) = no_kind _
 
@@ -97,6 +100,7 @@ IsKindIn-more from kind below (Param x) = ((λ either. elim either [ inl is ↦ 
 IsKindIn-more from kind below Caught = ((λ either. elim either [ inl is ↦ is | inr same ↦ absurd (cc (same)) ]), (λ is. absurd is))
 IsKindIn-more from kind below Thrown = ((λ either. elim either [ inl is ↦ is | inr same ↦ absurd (cc (same)) ]), (λ is. absurd is))
 IsKindIn-more from kind below Made = ((λ either. elim either [ inl is ↦ is | inr same ↦ absurd (cc (same)) ]), (λ is. absurd is))
+IsKindIn-more from kind below (Nested x) = ((λ either. elim either [ inl is ↦ is | inr same ↦ absurd (cc (same)) ]), (λ is. absurd is))
 IsKindIn-more from kind below (Text x) = ((λ either. elim either [ inl is ↦ is | inr same ↦ absurd (cc (same)) ]), (λ is. absurd is))
 IsKindIn-more from kind below (Class x) = ((λ either. elim either [ inl is ↦ is | inr same ↦ absurd (cc (same)) ]), (λ is. absurd is))
 

@@ -12,7 +12,7 @@ use Rattle.spds_nodes.specs.Added.{IsAdded, Over}
 
 module _ {X : Type 0} where
   -- the elements of two lists, one behind the other
-  slice_get-appended : (xs ys : List X) (i : ℕ) (x : X) → slice_get (xs ++ ys) i ≡ Some x → (slice_get xs i ≡ Some x) ⊎ ((j : ℕ) × (i ≡ length xs + j) × (slice_get ys j ≡ Some x))
+  pub slice_get-appended : (xs ys : List X) (i : ℕ) (x : X) → slice_get (xs ++ ys) i ≡ Some x → (slice_get xs i ≡ Some x) ⊎ ((j : ℕ) × (i ≡ length xs + j) × (slice_get ys j ≡ Some x))
   slice_get-appended [] ys i x there = inr (i, omega arith, there)
   slice_get-appended (y ∷ xs) ys zero x there = inl there
   slice_get-appended (y ∷ xs) ys (suc i) x there = elim (slice_get-appended xs ys i x there) [ inl a ↦ inl a | inr b ↦ inr (b.0, omega (arith, b.1), b.2) ]

@@ -43,11 +43,13 @@ FitsCode-at p number index c form at = All-at (FitsCode p at.method) at.method.c
 IsClassOfMade-below : (p : LinkedProgram) (number index : ℕ) (c : Code) (class : ℕ) → IsInForm p → CodeAt p number index c → IsClassOfMade p c class → class < length p.classes
 IsClassOfMade-below p number index (code.New to made) class form at is = let fits = FitsCode-at p number index (code.New to made) form at in omega (arith, fits.1, is)
 IsClassOfMade-below p number index (code.NewArray to) class form at is = IsNamedClass-below p _ class is
+IsClassOfMade-below p number index (code.NewMulti to levels) class form at is = IsNamedClass-below p _ class is
 IsClassOfMade-below p number index _ class form at is = absurd is
 
 -- the class of a site is there
 pub IsSiteClass-below : (p : LinkedProgram) (s : Site) (class : ℕ) → IsInForm p → IsSiteClass p s class → class < length p.classes
 IsSiteClass-below p (site.New place) class form is = IsClassOfMade-below p place.method place.index is.1.code class form is.1.at is.1.is_so
+IsSiteClass-below p (site.Nested place level) class form is = IsNamedClass-below p _ class is.1
 IsSiteClass-below p (site.Raised place kind) class form is = IsNamedClass-below p is.1.0 class is.1.2
 IsSiteClass-below p (site.Text number) class form is = IsNamedClass-below p _ class is.1
 IsSiteClass-below p (site.Class number) class form is = IsNamedClass-below p _ class is.1

@@ -15,7 +15,7 @@ use Rattle.link_program.specs.Accessed.{codes_in}
 use Rattle.link_program.proofs.Found.{at_map, from_map}
 use Rattle.link_sites.specs.Places.{CodeAt, HasCode}
 use Rattle.spds_rules.specs.declared.node.Var.{Var}
-use Rattle.spds_rules.specs.declared.node.Var.TheVariants.{Local, This, Param, Caught, Thrown, Made, Raised, Text, Class}
+use Rattle.spds_rules.specs.declared.node.Var.TheVariants.{Local, This, Param, Caught, Thrown, Made, Nested, Raised, Text, Class}
 use Rattle.spds_rules.specs.Edges.{Assigns, IsCaughtAs, IsOfFrame, IsThrownBy, Leaves, LoadsInto, LoadsStatic, Passes, Returns, StoresStatic}
 use Rattle.spds_rules.specs.Nodes.{HasVar, arg_var, handed}
 use Rattle.spds_nodes.specs.Codes.{PassesAs, TakesFrom}
@@ -69,6 +69,7 @@ module _ (p : LinkedProgram) (m : LinkedMethod) where
   assigned_has (code.Cast to a) v w fits h = arg_has (code.Cast to a) a v (0, refl) fits.1 h.0
   assigned_has (code.New to class) v w fits h = subst (HasVar m (code.New to class) false) (sym h.0) tt
   assigned_has (code.NewArray to) v w fits h = subst (HasVar m (code.NewArray to) false) (sym h.0) tt
+  assigned_has (code.NewMulti to levels) v w fits h = subst (HasVar m (code.NewMulti to levels) false) (sym h.0) tt
   assigned_has _ v w fits h = absurd h
 
   -- what is loaded from
@@ -108,6 +109,7 @@ module _ (p : LinkedProgram) (m : LinkedMethod) where
   thrown_has (code.Throw a) Caught fits h = arg_has (code.Throw a) a Caught (0, refl) fits h
   thrown_has (code.Throw a) Thrown fits h = arg_has (code.Throw a) a Thrown (0, refl) fits h
   thrown_has (code.Throw a) Made fits h = arg_has (code.Throw a) a Made (0, refl) fits h
+  thrown_has (code.Throw a) (Nested x) fits h = arg_has (code.Throw a) a (Nested x) (0, refl) fits h
   thrown_has (code.Throw a) (Text x) fits h = arg_has (code.Throw a) a (Text x) (0, refl) fits h
   thrown_has (code.Throw a) (Class x) fits h = arg_has (code.Throw a) a (Class x) (0, refl) fits h
   thrown_has _ (Local x) fits h = absurd h
@@ -116,6 +118,7 @@ module _ (p : LinkedProgram) (m : LinkedMethod) where
   thrown_has _ Caught fits h = absurd h
   thrown_has _ Thrown fits h = absurd h
   thrown_has _ Made fits h = absurd h
+  thrown_has _ (Nested x) fits h = absurd h
   thrown_has _ (Text x) fits h = absurd h
   thrown_has _ (Class x) fits h = absurd h
 
@@ -152,6 +155,7 @@ assigned_next (code.Copy to a) v w t h = refl
 assigned_next (code.Cast to a) v w t h = refl
 assigned_next (code.New to class) v w t h = refl
 assigned_next (code.NewArray to) v w t h = refl
+assigned_next (code.NewMulti to levels) v w t h = refl
 assigned_next _ v w t h = absurd h
 
 pub loaded_next : (c : Code) (v : Var) (field : ℕ) (w : Var) (t : ℕ) → LoadsInto c v field w → Next c t (t + 1)
@@ -172,6 +176,7 @@ assigned_at (code.Copy to a) v w t s h next = (to, h.1, sym next)
 assigned_at (code.Cast to a) v w t s h next = (to, h.1, sym next)
 assigned_at (code.New to class) v w t s h next = (to, h.1, sym next)
 assigned_at (code.NewArray to) v w t s h next = (to, h.1, sym next)
+assigned_at (code.NewMulti to levels) v w t s h next = (to, h.1, sym next)
 assigned_at _ v w t s h next = absurd h
 
 pub loaded_at : (c : Code) (v : Var) (field : ℕ) (w : Var) (t s : ℕ) → LoadsInto c v field w → Next c t s → (x : ℕ) × (w ≡ Local x) × (t + 1 ≡ s)
@@ -220,6 +225,7 @@ left_of_frame c (Param number) leaves = leaves
 left_of_frame c Caught leaves = leaves
 left_of_frame c Thrown leaves = leaves
 left_of_frame c Made leaves = leaves
+left_of_frame c (Nested level) leaves = leaves
 left_of_frame c (Raised kind) leaves = leaves
 left_of_frame c (Text number) leaves = leaves
 left_of_frame c (Class number) leaves = leaves

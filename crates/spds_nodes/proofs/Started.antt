@@ -8,7 +8,7 @@ use Rattle.link_sites.specs.declared.site.Site.TheVariants as site
 use Rattle.link_sites.specs.Places.{before}
 use Rattle.spds_rules.specs.declared.node.Node.{Node}
 use Rattle.spds_rules.specs.declared.node.Var.{Var}
-use Rattle.spds_rules.specs.declared.node.Var.TheVariants.{Made, Raised, Text, Class}
+use Rattle.spds_rules.specs.declared.node.Var.TheVariants.{Made, Nested, Raised, Text, Class}
 use Rattle.spds_rules.specs.Nodes.{HasVar, IsNode, IsStart, at, site_at}
 use Rattle.spds_nodes.specs.Starts.{IsBefore, IsThere}
 use Rattle.spds_nodes.proofs.Froms.{one_index, one_method}
@@ -30,14 +30,24 @@ there_method_below p v m i n there = slice_get-below p.methods m there.0.method 
 -- what the site of a variable says of it
 made_is : (q place : Place) (v : Var) → site_at q v ≡ Some (site.New place) → (q ≡ place) × (v ≡ Made)
 made_is q place Made h = (cc (h), refl)
+made_is q place (Nested level) h = absurd (cc (h))
 made_is q place (Raised kind) h = absurd (cc (h))
 made_is q place (Text number) h = absurd (cc (h))
 made_is q place (Class number) h = absurd (cc (h))
 made_is q place _ h = absurd (cc (h))
 
+nested_is : (q place : Place) (k : ℕ) (v : Var) → site_at q v ≡ Some (site.Nested place k) → (q ≡ place) × (v ≡ Nested k)
+nested_is q place k (Nested level) h = (cc (h), let same : level ≡ k = cc (h) in ap Nested same)
+nested_is q place k Made h = absurd (cc (h))
+nested_is q place k (Raised kind) h = absurd (cc (h))
+nested_is q place k (Text number) h = absurd (cc (h))
+nested_is q place k (Class number) h = absurd (cc (h))
+nested_is q place k _ h = absurd (cc (h))
+
 raised_is : (q place : Place) (k : ℕ) (v : Var) → site_at q v ≡ Some (site.Raised place k) → (q ≡ place) × (v ≡ Raised k)
 raised_is q place k (Raised kind) h = (cc (h), let same : kind ≡ k = cc (h) in ap Raised same)
 raised_is q place k Made h = absurd (cc (h))
+raised_is q place k (Nested level) h = absurd (cc (h))
 raised_is q place k (Text number) h = absurd (cc (h))
 raised_is q place k (Class number) h = absurd (cc (h))
 raised_is q place k _ h = absurd (cc (h))
@@ -45,6 +55,7 @@ raised_is q place k _ h = absurd (cc (h))
 text_is : (q : Place) (number : ℕ) (v : Var) → site_at q v ≡ Some (site.Text number) → v ≡ Text number
 text_is q number (Text other) h = let same : other ≡ number = cc (h) in ap Text same
 text_is q number Made h = absurd (cc (h))
+text_is q number (Nested level) h = absurd (cc (h))
 text_is q number (Raised kind) h = absurd (cc (h))
 text_is q number (Class other) h = absurd (cc (h))
 text_is q number _ h = absurd (cc (h))
@@ -52,6 +63,7 @@ text_is q number _ h = absurd (cc (h))
 class_is : (q : Place) (number : ℕ) (v : Var) → site_at q v ≡ Some (site.Class number) → v ≡ Class number
 class_is q number (Class other) h = let same : other ≡ number = cc (h) in ap Class same
 class_is q number Made h = absurd (cc (h))
+class_is q number (Nested level) h = absurd (cc (h))
 class_is q number (Raised kind) h = absurd (cc (h))
 class_is q number (Text other) h = absurd (cc (h))
 class_is q number _ h = absurd (cc (h))
@@ -63,13 +75,22 @@ node_by n q v place var =
     let second : at q n.var ≡ at q v = ap (at q) var in
     first ∙ second
 
--- the start of what a statement makes, and of what it raises
+-- the start of what a statement makes, of its inner levels, and of what it raises
 pub starts_made : (p : LinkedProgram) (place : Place) (n : Node) → IsThere p (at place Made) n ↔ IsStart p (site.New place) n
 starts_made p place n = (
   (λ there. subst (IsStart p (site.New place)) (sym there.1) (there.0, refl)),
   (λ start.
       let is = made_is n.place place n.var start.1 in
       let same = node_by n place Made is.0 is.1 in
+      (subst (IsNode p) same start.0, same)),
+)
+
+pub starts_nested : (p : LinkedProgram) (place : Place) (k : ℕ) (n : Node) → IsThere p (at place (Nested k)) n ↔ IsStart p (site.Nested place k) n
+starts_nested p place k n = (
+  (λ there. subst (IsStart p (site.Nested place k)) (sym there.1) (there.0, refl)),
+  (λ start.
+      let is = nested_is n.place place k n.var start.1 in
+      let same = node_by n place (Nested k) is.0 is.1 in
       (subst (IsNode p) same start.0, same)),
 )
 

@@ -3,7 +3,8 @@ ghost use Rattle.std.specs.Prelude.{◌≡◌, ◌<◌, ◌≤◌, ◌↔◌, �
 ghost use Rattle.jim_ast.specs.Lists.{Has};
 ghost use Rattle.link_rules.specs.Flow.{MayRaise};
 ghost use Rattle.link_indexes.specs.Facts.{IsRaised};
-ghost use Rattle.link_sites.specs.Sites.{Makes, MakesArrays};
+ghost use Rattle.link_rules.specs.WellLinked.{MakesArrays};
+ghost use Rattle.link_sites.specs.Sites.{HasLevel, Makes};
 ghost use Rattle.spds_rules.specs.Nodes.{arg_var, handed};
 
 use link_rules::{Arg, Code};
@@ -47,14 +48,27 @@ pub fn hands(code: &Code, arg: Arg) -> bool
 pub fn makes(code: &Code) -> bool
     ensures { IsTrue result ↔ Makes code.now }
 {
-    matches!(code, Code::New { .. } | Code::NewArray { .. })
+    matches!(
+        code,
+        Code::New { .. } | Code::NewArray { .. } | Code::NewMulti { .. }
+    )
 }
 
 /// Whether a statement makes arrays.
 pub fn makes_arrays(code: &Code) -> bool
     ensures { IsTrue result ↔ MakesArrays code.now }
 {
-    matches!(code, Code::NewArray { .. })
+    matches!(code, Code::NewArray { .. } | Code::NewMulti { .. })
+}
+
+/// Whether a statement makes arrays of arrays, of which this is an inner level.
+pub fn has_level(code: &Code, level: u8) -> bool
+    ensures { IsTrue result ↔ HasLevel level code.now }
+{
+    match code {
+        Code::NewMulti { levels, .. } => level > 0 && level < *levels,
+        _ => false,
+    }
 }
 
 /// The kinds of implicit exceptions of a statement: those from one up to, not including, another.
@@ -78,7 +92,7 @@ pub fn kinds_of(code: &Code) -> Kinds
         } => Kinds { from: 0, to: 1 },
         Code::LoadCell { .. } => Kinds { from: 0, to: 2 },
         Code::StoreCell { .. } => Kinds { from: 0, to: 3 },
-        Code::NewArray { .. } => Kinds { from: 3, to: 4 },
+        Code::NewArray { .. } | Code::NewMulti { .. } => Kinds { from: 3, to: 4 },
         Code::Cast { .. } => Kinds { from: 4, to: 5 },
         Code::Numeric { divides: true, .. } => Kinds { from: 5, to: 6 },
         _ => Kinds { from: 0, to: 0 },
@@ -101,7 +115,7 @@ pub fn is_raised(code: &Code) -> bool
         Code::Throw { .. } | Code::Call { .. } => true,
         Code::Load { .. } | Code::Store { .. } | Code::Length { .. } | Code::Monitor { .. } => true,
         Code::LoadCell { .. } | Code::StoreCell { .. } => true,
-        Code::NewArray { .. } | Code::Cast { .. } => true,
+        Code::NewArray { .. } | Code::NewMulti { .. } | Code::Cast { .. } => true,
         Code::Numeric { divides, .. } => *divides,
         _ => false,
     }

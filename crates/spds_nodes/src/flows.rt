@@ -21,7 +21,7 @@ fn assigned(code: &Code) -> Option<u32>
     match code {
         Code::This { to } | Code::Param { to, .. } | Code::Caught { to } => Some(*to),
         Code::Copy { to, .. } | Code::Cast { to, .. } => Some(*to),
-        Code::New { to, .. } | Code::NewArray { to } => Some(*to),
+        Code::New { to, .. } | Code::NewArray { to } | Code::NewMulti { to, .. } => Some(*to),
         Code::Numeric { to, .. } | Code::Length { to, .. } => Some(*to),
         Code::Load { to, .. } | Code::LoadCell { to, .. } | Code::LoadStatic { to, .. } => {
             Some(*to)
@@ -89,7 +89,9 @@ fn source_of(code: &Code) -> Option<Source>
         Code::Param { number, .. } => Some(flow_from(Var::Param(*number))),
         Code::Caught { .. } => Some(flow_from(Var::Caught)),
         Code::Copy { arg, .. } | Code::Cast { arg, .. } => Some(flow_from(arg_var(*arg)?)),
-        Code::New { .. } | Code::NewArray { .. } => Some(flow_from(Var::Made)),
+        Code::New { .. } | Code::NewArray { .. } | Code::NewMulti { .. } => {
+            Some(flow_from(Var::Made))
+        }
         Code::Load { base, field, .. } => Some(load_from(*base, *field)),
         Code::LoadCell { base, .. } => Some(load_from(*base, 0)),
         _ => None,

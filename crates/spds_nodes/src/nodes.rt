@@ -4,7 +4,7 @@ ghost use Rattle.link_rules.specs.WellLinked.{IsInForm};
 ghost use Rattle.link_program.specs.Accessed.{At};
 ghost use Rattle.spds_rules.specs.Nodes.{HasVar, IsNode, MayStand, site_of};
 
-use super::codes::{hands, is_raised, makes, may_raise};
+use super::codes::{hands, has_level, is_raised, makes, may_raise};
 use super::places::code_at;
 use link_program::Linked;
 use link_rules::{Arg, Code};
@@ -30,6 +30,7 @@ fn has_var(linked: &Linked, method: u32, code: &Code, raised: bool, var: Var) ->
         Var::Caught => true,
         Var::Thrown => raised,
         Var::Made => !raised && makes(code),
+        Var::Nested(level) => !raised && has_level(code, level),
         Var::Raised(kind) => !raised && may_raise(code, kind),
         Var::Text(number) => !raised && hands(code, Arg::Text(number)),
         Var::Class(number) => !raised && hands(code, Arg::Class(number)),
@@ -56,6 +57,7 @@ pub fn site_of(node: Node) -> Option<Site>
 {
     match node.var {
         Var::Made => Some(Site::New(node.place)),
+        Var::Nested(level) => Some(Site::Nested(node.place, level)),
         Var::Raised(kind) => Some(Site::Raised(node.place, kind)),
         Var::Text(number) => Some(Site::Text(number)),
         Var::Class(number) => Some(Site::Class(number)),

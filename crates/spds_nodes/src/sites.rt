@@ -4,11 +4,11 @@ ghost use Rattle.jim_ast.specs.Lists.{Has};
 ghost use Rattle.link_rules.specs.Flow.{MayRaise};
 ghost use Rattle.link_rules.specs.Targets.{exception_names, nine_names};
 ghost use Rattle.link_rules.specs.declared.code.Code.{Code as Statement};
-ghost use Rattle.link_sites.specs.declared.site.Site.TheVariants.{New, Raised};
+ghost use Rattle.link_sites.specs.declared.site.Site.TheVariants.{Nested, New, Raised};
 ghost use Rattle.link_sites.specs.Places.{CodeAt};
-ghost use Rattle.link_sites.specs.Sites.{HasDeclared, HasField, IsArraySite, IsClassOfMade, IsClassOfRaised, IsNamedClass, IsSite, IsSiteClass, IsUnraised, Makes, MakesArrays};
+ghost use Rattle.link_sites.specs.Sites.{HasDeclared, HasField, IsArraySite, IsClassOfMade, IsClassOfRaised, IsNamedClass, IsSite, IsSiteClass, IsUnraised, Makes};
 
-use super::codes::{makes_arrays, may_raise};
+use super::codes::{has_level, makes_arrays, may_raise};
 use super::places::code_at;
 use link_program::Linked;
 use link_rules::Code;
@@ -57,7 +57,7 @@ fn class_of_made(linked: &Linked, code: &Code) -> Option<u32>
 {
     match code {
         Code::New { class, .. } => Some(*class),
-        Code::NewArray { .. } => class_named(linked, "java.lang.Object"),
+        Code::NewArray { .. } | Code::NewMulti { .. } => class_named(linked, "java.lang.Object"),
         _ => None,
     }
 }
@@ -69,6 +69,22 @@ fn made_class(linked: &Linked, place: Place) -> Option<u32>
 {
     match unraised_code(linked, place) {
         Some(code) => class_of_made(linked, code),
+        None => None,
+    }
+}
+
+// The class of the arrays of an inner level of those that the statement at a place makes.
+fn nested_class(linked: &Linked, place: Place, level: u8) -> Option<u32>
+    ensures is { (class : ℕ) → (result ≡ Some class) ↔ IsSiteClass linked.now (Nested place level) class }
+    ensures none { IfNone result (IsSite linked.now (Nested place level) → ⊥) }
+{
+    match unraised_code(linked, place) {
+        Some(code) => {
+            if has_level(code, level) {
+                return class_named(linked, "java.lang.Object");
+            }
+            None
+        }
         None => None,
     }
 }
@@ -108,6 +124,7 @@ pub fn site_class(linked: &Linked, site: Site) -> Option<u32>
 {
     match site {
         Site::New(place) => made_class(linked, place),
+        Site::Nested(place, level) => nested_class(linked, place, level),
         Site::Raised(place, kind) => raised_class(linked, place, kind),
         Site::Text(number) => {
             constant_class(linked, number, linked.texts().len(), "java.lang.String")
@@ -130,6 +147,10 @@ fn is_array_site(linked: &Linked, site: Site) -> bool
     match site {
         Site::New(place) => match unraised_code(linked, place) {
             Some(code) => makes_arrays(code),
+            None => false,
+        },
+        Site::Nested(place, level) => match unraised_code(linked, place) {
+            Some(code) => has_level(code, level),
             None => false,
         },
         _ => false,

@@ -78,6 +78,10 @@ fn push_starts(nodes: &mut Vec<Node>, linked: &Linked, site: Site) -> Result<(),
             let var = Var::Made;
             push_there(nodes, linked, Node { place, var })
         }
+        Site::Nested(place, level) => {
+            let var = Var::Nested(level);
+            push_there(nodes, linked, Node { place, var })
+        }
         Site::Raised(place, kind) => {
             let var = Var::Raised(kind);
             push_there(nodes, linked, Node { place, var })
@@ -87,7 +91,7 @@ fn push_starts(nodes: &mut Vec<Node>, linked: &Linked, site: Site) -> Result<(),
     }
 }
 
-/// All start nodes of a site, each once. A statement's objects and its exceptions of one kind have one; for a constant all statements of the program
+/// All start nodes of a site, each once. A statement's objects, its arrays of one inner level and its exceptions of one kind have one; for a constant all statements of the program
 /// are looked at.
 pub fn starts_of(alloc: Global, linked: &Linked, site: Site) -> Result<Vec<Node>, NoMemory>
     ensures { IfOk result (λ nodes. AreAll (IsStart linked.now site) nodes.items) }

@@ -1,1 +1,2 @@
 pub mod Formals
+pub mod Keys

@@ -16,7 +16,7 @@ use Rattle.spds_rules.specs.declared.edge.EdgeKind.{EdgeKind}
 use Rattle.spds_rules.specs.declared.edge.EdgeKind.TheVariants.{Flow, Load, Call, Return, Jump}
 use Rattle.spds_rules.specs.declared.node.Node.{Node}
 use Rattle.spds_rules.specs.declared.node.Var.{Var}
-use Rattle.spds_rules.specs.declared.node.Var.TheVariants.{Local, This, Param, Caught, Thrown, Made, Raised, Text, Class}
+use Rattle.spds_rules.specs.declared.node.Var.TheVariants.{Local, This, Param, Caught, Thrown, Made, Nested, Raised, Text, Class}
 use Rattle.spds_rules.specs.declared.reach.Reach.{Reach}
 use Rattle.spds_rules.specs.declared.reach.Reach.TheVariants.{Plain, Tracked}
 use Rattle.spds_rules.specs.Formals.{HasFormal, assigned}
@@ -30,6 +30,7 @@ IsOfFrame (Param number) = Unit {0}
 IsOfFrame Caught = Unit {0}
 IsOfFrame Thrown = ⊥
 IsOfFrame Made = ⊥
+IsOfFrame (Nested level) = ⊥
 IsOfFrame (Raised kind) = ⊥
 IsOfFrame (Text number) = ⊥
 IsOfFrame (Class number) = ⊥
@@ -52,6 +53,7 @@ Assigns (code.Copy to a) v w = (arg_var a ≡ Some v) × (w ≡ Local to)
 Assigns (code.Cast to a) v w = (arg_var a ≡ Some v) × (w ≡ Local to)
 Assigns (code.New to class) v w = (v ≡ Made) × (w ≡ Local to)
 Assigns (code.NewArray to) v w = (v ≡ Made) × (w ≡ Local to)
+Assigns (code.NewMulti to levels) v w = (v ≡ Made) × (w ≡ Local to)
 Assigns (code.Numeric to divides) v w = ⊥
 Assigns (code.Length to a) v w = ⊥
 Assigns (code.Load to base field) v w = ⊥
@@ -80,6 +82,7 @@ IsThrownBy (code.Copy to a) v = ⊥
 IsThrownBy (code.Cast to a) v = ⊥
 IsThrownBy (code.New to class) v = ⊥
 IsThrownBy (code.NewArray to) v = ⊥
+IsThrownBy (code.NewMulti to levels) v = ⊥
 IsThrownBy (code.Numeric to divides) v = ⊥
 IsThrownBy (code.Length to a) v = ⊥
 IsThrownBy (code.Load to base field) v = ⊥
@@ -104,6 +107,7 @@ IsCaughtAs (Param number) w = w ≡ Param number
 IsCaughtAs Thrown w = w ≡ Caught
 IsCaughtAs Caught w = ⊥
 IsCaughtAs Made w = ⊥
+IsCaughtAs (Nested level) w = ⊥
 IsCaughtAs (Raised kind) w = ⊥
 IsCaughtAs (Text number) w = ⊥
 IsCaughtAs (Class number) w = ⊥
@@ -135,6 +139,7 @@ LoadsInto (code.Copy to a) v f w = ⊥
 LoadsInto (code.Cast to a) v f w = ⊥
 LoadsInto (code.New to class) v f w = ⊥
 LoadsInto (code.NewArray to) v f w = ⊥
+LoadsInto (code.NewMulti to levels) v f w = ⊥
 LoadsInto (code.Numeric to divides) v f w = ⊥
 LoadsInto (code.Length to a) v f w = ⊥
 LoadsInto (code.Store base field a) v f w = ⊥
@@ -166,6 +171,7 @@ StoresStatic (code.Copy to a) v f = ⊥
 StoresStatic (code.Cast to a) v f = ⊥
 StoresStatic (code.New to class) v f = ⊥
 StoresStatic (code.NewArray to) v f = ⊥
+StoresStatic (code.NewMulti to levels) v f = ⊥
 StoresStatic (code.Numeric to divides) v f = ⊥
 StoresStatic (code.Length to a) v f = ⊥
 StoresStatic (code.Load to base field) v f = ⊥
@@ -192,6 +198,7 @@ LoadsStatic (code.Copy to a) f w = ⊥
 LoadsStatic (code.Cast to a) f w = ⊥
 LoadsStatic (code.New to class) f w = ⊥
 LoadsStatic (code.NewArray to) f w = ⊥
+LoadsStatic (code.NewMulti to levels) f w = ⊥
 LoadsStatic (code.Numeric to divides) f w = ⊥
 LoadsStatic (code.Length to a) f w = ⊥
 LoadsStatic (code.Load to base field) f w = ⊥
@@ -224,6 +231,7 @@ Passes receiver args v (Local x) = ⊥
 Passes receiver args v Caught = ⊥
 Passes receiver args v Thrown = ⊥
 Passes receiver args v Made = ⊥
+Passes receiver args v (Nested level) = ⊥
 Passes receiver args v (Raised kind) = ⊥
 Passes receiver args v (Text number) = ⊥
 Passes receiver args v (Class number) = ⊥
@@ -247,6 +255,7 @@ Returns (code.Copy to a) v = ⊥
 Returns (code.Cast to a) v = ⊥
 Returns (code.New to class) v = ⊥
 Returns (code.NewArray to) v = ⊥
+Returns (code.NewMulti to levels) v = ⊥
 Returns (code.Numeric to divides) v = ⊥
 Returns (code.Length to a) v = ⊥
 Returns (code.Load to base field) v = ⊥

@@ -4,7 +4,7 @@ use Rattle.link_rules.specs.declared.code.Code.{Code}
 use Rattle.link_rules.specs.declared.code.Code.TheVariants as code
 use Rattle.link_rules.specs.Linked.{LinkedMethod, LinkedProgram}
 use Rattle.spds_rules.specs.declared.node.Var.{Var}
-use Rattle.spds_rules.specs.declared.node.Var.TheVariants.{Local, This, Param, Caught, Thrown, Made, Raised, Text, Class}
+use Rattle.spds_rules.specs.declared.node.Var.TheVariants.{Local, This, Param, Caught, Thrown, Made, Nested, Raised, Text, Class}
 
 -- the local that a statement assigns
 abbrev pub assigned : Code → Option ℕ
@@ -15,6 +15,7 @@ assigned (code.Copy to a) = Some to
 assigned (code.Cast to a) = Some to
 assigned (code.New to class) = Some to
 assigned (code.NewArray to) = Some to
+assigned (code.NewMulti to levels) = Some to
 assigned (code.Numeric to divides) = Some to
 assigned (code.Length to a) = Some to
 assigned (code.Load to base field) = Some to
@@ -52,6 +53,7 @@ IsPosition (Local x) = ⊥
 IsPosition Caught = ⊥
 IsPosition Thrown = ⊥
 IsPosition Made = ⊥
+IsPosition (Nested level) = ⊥
 IsPosition (Raised kind) = ⊥
 IsPosition (Text number) = ⊥
 IsPosition (Class number) = ⊥

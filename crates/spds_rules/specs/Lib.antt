@@ -5,3 +5,4 @@ pub mod Stores
 pub mod Demand
 pub mod Systems
 pub mod Answers
+pub mod Spread

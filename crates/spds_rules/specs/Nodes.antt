@@ -11,10 +11,10 @@ use Rattle.link_indexes.specs.Facts.{IsRaised}
 use Rattle.link_sites.specs.declared.place.Place.{Place}
 use Rattle.link_sites.specs.declared.site.Site.{Site}
 use Rattle.link_sites.specs.declared.site.Site.TheVariants as site
-use Rattle.link_sites.specs.Sites.{Makes}
+use Rattle.link_sites.specs.Sites.{HasLevel, Makes}
 use Rattle.spds_rules.specs.declared.node.Node.{Node}
 use Rattle.spds_rules.specs.declared.node.Var.{Var}
-use Rattle.spds_rules.specs.declared.node.Var.TheVariants.{Local, This, Param, Caught, Thrown, Made, Raised, Text, Class}
+use Rattle.spds_rules.specs.declared.node.Var.TheVariants.{Local, This, Param, Caught, Thrown, Made, Nested, Raised, Text, Class}
 
 -- the variable at a place
 abbrev pub at : Place → Var → Node
@@ -37,6 +37,7 @@ handed (code.Param to number) = []
 handed (code.Caught to) = []
 handed (code.New to class) = []
 handed (code.NewArray to) = []
+handed (code.NewMulti to levels) = []
 handed (code.Numeric to divides) = []
 handed (code.Length to a) = []
 handed (code.Load to base field) = []
@@ -65,11 +66,13 @@ HasVar m c raised (Param number) = number < m.params
 HasVar m c raised Caught = Unit {0}
 HasVar m c true Thrown = Unit {0}
 HasVar m c false Made = Makes c
+HasVar m c false (Nested level) = HasLevel level c
 HasVar m c false (Raised kind) = MayRaise c kind
 HasVar m c false (Text number) = Has (handed c) (arg.Text number)
 HasVar m c false (Class number) = Has (handed c) (arg.Class number)
 HasVar m c false Thrown = ⊥
 HasVar m c true Made = ⊥
+HasVar m c true (Nested level) = ⊥
 HasVar m c true (Raised kind) = ⊥
 HasVar m c true (Text number) = ⊥
 HasVar m c true (Class number) = ⊥
@@ -91,6 +94,7 @@ pub record IsNode (p : LinkedProgram) (n : Node) : Type 0 where
 -- the site of the object that comes to be as the variable at a place, if one does
 abbrev pub site_at : Place → Var → Option Site
 site_at place Made = Some (site.New place)
+site_at place (Nested level) = Some (site.Nested place level)
 site_at place (Raised kind) = Some (site.Raised place kind)
 site_at place (Text number) = Some (site.Text number)
 site_at place (Class number) = Some (site.Class number)

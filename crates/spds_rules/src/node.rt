@@ -1,5 +1,9 @@
 //! Where an object may be.
+ghost use Rattle.std.specs.Prelude.{◌≡◌, ◌<◌, ◌^◌};
+ghost use Rattle.spds_rules.specs.Spread.{var_spread};
+
 use link_sites::Place;
+use lists::Key;
 
 /// A variable. The first four are those of a frame; the others stand for what a statement throws, makes or names.
 #[derive(Clone, Copy, Debug, PartialEq, Eq, Hash)]
@@ -14,8 +18,10 @@ pub enum Var {
     Caught,
     /// The exception in flight.
     Thrown,
-    /// What the statement makes.
+    /// What the statement makes; of arrays of arrays the outermost one, of level 0.
     Made,
+    /// The arrays of an inner level that it makes, by the level, from 1.
+    Nested(u8),
     /// The implicit exception of this kind that the statement raises.
     Raised(u8),
     /// A text that the statement hands on, by its number among the texts of the program.
@@ -29,4 +35,51 @@ pub enum Var {
 pub struct Node {
     pub place: Place,
     pub var: Var,
+}
+
+impl Var {
+    // The number by which nodes of the variable are spread.
+    fn spread(self) -> u64
+        ensures value { result ≡ var_spread self }
+        ensures within { result < 2 ^ 38 }
+    {
+        match self {
+            Var::Local(number) => number as u64 * 32,
+            Var::This => 1,
+            Var::Param(number) => number as u64 * 32 + 2,
+            Var::Caught => 3,
+            Var::Thrown => 4,
+            Var::Made => 5,
+            Var::Nested(level) => level as u64 * 32 + 6,
+            Var::Raised(kind) => kind as u64 * 32 + 7,
+            Var::Text(number) => number as u64 * 32 + 8,
+            Var::Class(number) => number as u64 * 32 + 9,
+        }
+    }
+}
+
+impl Key for Node {
+    ghost use Rattle.spds_rules.specs.Spread.{node_spread};
+    ghost use Rattle.std.proofs.Common.{◌≡◌, rules, true};
+    ghost use Rattle.std.proofs.lemmas.Bool.{and_parts};
+    ghost use Rattle.link_sites.specs.contracts.place.PlacePartialEq.TheImpl as place;
+    ghost use Rattle.spds_rules.specs.contracts.node.VarPartialEq.TheImpl as var;
+
+    ghost spread = { node_spread };
+
+    fn spread(self) -> u64 {
+        let raised = if self.place.raised { 16 } else { 0 };
+        self.place.method as u64 * 1_048_576
+            + self.place.index as u64 * 4096
+            + self.var.spread()
+            + raised
+    }
+
+    ghost same = { λ x y h.
+        let parts = and_parts (place.eq-value.it x.place y.place) (var.eq-value.it x.var y.var) h in
+        let first : place.eq-value.it x.place y.place ≡ true = parts.0 in
+        let second : var.eq-value.it x.var y.var ≡ true = parts.1 in
+        let there : x.place ≡ y.place = Prim.search (rules, first) in
+        let same : x.var ≡ y.var = Prim.search (rules, second) in
+        λ j. record { place = there j; var = same j } };
 }

@@ -1,6 +1,7 @@
 -- What the search ends with is what is defined.
 use Rattle.std.proofs.Common.{◌≡◌, ℕ, ◌<◌, ◌↔◌, All, List, [], ◌∷◌, length, map, take, Some, slice_get, slice_index_or, refl, sym, ap, ◌∙◌, subst, inl, inr, arith}
 use Rattle.std.proofs.lemmas.Option.{get_or_from_slice_get}
+use Rattle.call_side.specs.Bases.{AreMarks}
 use Rattle.demand_set.specs.Demands.{DemandParts, IsDemandOf}
 use Rattle.demand_walk.proofs.Appended.{Has-take}
 use Rattle.jim_ast.specs.Lists.{Has, IsApart}
@@ -17,6 +18,7 @@ use Rattle.spds_laws.proofs.More.{calls_more, fields_more, may_store_more, store
 use Rattle.spds_laws.proofs.Rounds.{meets_stored}
 use Rattle.spds_laws.proofs.Within.{may_store_within}
 use Rattle.spds_laws.specs.Found.{IsClosed, Triple}
+use Rattle.spds_laws.specs.Starts.{FromStarts}
 use Rattle.spds_rules.specs.declared.node.Node.{Node}
 use Rattle.spds_rules.specs.declared.store.StoreAt.{StoreAt}
 use Rattle.spds_rules.specs.Answers.{IsAnswered}
@@ -27,10 +29,12 @@ use Rattle.spds_solve.specs.declared.met.Met.{Met}
 use Rattle.spds_solve.specs.Composing.{AreJoined, IsReady, joined}
 use Rattle.spds_solve.specs.Mets.{numbers, numbers_of, string_of}
 use Rattle.spds_solve.specs.Searches.{AllSettled, AreFoundBy, IsCandidate, IsComplete, IsFound, IsHeldOf}
-use Rattle.spds_solve.specs.Solved.{AreMeets, GivesBoth, IsListed, IsSolved, StandsForMeet}
+use Rattle.spds_solve.specs.Solved.{AreMeets, IsListed, IsSolved, StandsForMeet}
 use Rattle.spds_solve.proofs.Numbering.{has_numbers, numbered}
 use Rattle.spds_solve.proofs.Resting.{AreStored, StoresOver, calls_spelt, front_kept, listed_within, old_front, stored_found, stores_within}
-use Rattle.spds_tables.proofs.Exact.{base_is, calls_arrive, calls_share, fields_are, listed_met, met_listed, may_store_exact, object_is, store_is}
+use Rattle.spds_tables.proofs.CallSystems.{calls_exact, derived_marks, given_marks}
+use Rattle.spds_tables.proofs.Exact.{Begins, base_is, begins_stay, calls_arrive, calls_given, fields_are, listed_met, met_listed, may_store_exact, object_is, store_is, system}
+use Rattle.spds_cells.specs.Cells.{IsCarried}
 use Rattle.spds_cells.proofs.Lists.{Has-append}
 use Rattle.spds_tables.proofs.Made.{demand_names}
 use Rattle.spds_tables.specs.declared.numbered.Met.{Met as Numbers}
@@ -39,7 +43,7 @@ use Rattle.spds_tables.specs.declared.tables.SiteTables.{SiteTables}
 use Rattle.spds_tables.specs.Names.{AreNames, HasCell, Names}
 use Rattle.spds_tables.specs.Parts.{IsInParts, store_at}
 use Rattle.spds_tables.specs.PartsOf.{AreParts, ArePartsOf, names_of}
-use Rattle.spds_tables.specs.Systems.{Reaches}
+use Rattle.spds_tables.specs.Systems.{IsCallSystem, Reaches}
 use Rattle.spds_tables.specs.Tables.{AreSettled}
 use Rattle.spds_tables.specs.Triples.{IsInRange, MetIn, no_site, no_store_at, triple_of, triples_of}
 
@@ -315,14 +319,36 @@ module _ (p : LinkedProgram) (q : Asked) (names : Names) (are : AreNames p q nam
             (λ h. (fields.1 (fields_more p q (Meets p q) (MetIn names all) in_met o h.0), calls.1 (h.1.0, calls_more p q (Meets p q) (MetIn names all) in_met o h.1.1))),
           )
 
-      -- the common strings of two nodes
-      pub both_are : (a b : ℕ) (n m : Node) → HasCell names n a → HasCell names m b
-          → GivesBoth t.calls a b ↔ ((string : List Place) × Calls p q o n string × Calls p q o m string)
-      both_are a b n m x y =
-          let share = calls_share p q names are parts of all inside site o there t settled_at site o there t settled_at a b n m x y in (
-            (λ h. let c = share.0 h in (c.0, calls_more p q (MetIn names all) (Meets p q) met_in o c.1, calls_more p q (MetIn names all) (Meets p q) met_in o c.2)),
-            (λ h. share.1 (h.0, calls_more p q (Meets p q) (MetIn names all) in_met o h.1, calls_more p q (Meets p q) (MetIn names all) in_met o h.2)),
+      -- the words of the call system are the strings
+      begins : Node → Type 0
+      begins = Begins p q names are parts of site o there all inside t settled_at
+
+      stay : (a b : Node) → begins b → IsCarried p q a b → ⊥
+      unfolding begins
+      stay = begins_stay p q names are parts of site o there all inside t settled_at
+
+      is_system : IsCallSystem p q names begins t.calls
+      unfolding begins
+      is_system = system p q names are parts of site o there all inside t settled_at
+
+      given : (n : Node) (string : List Place) → InCalls p q (MetIn names all) o n string ↔ FromStarts p q begins n string
+      unfolding begins
+      given = calls_given p q names are parts of site o there all inside t settled_at
+
+      pub strings_are : (cell : ℕ) (n : Node) (word : List ℕ) (string : List Place) → HasCell names n cell → AreMarks names.calls word string
+          → Reaches t.calls cell word ↔ Calls p q o n string
+      strings_are cell n word string at marks =
+          let exact = calls_exact p q names are begins stay t.calls is_system cell n word string at marks in (
+            (λ h. calls_more p q (MetIn names all) (Meets p q) met_in o ((given n string).1 (exact.0 h))),
+            (λ h. exact.1 ((given n string).0 (calls_more p q (Meets p q) (MetIn names all) in_met o h))),
           )
+
+      pub strings_marked : (n : Node) (string : List Place) → Calls p q o n string → (word : List ℕ) × AreMarks names.calls word string
+      strings_marked n string h =
+          given_marks p q names are begins stay t.calls is_system n string ((given n string).0 (calls_more p q (Meets p q) (MetIn names all) in_met o h))
+
+      pub words_spelt : (cell : ℕ) (word : List ℕ) → Reaches t.calls cell word → (string : List Place) × AreMarks names.calls word string
+      words_spelt cell word h = derived_marks p q names are begins stay t.calls is_system cell word h
 
 module _ (p : LinkedProgram) (q : Asked) (d : DemandParts) (cells : List ℕ) (calls : List Place) where
   abbrev names : Names
@@ -381,7 +407,7 @@ module _ (p : LinkedProgram) (q : Asked) (d : DemandParts) (cells : List ℕ) (c
 pub solved_whole : (p : LinkedProgram) (q : Asked) (d : DemandParts) → IsDemandOf p q d → (parts : Parts) → ArePartsOf p q d parts → (tables : List SiteTables) (mets : List Met)
     → IsComplete p d.sites parts tables mets → IsApart (numbers_of mets) → (held : List Held)
     → ((h : Held) → Has held h ↔ ((t : SiteTables) × (slice_get tables h.site ≡ Some t) × IsHeldOf t h.cell))
-    → IsSolved p q d (record { cells = parts.cells.items; calls = map (λ t. t.calls) tables; mets = mets; held = held })
+    → IsSolved p q d (record { cells = parts.cells.items; places = parts.places; calls = map (λ t. t.calls) tables; mets = mets; held = held })
 solved_whole p q d is parts of tables mets complete once held answers =
     let cells = parts.cells.items in
     let names = names_of d cells of.calls in
@@ -404,5 +430,18 @@ solved_whole p q d is parts of tables mets complete once held answers =
           let count = complete.settled.count in
           let starts = of.are_parts.start_count in
           let t = slice_get-there tables site (omega arith) in
-          (t.0.calls, map_at (λ (x : SiteTables). x.calls) tables site t.0 t.1, both_are p q names are parts of.are_parts tables mets complete site o there t.0 t.1);
+          let same = of.are_parts.places in (
+            t.0.calls,
+            map_at (λ (x : SiteTables). x.calls) tables site t.0 t.1,
+            record {
+              strings = λ cell n word string at marks.
+                  strings_are p q names are parts of.are_parts tables mets complete site o there t.0 t.1 cell n word string at (subst (λ (calls : List Place). AreMarks calls word string) same marks);
+              marked = λ n string h.
+                  let m = strings_marked p q names are parts of.are_parts tables mets complete site o there t.0 t.1 n string h in
+                  (m.0, subst (λ (calls : List Place). AreMarks calls m.0 string) (sym same) m.1);
+              spelt = λ cell word h.
+                  let m = words_spelt p q names are parts of.are_parts tables mets complete site o there t.0 t.1 cell word h in
+                  (m.0, subst (λ (calls : List Place). AreMarks calls word m.0) (sym same) m.1);
+            },
+          );
     }

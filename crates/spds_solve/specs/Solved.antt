@@ -1,5 +1,6 @@
 -- What was solved: the meets, the answers, and the call systems of the sites.
 use Rattle.std.specs.Prelude.{◌≡◌, ◌↔◌, ℕ, List, Some, slice_get, take, true}
+use Rattle.call_side.specs.Bases.{AreMarks}
 use Rattle.call_side.specs.Indexed.{BaseList}
 use Rattle.demand_set.specs.Demands.{DemandParts}
 use Rattle.jim_ast.specs.Lists.{Has, IsApart}
@@ -21,9 +22,11 @@ use Rattle.spds_tables.specs.declared.tables.SiteTables.{SiteTables}
 use Rattle.spds_tables.specs.Systems.{Reaches}
 use Rattle.weight_laws.specs.declared.reach.Reach.{Reach}
 
--- the cells of the nodes, the call systems of the sites, the meets, and the nodes of which cells may hold objects of which sites
+-- the cells of the nodes, the calls whose numbers are the marks of call strings, the call systems of the sites, the meets, and the nodes of which cells
+-- may hold objects of which sites
 pub record SolvedParts : Type 0 where
   pub cells : List ℕ
+  pub places : List Place
   pub calls : List (Job Reach)
   pub mets : List Met
   pub held : List Held
@@ -37,10 +40,6 @@ pub record IsOfBases (bases : BaseList) (job : Job Reach) : Type 0 where
 -- each is one
 abbrev pub AreOfBases : BaseList → List SiteTables → Type 0
 AreOfBases bases tables = (t : SiteTables) → Has tables t → IsOfBases bases t.calls
-
--- the call system gives one word at both cells
-abbrev pub GivesBoth : Job Reach → ℕ → ℕ → Type 0
-GivesBoth job a b = (word : List ℕ) × Reaches job a word × Reaches job b word
 
 -- the numbers of a meet stand for these sites and this store of the demand
 pub record StandsForMeet (d : DemandParts) (met : Met) (o base : Site) (s : StoreAt) : Type 0 where
@@ -66,6 +65,13 @@ pub record AreMeets (p : LinkedProgram) (q : Asked) (d : DemandParts) (mets : Li
   pub once : IsApart (numbers_of mets)
   pub rests : (i : ℕ) (met : Met) → slice_get mets i ≡ Some met → RestsOn p q d (take i mets) met
 
+-- the call system gives, at the cell of a node, the marks of the call strings under which an object of the site may be at the node, and no other word
+pub record SpellsCalls (p : LinkedProgram) (q : Asked) (d : DemandParts) (s : SolvedParts) (o : Site) (job : Job Reach) : Type 0 where
+  pub strings : (cell : ℕ) (n : Node) (word : List ℕ) (string : List Place) → IsCellOf d.nodes s.cells n cell → AreMarks s.places word string
+      → Reaches job cell word ↔ Calls p q o n string
+  pub marked : (n : Node) (string : List Place) → Calls p q o n string → (word : List ℕ) × AreMarks s.places word string
+  pub spelt : (cell : ℕ) (word : List ℕ) → Reaches job cell word → (string : List Place) × AreMarks s.places word string
+
 -- these are the cells of the demand, its meets, its answers, and the call systems of its sites
 pub record IsSolved (p : LinkedProgram) (q : Asked) (d : DemandParts) (s : SolvedParts) : Type 0 where
   pub cells : AreCells p q d.nodes s.cells
@@ -73,6 +79,4 @@ pub record IsSolved (p : LinkedProgram) (q : Asked) (d : DemandParts) (s : Solve
   pub numbered : (m : Numbers) (o base : Site) (store : StoreAt) → slice_get d.sites m.object ≡ Some o → slice_get d.sites m.base ≡ Some base
       → slice_get d.stores m.store ≡ Some store → Has (numbers_of s.mets) m ↔ Meets p q o base store
   pub held : (h : Held) (o : Site) (n : Node) → slice_get d.sites h.site ≡ Some o → IsCellOf d.nodes s.cells n h.cell → Has s.held h ↔ IsAnswered p q n o
-  pub calls : (site : ℕ) (o : Site) → slice_get d.sites site ≡ Some o → (job : Job Reach) × (slice_get s.calls site ≡ Some job)
-      × ((a b : ℕ) (n m : Node) → IsCellOf d.nodes s.cells n a → IsCellOf d.nodes s.cells m b
-      → GivesBoth job a b ↔ ((string : List Place) × Calls p q o n string × Calls p q o m string))
+  pub calls : (site : ℕ) (o : Site) → slice_get d.sites site ≡ Some o → (job : Job Reach) × (slice_get s.calls site ≡ Some job) × SpellsCalls p q d s o job

@@ -39,6 +39,7 @@ impl Model for Solved {
 
     ghost view = { λ s. record {
       cells = s.parts.cells.items;
+      places = s.parts.places;
       calls = map (λ t. t.calls) s.tables.items;
       mets = s.mets;
       held = s.answers;
@@ -57,7 +58,7 @@ impl Solved {
         size: Size,
     ) -> Self
         requires { AreOfBases parts.bases tables.items }
-        ensures { result ≡ record { cells = parts.cells.items; calls = map (λ t. t.calls) tables.items; mets = mets; held = answers } }
+        ensures { result ≡ record { cells = parts.cells.items; places = parts.places; calls = map (λ t. t.calls) tables.items; mets = mets; held = answers } }
     {
         Solved {
             parts,

@@ -10,7 +10,7 @@ use Rattle.call_side.proofs.Order.{ComesBefore-irreflexive, ordered_at}
 use Rattle.jim_ast.specs.Lists.{IsApart}
 use Rattle.link_rules.specs.Linked.{LinkedProgram}
 use Rattle.link_sites.specs.declared.site.Site.{Site}
-use Rattle.link_sites.specs.declared.site.Site.TheVariants.{New, Raised, Text, Class}
+use Rattle.link_sites.specs.declared.site.Site.TheVariants.{New, Nested, Raised, Text, Class}
 use Rattle.link_sites.specs.Sites.{IsTextBefore, Precedes}
 
 not_less : (o : Ordering) → o ≡ ordering_reverse o → o ≡ Less → ⊥
@@ -24,6 +24,7 @@ text_once texts a h =
 -- no site precedes itself
 Precedes-irreflexive : (p : LinkedProgram) (s : Site) → Precedes p s s → ⊥
 Precedes-irreflexive p (New a) h = ComesBefore-irreflexive a h
+Precedes-irreflexive p (Nested a level) h = elim h [ inl x ↦ ComesBefore-irreflexive a x | inr x ↦ (let less : level < level = x.1 in absurd (omega arith)) ]
 Precedes-irreflexive p (Raised a kind) h = elim h [ inl x ↦ ComesBefore-irreflexive a x | inr x ↦ (let less : kind < kind = x.1 in absurd (omega arith)) ]
 Precedes-irreflexive p (Text a) h = text_once p.texts a h
 Precedes-irreflexive p (Class a) h = text_once p.class_texts a h

@@ -217,6 +217,10 @@ module _ (p : LinkedProgram) (q : Asked) (names : Names) (are : AreNames p q nam
     given_reached (FromStarts.pop {a} {b} {call} {string} e c) =
         let h = given_reached c in pop_reached a b call string h.word e h.marks h.reached
 
+    -- what is given has marks
+    pub given_marks : (n : Node) (string : List Place) → FromStarts p q Begins n string → (word : List ℕ) × AreMarks names.calls word string
+    given_marks n string c = let h = given_reached c in (h.word, h.marks)
+
     -- the system derives the marks of a string at the cell of a node exactly where edges give it at the node from the start nodes
     pub calls_exact : (cell : ℕ) (n : Node) (word : List ℕ) (string : List Place) → HasCell names n cell → AreMarks names.calls word string
         → Reaches job cell word ↔ FromStarts p q Begins n string

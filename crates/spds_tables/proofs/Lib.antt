@@ -8,3 +8,4 @@ pub mod Exact
 pub mod Ascending
 pub mod Made
 pub mod Arriving
+pub mod SideBySide

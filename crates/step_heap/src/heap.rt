@@ -1,6 +1,6 @@
 //! The heap of a run.
 ghost use Rattle.std.specs.Prelude.{◌≡◌, ◌<◌, ◌^◌, ◌++◌, ◌∷◌, [], OnErr, OnOk, Some, length, slice_get};
-ghost use Rattle.step_heap.specs.Heaps.{IsWritten};
+ghost use Rattle.step_heap.specs.Heaps.{IsHeld, IsWritten};
 ghost use Rattle.step_rules.specs.States.{new_object};
 
 use super::object::Object;
@@ -60,6 +60,27 @@ impl Heap {
             return Err(AllocError);
         }
         self.objects.push(Object::new(alloc, site, class))?;
+        Ok(())
+    }
+
+    /// Puts an object last, and writes it into an array as an element. Where there is no memory for both, the heap is as before.
+    pub fn push_into(
+        &mut self,
+        alloc: Global,
+        array: u32,
+        site: Site,
+        class: u32,
+    ) -> Result<(), AllocError>
+        requires { array < length self.old }
+        ensures ok { OnOk result (IsHeld self.old array site class self.new) }
+        ensures err { OnErr result (self.new ≡ self.old) }
+    {
+        let number = self.len();
+        self.push(alloc, site, class)?;
+        if let Err(error) = self.write(array, 0, Value::Object(number)) {
+            self.objects.pop();
+            return Err(error);
+        }
         Ok(())
     }
 

@@ -8,6 +8,3 @@ mod object;
 
 pub use heap::Heap;
 pub use object::Object;
-
-#[cfg(test)]
-mod tests;

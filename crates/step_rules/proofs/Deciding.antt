@@ -1,5 +1,5 @@
 -- What the machine's table asks is decided.
-use Rattle.std.proofs.Common.{◌≡◌, ℕ, zero, suc, ◌<◌, ◌≤◌, ◌⊎◌, Option, Some, None, Bool, true, false, List, [], ◌∷◌, length, slice_get, refl, subst, inl, inr, arith}
+use Rattle.std.proofs.Common.{◌≡◌, ℕ, zero, suc, ◌+◌, ◌<◌, ◌≤◌, ◌⊎◌, Option, Some, None, Bool, true, false, List, [], ◌∷◌, length, slice_get, refl, subst, inl, inr, arith}
 use Rattle.std.proofs.lemmas.Bool.{cases_eq, cases_lt}
 use Rattle.class_tree.proofs.Decided.{IsDecided, anywhere_decided, both_decided, resolve_decided, same_decided, sub_decided, there_decided}
 use Rattle.class_tree.specs.Lookups.{Resolve}
@@ -9,13 +9,14 @@ use Rattle.jim_ast.proofs.Places.{slice_get-below}
 use Rattle.link_program.specs.Accessed.{field_class}
 use Rattle.link_rules.specs.declared.code.Catch.{Catch}
 use Rattle.link_rules.specs.declared.code.Code.{Code}
-use Rattle.link_rules.specs.declared.code.Code.TheVariants.{NewArray}
+use Rattle.link_rules.specs.declared.code.Code.TheVariants.{NewArray, NewMulti}
 use Rattle.link_rules.specs.Flow.{CoversPlace}
 use Rattle.link_rules.specs.Linked.{LinkedMethod, LinkedProgram}
+use Rattle.link_rules.specs.WellLinked.{MakesArrays}
 use Rattle.link_sites.specs.declared.site.Site.{Site}
 use Rattle.link_sites.specs.declared.site.Site.TheVariants as site
 use Rattle.link_sites.specs.Places.{HasCode}
-use Rattle.link_sites.specs.Sites.{HasDeclared, IsArraySite, MakesArrays}
+use Rattle.link_sites.specs.Sites.{HasDeclared, HasLevel, IsArraySite, IsInnerSite}
 use Rattle.step_rules.specs.Offers.{Finds, MayCatch}
 
 -- the least number with a decided fact, or none of those below a bound
@@ -57,9 +58,14 @@ raised_decided : (raised : Bool) → IsDecided (raised ≡ false)
 raised_decided true = inr (λ e. cc)
 raised_decided false = inl refl
 
-makes_arrays_decided : (c : Code) → IsDecided (MakesArrays c)
-makes_arrays_decided (NewArray to) = inl tt
-makes_arrays_decided c = inr (λ h. h)
+makes_array_decided : (c : Code) → IsDecided (MakesArrays c)
+makes_array_decided (NewArray to) = inl tt
+makes_array_decided (NewMulti to levels) = inl tt
+makes_array_decided c = inr (λ h. h)
+
+level_decided : (level : ℕ) (c : Code) → IsDecided (HasLevel level c)
+level_decided level (NewMulti to levels) = both_decided (less_decided 0 level) (less_decided level levels)
+level_decided level c = inr (λ h. h)
 
 module _ (p : LinkedProgram) where
   -- whether a statement with the fact stands at an index of a method
@@ -71,10 +77,22 @@ module _ (p : LinkedProgram) where
 
   -- whether the objects of a site are arrays
   pub array_decided : (s : Site) → IsDecided (IsArraySite p s)
-  array_decided (site.New place) = both_decided (raised_decided place.raised) (code_decided MakesArrays makes_arrays_decided place.method place.index)
+  array_decided (site.New place) = both_decided (raised_decided place.raised) (code_decided MakesArrays makes_array_decided place.method place.index)
+  array_decided (site.Nested place level) =
+      both_decided (raised_decided place.raised) (code_decided (HasLevel level) (level_decided level) place.method place.index)
   array_decided (site.Raised place kind) = inr (λ h. h)
   array_decided (site.Text i) = inr (λ h. h)
   array_decided (site.Class i) = inr (λ h. h)
+
+  -- whether arrays of a site hold arrays of another
+  pub inner_decided : (outer : Site) → IsDecided ((inner : Site) × IsInnerSite p outer inner)
+  inner_decided (site.New place) = same_decided (λ h. (site.Nested place 1, (h, refl))) (λ h. h.1.0)
+      (both_decided (raised_decided place.raised) (code_decided (HasLevel 1) (level_decided 1) place.method place.index))
+  inner_decided (site.Nested place level) = same_decided (λ h. (site.Nested place (level + 1), (h, refl))) (λ h. h.1.0)
+      (both_decided (raised_decided place.raised) (code_decided (HasLevel (level + 1)) (level_decided (level + 1)) place.method place.index))
+  inner_decided (site.Raised place kind) = inr (λ h. h.1)
+  inner_decided (site.Text i) = inr (λ h. h.1)
+  inner_decided (site.Class i) = inr (λ h. h.1)
 
   -- whether objects of a class have a field
   pub declared_decided : (class field : ℕ) → IsDecided (HasDeclared p class field)

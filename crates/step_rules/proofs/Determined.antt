@@ -1,5 +1,5 @@
 -- What a state offers, and so the step of a choice, is determined.
-use Rattle.std.proofs.Common.{◌≡◌, ℕ, ◌+◌, ◌<◌, List, [], ◌∷◌, ◌++◌, Option, Some, None, Bool, true, false, length, map, slice_get, refl, sym, ap, ◌∙◌, subst, arith, inl, inr}
+use Rattle.std.proofs.Common.{◌≡◌, ℕ, ◌+◌, ◌<◌, ◌⊎◌, List, [], ◌∷◌, ◌++◌, Option, Some, None, Bool, true, false, length, map, slice_get, refl, sym, ap, ◌∙◌, subst, arith, inl, inr}
 use Rattle.std.proofs.lemmas.Bool.{cases_order}
 use Rattle.std.proofs.lemmas.Option.{get_or_from_slice_get}
 use Rattle.class_tree.proofs.Selected.{selection_one}
@@ -9,19 +9,21 @@ use Rattle.jim_ast.specs.declared.syntax.Mode.{Mode}
 use Rattle.jim_ast.specs.declared.syntax.Mode.TheVariants.{Special, Virtual, Interface, Static}
 use Rattle.link_rules.specs.declared.code.Catch.{Catch}
 use Rattle.link_rules.specs.declared.code.Code.{Code}
-use Rattle.link_rules.specs.declared.code.Code.TheVariants.{This, Param, Caught, Copy, Cast, New, NewArray, Numeric, Length, Load, Store, LoadCell, StoreCell, LoadStatic, StoreStatic, Call, If, Goto, Switch, Return, Throw, Monitor, Skip}
+use Rattle.link_rules.specs.declared.code.Code.TheVariants.{This, Param, Caught, Copy, Cast, New, NewArray, NewMulti, Numeric, Length, Load, Store, LoadCell, StoreCell, LoadStatic, StoreStatic, Call, If, Goto, Switch, Return, Throw, Monitor, Skip}
 use Rattle.link_rules.specs.Lists.{AreIncreasing}
 use Rattle.link_rules.specs.Targets.{exception_names}
 use Rattle.link_program.specs.Classes.{names_of}
 use Rattle.link_rules.specs.Linked.{LinkedMethod, LinkedProgram}
 use Rattle.link_rules.specs.WellLinked.{IsInForm}
+use Rattle.link_sites.specs.declared.site.Site.{Site}
+use Rattle.link_sites.specs.declared.site.Site.TheVariants as site
 use Rattle.link_sites.specs.Places.{CodeAt, HasCode}
-use Rattle.link_sites.specs.Sites.{HasDeclared, IsArraySite, IsClassOfRaised, IsNamedClass}
+use Rattle.link_sites.specs.Sites.{HasDeclared, IsArraySite, IsClassOfRaised, IsInnerSite, IsNamedClass}
 use Rattle.step_rules.specs.declared.parts.Value.{Value}
 use Rattle.step_rules.specs.declared.parts.Value.TheVariants.{Null, Number, Object}
 use Rattle.step_rules.specs.Effects as effect
-use Rattle.step_rules.specs.Effects.{Effect, is_ill_typed, raises, throws, goes, gets, makes, writes, sets, returns, leaves}
-use Rattle.step_rules.specs.Offers.{AtObject, CallsWith, Enters, EntersBelow, EntersBy, Finds, IsCaughtAt, MayCatch, Offers, OffersBy, Only, Row, Unwinds, UnwindsAt, Where, WithObject, WithValue}
+use Rattle.step_rules.specs.Effects.{Effect, is_ill_typed, raises, throws, goes, gets, makes, nests, writes, sets, returns, leaves}
+use Rattle.step_rules.specs.Offers.{AtObject, CallsWith, Enters, EntersBelow, EntersBy, Finds, FindsElement, IsCaughtAt, MakesArray, MayCatch, Nests, Offers, OffersBy, Only, Row, Unwinds, UnwindsAt, Where, WithObject, WithValue}
 use Rattle.step_rules.specs.Slots.{cells, field_of, local_of, operand_of, operands_of}
 use Rattle.step_rules.specs.States.{Frame, HeapObject, Point, State, state_of, under}
 use Rattle.step_rules.specs.Laws.{StepIsDetermined}
@@ -125,6 +127,35 @@ module _ (p : LinkedProgram) (at : Point) (form : IsInForm p) where
       → WithValue source (λ v. WithObject v R) a → WithValue source (λ v. WithObject v R) b → a ≡ b
   on_object_one source R a b one x y = with_value_one source (λ v. WithObject v R) a b (λ v h k. with_object_one v R a b one h k) x y
 
+  array_one : (to : ℕ) (a b : List Effect) → MakesArray p to a → MakesArray p to b → a ≡ b
+  array_one to a b x y = let same = least_one _ x.0 y.0 x.1 y.1 in x.2 ∙ rw same (sym y.2)
+
+  -- arrays of a site hold arrays of one other
+  inner_one : (outer a b : Site) → IsInnerSite p outer a → IsInnerSite p outer b → a ≡ b
+  inner_one (site.New place) a b x y = x.1 ∙ sym y.1
+  inner_one (site.Nested place level) a b x y = x.1 ∙ sym y.1
+  inner_one (site.Raised place kind) a b x y = absurd x
+  inner_one (site.Text number) a b x y = absurd x
+  inner_one (site.Class number) a b x y = absurd x
+
+  nests_one : (to o : ℕ) (outer : Site) (a b : List Effect) → Nests p to o outer a → Nests p to o outer b → a ≡ b
+  nests_one to o outer a b x y = elim x [
+    | inl h ↦ elim y [
+      | inl k ↦ let inner = inner_one outer h.0 k.0 h.2 k.2 in let class = least_one _ h.1 k.1 h.3 k.3 in h.4 ∙ rw (inner, class) (sym k.4)
+      | inr k ↦ absurd (k.0 h.0 h.2)
+    ]
+    | inr h ↦ elim y [ inl k ↦ absurd (h.0 k.0 k.2) | inr k ↦ h.1 ∙ sym k.1 ]
+  ]
+
+  cell_one : (to o : ℕ) (object : HeapObject) (a b : List Effect) → FindsElement p to o object a → FindsElement p to o object b → a ≡ b
+  cell_one to o object a b x y = elim x [
+    | inl h ↦ elim y [
+      | inl k ↦ let f = h.1 in let g = k.1 in let more = nests_one to o object.site f.0 g.0 f.1 g.1 in f.2 ∙ rw more (sym g.2)
+      | inr k ↦ absurd (k.0 h.0)
+    ]
+    | inr h ↦ elim y [ inl k ↦ absurd (h.0 k.0) | inr k ↦ only_one (is_ill_typed ∷ []) a b h.1 k.1 ]
+  ]
+
   row_one : (code : Code) (a b : List Effect) → Row p at code a → Row p at code b → a ≡ b
   row_one (This to) a b x y = with_value_one at.top.this _ a b (λ v h k. only_one (gets to v ∷ []) a b h k) x y
   row_one (Param to number) a b x y = with_value_one (slice_get at.top.params number) _ a b (λ v h k. only_one (gets to v ∷ []) a b h k) x y
@@ -132,7 +163,8 @@ module _ (p : LinkedProgram) (at : Point) (form : IsInForm p) where
   row_one (Copy to c) a b x y = with_value_one (operand_of p at.top c) _ a b (λ v h k. only_one (gets to v ∷ []) a b h k) x y
   row_one (Cast to c) a b x y = with_value_one (operand_of p at.top c) _ a b (λ v h k. only_one (gets to v ∷ raises 4 ∷ []) a b h k) x y
   row_one (New to class) a b x y = only_one (makes to class ∷ []) a b x y
-  row_one (NewArray to) a b x y = let same = least_one _ x.0 y.0 x.1 y.1 in x.2 ∙ rw same (sym y.2)
+  row_one (NewArray to) a b x y = array_one to a b x y
+  row_one (NewMulti to levels) a b x y = array_one to a b x y
   row_one (Numeric to true) a b x y = only_one (gets to Number ∷ raises 5 ∷ []) a b x y
   row_one (Numeric to false) a b x y = only_one (gets to Number ∷ []) a b x y
   row_one (Length to c) a b x y = on_object_one (operand_of p at.top c) _ a b (λ o h k. only_one (gets to Number ∷ []) a b h k) x y
@@ -141,7 +173,7 @@ module _ (p : LinkedProgram) (at : Point) (form : IsInForm p) where
   row_one (Store base field c) a b x y = with_value_one (operand_of p at.top c) _ a b (λ v g f. on_object_one (local_of at.top base) _ a b (λ o h k.
       at_where_one at.heap o (λ object. HasDeclared p object.class field) (λ object. writes o field v ∷ []) a b h k) g f) x y
   row_one (LoadCell to base) a b x y = on_object_one (local_of at.top base) _ a b (λ o h k.
-      at_where_one at.heap o (λ object. IsArraySite p object.site) (λ object. gets to Null ∷ map (λ cell. gets to cell) (cells object) ++ raises 1 ∷ []) a b h k) x y
+      at_object_one at.heap o (FindsElement p to o) a b (λ object. cell_one to o object a b) h k) x y
   row_one (StoreCell base c) a b x y = with_value_one (operand_of p at.top c) _ a b (λ v g f. on_object_one (local_of at.top base) _ a b (λ o h k.
       at_where_one at.heap o (λ object. IsArraySite p object.site) (λ object. writes o 0 v ∷ raises 1 ∷ raises 2 ∷ []) a b h k) g f) x y
   row_one (LoadStatic to field) a b x y = let same = same_place at.statics field x.0 y.0 x.1 y.1 in x.2 ∙ rw same (sym y.2)
@@ -270,6 +302,7 @@ module _ (p : LinkedProgram) (at : Point) (new other : State) where
   becomes_one : (e : Effect) → Becomes p at e new → Becomes p at e other → new ≡ other
   becomes_one (effect.raises kind) x y = x.2 ∙ rw (raised_one p kind x.0 y.0 x.1 y.1) (sym y.2)
   becomes_one (effect.writes o field value) x y = x.2 ∙ rw (same_place at.heap o x.0 y.0 x.1 y.1) (sym y.2)
+  becomes_one (effect.nests to o inner class) x y = x.2 ∙ rw (same_place at.heap o x.0 y.0 x.1 y.1) (sym y.2)
   becomes_one (effect.returns value) x y = returns_one value x y
   becomes_one (effect.leaves o) x y = leaves_one o x y
   becomes_one _ x y = x ∙ sym y

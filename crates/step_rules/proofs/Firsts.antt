@@ -11,7 +11,7 @@ use Rattle.step_rules.specs.Runs.{IsFirstState, Run, begins, constants, steps}
 use Rattle.step_rules.specs.Shapes.{EachOf, FitsFrame, FitsObject, FitsValue, HasShape, Waits}
 use Rattle.step_rules.specs.States.{HeapObject, Point, State, new_frame, new_object}
 use Rattle.step_rules.proofs.Fitting.{new_fits, new_frame_fits}
-use Rattle.step_rules.proofs.Listing.{each_map, each_none, each_cons}
+use Rattle.step_rules.proofs.Listing.{each_append, each_cons, each_map, each_none}
 use Rattle.step_rules.proofs.Offering.{class_within}
 use Rattle.step_rules.proofs.Shaping.{step_fits}
 
@@ -22,10 +22,6 @@ length-range a (suc n) = ap suc (length-range (a + 1) n)
 -- as many objects as constants
 pub length-constants : (site_of : ℕ → Site) (class n : ℕ) → length (constants site_of class n) ≡ n
 length-constants site_of class n = length-map (range_with_len 0 n) (λ i. new_object (site_of i) class) ∙ length-range 0 n
-
-each_append : {X : Type 0} (P : X → Type 0) (xs ys : List X) → EachOf P xs → EachOf P ys → EachOf P (xs ++ ys)
-each_append P [] ys a b = b
-each_append P (x ∷ xs) ys a b = each_cons P x (xs ++ ys) (a zero x refl) (each_append P xs ys (λ i y e. a (suc i) y e) b)
 
 constants_fit : (p : LinkedProgram) (k : ℕ) (site_of : ℕ → Site) (class n : ℕ) → class < length p.classes → EachOf (FitsObject p k) (constants site_of class n)
 constants_fit p k site_of class n below =

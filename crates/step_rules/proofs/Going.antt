@@ -6,22 +6,23 @@ use Rattle.jim_ast.specs.declared.syntax.Mode.{Mode}
 use Rattle.jim_ast.specs.declared.syntax.Mode.TheVariants.{Special, Virtual, Interface, Static}
 use Rattle.link_program.specs.Classes.{names_of}
 use Rattle.link_rules.specs.declared.code.Code.{Code}
-use Rattle.link_rules.specs.declared.code.Code.TheVariants.{This, Param, Caught, Copy, Cast, New, NewArray, Numeric, Length, Load, Store, LoadCell, StoreCell, LoadStatic, StoreStatic, Call, If, Goto, Switch, Return, Throw, Monitor, Skip}
+use Rattle.link_rules.specs.declared.code.Code.TheVariants.{This, Param, Caught, Copy, Cast, New, NewArray, NewMulti, Numeric, Length, Load, Store, LoadCell, StoreCell, LoadStatic, StoreStatic, Call, If, Goto, Switch, Return, Throw, Monitor, Skip}
 use Rattle.link_rules.specs.Linked.{LinkedClass, LinkedMethod, LinkedProgram}
 use Rattle.link_rules.specs.Targets.{exception_names, nine_names}
 use Rattle.link_rules.specs.WellLinked.{FitsCode, FitsMethod, HasClass, IsInForm}
+use Rattle.link_sites.specs.declared.site.Site.{Site}
 use Rattle.link_sites.specs.Sites.{IsClassOfRaised, IsNamedClass}
 use Rattle.step_rules.specs.declared.parts.Slot.TheVariants as slot
 use Rattle.step_rules.specs.declared.parts.Value.{Value}
 use Rattle.step_rules.specs.declared.parts.Value.TheVariants.{Null, Number, Object}
-use Rattle.step_rules.specs.Effects.{Effect, is_ill_typed, raises, throws, goes, gets, makes, writes, sets, calls, returns, handles, leaves}
+use Rattle.step_rules.specs.Effects.{Effect, is_ill_typed, raises, throws, goes, gets, makes, nests, writes, sets, calls, returns, handles, leaves}
 use Rattle.step_rules.specs.Laws.{HasSteps, RunsBegin, RunsGoOn}
-use Rattle.step_rules.specs.Offers.{AtObject, CallsWith, Enters, EntersBelow, EntersBy, IllTyped, Offers, OffersBy, Only, Row, Unwinds, UnwindsAt, Where, WithObject, WithValue}
+use Rattle.step_rules.specs.Offers.{AtObject, CallsWith, Enters, EntersBelow, EntersBy, FindsElement, IllTyped, MakesArray, Nests, Offers, OffersBy, Only, Row, Unwinds, UnwindsAt, Where, WithObject, WithValue}
 use Rattle.step_rules.specs.Shapes.{FitsEffect, FitsPoint, FitsSlot, FitsValue, HasShapeBy, IsCall, IsInFlight, EachOf, Waits}
 use Rattle.step_rules.specs.Slots.{cells, field_of, local_of, operand_of, operands_of}
 use Rattle.step_rules.specs.States.{Frame, HeapObject, Point, State, new_frame, running, state_of, under}
 use Rattle.step_rules.specs.Steps.{Becomes, ReceivesAt}
-use Rattle.step_rules.proofs.Deciding.{array_decided, declared_decided, finds_decided, first_handler, least_of, same_text_decided}
+use Rattle.step_rules.proofs.Deciding.{array_decided, declared_decided, finds_decided, first_handler, inner_decided, least_of, same_text_decided}
 use Rattle.step_rules.proofs.Firsts.{run_fits}
 use Rattle.step_rules.proofs.Fitting.{operand_fits}
 use Rattle.step_rules.proofs.Listing.{at_all, each_last}
@@ -120,6 +121,25 @@ module _ (p : LinkedProgram) (at : Point) (form : IsInForm p) (fits : FitsPoint 
     now : (code : Code) → slice_get m.code at.top.index ≡ Some code → FitsCode p m code
     now code here = at_all (FitsCode p m) m.code at.top.index code (at_all (FitsMethod p) p.methods at.top.method m form.methods there).codes here
 
+    -- an array
+    array_met : (to : ℕ) → IsMet (MakesArray p to)
+    array_met to = let class = named p form 0 _ refl in (makes to class.0 ∷ raises 3 ∷ [], (class.0, class.1, refl), omega arith)
+
+    -- an array of an inner level, or none
+    nests_met : (to o : ℕ) (outer : Site) → (more : List Effect) × Nests p to o outer more
+    nests_met to o outer = elim (inner_decided p outer) [
+      | inl h ↦ let class = named p form 0 _ refl in (nests to o h.0 class.0 ∷ [], inl (h.0, class.0, h.1, class.1, refl))
+      | inr none ↦ ([], inr ((λ inner h. none (inner, h)), refl))
+    ]
+
+    -- an element of an array
+    cell_met : (to o : ℕ) (object : HeapObject) → IsMet (FindsElement p to o object)
+    cell_met to o object = elim (array_decided p object.site) [
+      | inl is ↦ let more = nests_met to o object.site in
+          (gets to Null ∷ map (λ cell. gets to cell) (cells object) ++ raises 1 ∷ more.0, inl (is, (more.0, more.1, refl)), omega arith)
+      | inr other ↦ (is_ill_typed ∷ [], inr (other, refl), omega arith)
+    ]
+
     -- each row of the table
     row_met : (code : Code) → slice_get m.code at.top.index ≡ Some code → IsMet (Row p at code)
     row_met (This to) here = value_met at.top.this _ (λ v is. these (gets to v) [])
@@ -128,7 +148,8 @@ module _ (p : LinkedProgram) (at : Point) (form : IsInForm p) (fits : FitsPoint 
     row_met (Copy to a) here = value_met (operand_of p at.top a) _ (λ v is. these (gets to v) [])
     row_met (Cast to a) here = value_met (operand_of p at.top a) _ (λ v is. these (gets to v) (raises 4 ∷ []))
     row_met (New to class) here = these (makes to class) []
-    row_met (NewArray to) here = let class = named p form 0 _ refl in (makes to class.0 ∷ raises 3 ∷ [], (class.0, class.1, refl), omega arith)
+    row_met (NewArray to) here = array_met to
+    row_met (NewMulti to levels) here = array_met to
     row_met (Numeric to true) here = these (gets to Number) (raises 5 ∷ [])
     row_met (Numeric to false) here = these (gets to Number) []
     row_met (Length to a) here =
@@ -141,8 +162,7 @@ module _ (p : LinkedProgram) (at : Point) (form : IsInForm p) (fits : FitsPoint 
         heap_met at.heap o _ below (λ object. where_met _ (writes o field v) [] (declared_decided p object.class field))))
     row_met (LoadCell to base) here =
         slot_met (length at.heap) (local_of at.top base) _ (fits.top.holds (slot.Local base)) (λ o below.
-        heap_met at.heap o _ below (λ object.
-        where_met _ (gets to Null) (map (λ cell. gets to cell) (cells object) ++ raises 1 ∷ []) (array_decided p object.site)))
+        heap_met at.heap o _ below (λ object. cell_met to o object))
     row_met (StoreCell base a) here = value_met (operand_of p at.top a) _ (λ v is.
         slot_met (length at.heap) (local_of at.top base) _ (fits.top.holds (slot.Local base)) (λ o below.
         heap_met at.heap o _ below (λ object. where_met _ (writes o 0 v) (raises 1 ∷ raises 2 ∷ []) (array_decided p object.site))))
@@ -220,6 +240,7 @@ module _ (p : LinkedProgram) (at : Point) (form : IsInForm p) (fits : FitsPoint 
   becomes_met (goes index) f = (_, refl)
   becomes_met (gets to value) f = (_, refl)
   becomes_met (makes to class) f = (_, refl)
+  becomes_met (nests to o inner class) f = let outer = slice_get-there at.heap o f.2 in (_, (outer.0, outer.1, refl))
   becomes_met (writes o field value) f = let object = slice_get-there at.heap o f.1 in (_, (object.0, object.1, refl))
   becomes_met (sets field value) f = (_, refl)
   becomes_met (calls frame) f = (_, refl)

@@ -45,6 +45,10 @@ module _ {X : Type 0} (P : X → Type 0) where
   at_all xs i x all e = subst P (get_or_from_slice_get xs i x x e) (all i x (slice_get-below xs i x e))
 
 -- what a function gives of each element
+pub each_append : {X : Type 0} (P : X → Type 0) (xs ys : List X) → EachOf P xs → EachOf P ys → EachOf P (xs ++ ys)
+each_append P [] ys a b = b
+each_append P (x ∷ xs) ys a b = each_cons P x (xs ++ ys) (a zero x refl) (each_append P xs ys (λ i y e. a (suc i) y e) b)
+
 pub each_map : {X Y : Type 0} (P : Y → Type 0) (f : X → Y) (xs : List X) → EachOf (λ x. P (f x)) xs → EachOf P (map f xs)
 each_map P f [] each = each_none P
 each_map P f (x ∷ xs) each = each_cons P (f x) (map f xs) (each zero x refl) (each_map P f xs (λ i y e. each (suc i) y e))

@@ -7,21 +7,22 @@ use Rattle.jim_ast.specs.declared.syntax.Mode.TheVariants.{Special, Virtual, Int
 use Rattle.link_program.specs.Classes.{names_of}
 use Rattle.link_rules.specs.declared.code.Catch.{Catch}
 use Rattle.link_rules.specs.declared.code.Code.{Code}
-use Rattle.link_rules.specs.declared.code.Code.TheVariants.{This, Param, Caught, Copy, Cast, New, NewArray, Numeric, Length, Load, Store, LoadCell, StoreCell, LoadStatic, StoreStatic, Call, If, Goto, Switch, Return, Throw, Monitor, Skip}
+use Rattle.link_rules.specs.declared.code.Code.TheVariants.{This, Param, Caught, Copy, Cast, New, NewArray, NewMulti, Numeric, Length, Load, Store, LoadCell, StoreCell, LoadStatic, StoreStatic, Call, If, Goto, Switch, Return, Throw, Monitor, Skip}
 use Rattle.link_rules.specs.Flow.{Next}
 use Rattle.link_rules.specs.Linked.{LinkedMethod, LinkedProgram}
 use Rattle.link_rules.specs.WellLinked.{FitsArg, FitsCatch, FitsCode, FitsMethod, IsInForm}
+use Rattle.link_sites.specs.declared.site.Site.{Site}
 use Rattle.link_sites.specs.Sites.{IsNamedClass}
 use Rattle.step_rules.specs.declared.parts.Slot.TheVariants as slot
 use Rattle.step_rules.specs.declared.parts.Value.{Value}
 use Rattle.step_rules.specs.declared.parts.Value.TheVariants.{Null, Number, Object}
-use Rattle.step_rules.specs.Effects.{Effect, is_ill_typed, raises, throws, goes, gets, makes, writes, sets, calls, returns, handles, leaves}
-use Rattle.step_rules.specs.Offers.{CallsWith, Enters, EntersBelow, EntersBy, IllTyped, Offers, OffersBy, Only, Row, Unwinds, UnwindsAt, Where, WithObject, WithValue}
+use Rattle.step_rules.specs.Effects.{Effect, is_ill_typed, raises, throws, goes, gets, makes, nests, writes, sets, calls, returns, handles, leaves}
+use Rattle.step_rules.specs.Offers.{CallsWith, Enters, EntersBelow, EntersBy, IllTyped, MakesArray, Nests, Offers, OffersBy, Only, Row, Unwinds, UnwindsAt, Where, WithObject, WithValue}
 use Rattle.step_rules.specs.Shapes.{EachOf, FitsEffect, FitsPoint, FitsSlot, FitsValue, GoesIn, GoesOn, Waits}
 use Rattle.step_rules.specs.Slots.{cells, field_of, local_of, operand_of, operands_of}
 use Rattle.step_rules.specs.States.{HeapObject, Point, new_frame}
 use Rattle.step_rules.proofs.Fitting.{field_fits, new_frame_fits, operand_fits, operands_fit}
-use Rattle.step_rules.proofs.Listing.{at_all, each_cons, each_map, each_none, each_one, each_push, same_place}
+use Rattle.step_rules.proofs.Listing.{at_all, each_append, each_cons, each_map, each_none, each_one, each_push, same_place}
 
 -- a named class is one of the classes
 pub class_within : (p : LinkedProgram) (name : List ℕ) (class : ℕ) → IsNamedClass p name class → class < length p.classes
@@ -134,6 +135,19 @@ module _ (p : LinkedProgram) (at : Point) (form : IsInForm p) (fits : FitsPoint 
     raising : (k : ℕ) → k < 6 → AllFit (raises k ∷ [])
     raising k h = each_one Fits (raises k) h
 
+    -- an array
+    array_made : (to : ℕ) (offered : List Effect) → GoesOn p at → to < length at.top.locals → MakesArray p to offered → AllFit offered
+    array_made to offered next below w = only (makes to w.0 ∷ raises 3 ∷ []) offered
+        (each_cons Fits (makes to w.0) (raises 3 ∷ []) (next, below, class_within p _ w.0 w.1) (raising 3 (omega arith))) w.2
+
+    -- an array of an inner level, if there is one
+    nested_fits : (to o : ℕ) (outer : Site) (more : List Effect) → GoesOn p at → to < length at.top.locals → o < length at.heap → Nests p to o outer more
+        → AllFit more
+    nested_fits to o outer more next local below w = elim w [
+      | inl h ↦ one (nests to o h.0 h.1) more (next, local, below, class_within p _ h.1 h.3) h.4
+      | inr h ↦ only [] more (each_none Fits) h.1
+    ]
+
     pub row_fits : (code : Code) (here : slice_get m.code at.top.index ≡ Some code) (offered : List Effect) → Row p at code offered → AllFit offered
     row_fits (This to) here offered w = let f = now (This to) here in
         assigned m there (This to) here to at.top.this [] offered (after (This to) here refl) (local to f.0) (each_none Fits) (fits.top.holds slot.This) w
@@ -150,9 +164,8 @@ module _ (p : LinkedProgram) (at : Point) (form : IsInForm p) (fits : FitsPoint 
         (raising 4 (omega arith)) (operand_fits p at fits m a f.1) w
     row_fits (New to class) here offered w = let f = now (New to class) here in
         one (makes to class) offered (after (New to class) here refl, local to f.0, f.1) w
-    row_fits (NewArray to) here offered w = let f = now (NewArray to) here in
-        only (makes to w.0 ∷ raises 3 ∷ []) offered
-        (each_cons Fits (makes to w.0) (raises 3 ∷ []) (after (NewArray to) here refl, local to f, class_within p _ w.0 w.1) (raising 3 (omega arith))) w.2
+    row_fits (NewArray to) here offered w = array_made to offered (after (NewArray to) here refl) (local to (now (NewArray to) here)) w
+    row_fits (NewMulti to levels) here offered w = array_made to offered (after (NewMulti to levels) here refl) (local to (now (NewMulti to levels) here).0) w
     row_fits (Numeric to true) here offered w = let f = now (Numeric to true) here in
         only (gets to Number ∷ raises 5 ∷ []) offered
         (each_cons Fits (gets to Number) (raises 5 ∷ []) (after (Numeric to true) here refl, local to f, tt) (raising 5 (omega arith))) w
@@ -171,12 +184,17 @@ module _ (p : LinkedProgram) (at : Point) (form : IsInForm p) (fits : FitsPoint 
         (λ o below x. where_so _ (writes o field v ∷ []) offered (each_one Fits (writes o field v) (after (Store base field a) here refl, below, k)) x.2))
     row_fits (LoadCell to base) here offered w = let f = now (LoadCell to base) here in
         on_object (local_of at.top base) _ offered (fits.top.holds (slot.Local base)) w
-        (λ o below x. where_so _ (gets to Null ∷ map (λ cell. gets to cell) (cells x.0) ++ raises 1 ∷ []) offered
-        (each_push Fits (gets to Null ∷ map (λ cell. gets to cell) (cells x.0)) (raises 1)
-        (each_cons Fits (gets to Null) (map (λ cell. gets to cell) (cells x.0)) (after (LoadCell to base) here refl, local to f.0, tt)
-        (each_map Fits (λ cell. gets to cell) (cells x.0)
-        (λ i v e. (after (LoadCell to base) here refl, local to f.0, (fits.objects o x.0 x.1).values 0 i v e))))
-        (omega arith)) x.2)
+        (λ o below x. elim x.2 [
+          | inl h ↦ let found = h.1 in
+              only (gets to Null ∷ map (λ cell. gets to cell) (cells x.0) ++ raises 1 ∷ found.0) offered
+              (each_append Fits (gets to Null ∷ map (λ cell. gets to cell) (cells x.0)) (raises 1 ∷ found.0)
+              (each_cons Fits (gets to Null) (map (λ cell. gets to cell) (cells x.0)) (after (LoadCell to base) here refl, local to f.0, tt)
+              (each_map Fits (λ cell. gets to cell) (cells x.0)
+              (λ i v e. (after (LoadCell to base) here refl, local to f.0, (fits.objects o x.0 x.1).values 0 i v e))))
+              (each_cons Fits (raises 1) found.0 (omega arith)
+              (nested_fits to o x.0.site found.0 (after (LoadCell to base) here refl) (local to f.0) below found.1))) found.2
+          | inr h ↦ ill offered h.1
+        ])
     row_fits (StoreCell base a) here offered w = let f = now (StoreCell base a) here in
         with_value (operand_of p at.top a) _ offered (operand_fits p at fits m a f.1) w (λ v k y.
         on_object (local_of at.top base) _ offered (fits.top.holds (slot.Local base)) y

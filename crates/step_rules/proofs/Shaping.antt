@@ -18,7 +18,7 @@ use Rattle.step_rules.specs.Effects as effect
 use Rattle.step_rules.specs.Shapes.{EachOf, FitsEffect, FitsFrame, FitsObject, FitsPoint, FitsSlot, FitsValue, GoesIn, HasShape, HasShapeBy, Waits}
 use Rattle.step_rules.specs.Slots.{if_set, slot_of}
 use Rattle.step_rules.specs.States.{Ending, Frame, HeapObject, Point, State, ended, ill_typed, running, uncaught, allocates, catches, enters, gets, goes_on, goes_to, new_object, place_of, state_of, throws, under, written}
-use Rattle.step_rules.specs.Steps.{Becomes, Receives, ReceivesAt, Step, made, raised, with_object, with_static}
+use Rattle.step_rules.specs.Steps.{Becomes, Receives, ReceivesAt, Step, made, nested, raised, with_object, with_static}
 use Rattle.step_rules.proofs.Fitting.{frame_more, new_fits, object_more, value_more, written_fits}
 use Rattle.step_rules.proofs.Listing.{at_all, each_before, each_last, each_none, each_push, each_set, last_same, same_place}
 use Rattle.step_rules.proofs.Offering.{class_within, offers_fit}
@@ -235,6 +235,19 @@ module _ (p : LinkedProgram) where
         shape_of (made to class at) new
         (with_top (allocates object at) (record at.top { index = at.top.index + 1; locals = slice_set at.top.locals to (Some (Object (length at.heap))) }) grown
         (frame_gets p (length (at.heap ++ object ∷ [])) at.top (at.top.index + 1) to (Object (length at.heap)) grown.top f.0 f.1 (is_new at.heap object))) w
+    becomes_fit at (effect.nests to o inner class) new h f w =
+        let object : HeapObject = new_object inner class in
+        let grown = with_new at object class h refl refl f.3 in
+        let more : length at.heap ≤ length (at.heap ++ object ∷ []) = omega (arith, is_new at.heap object) in
+        let outer = object_more p (length at.heap) (length (at.heap ++ object ∷ [])) more w.0 (h.objects o w.0 w.1) in
+        let held = written w.0 0 (Object (length at.heap)) in
+        let other = with_other (allocates object at) o held grown
+        (written_fits p (length (at.heap ++ object ∷ [])) w.0 0 (Object (length at.heap)) outer (is_new at.heap object)) in
+        let count : length (slice_set (at.heap ++ object ∷ []) o held) ≡ length (at.heap ++ object ∷ []) = length-set (at.heap ++ object ∷ []) o held in
+        shape_of (nested to o w.0 inner class at) new
+        (with_top (with_object o held (allocates object at)) (record at.top { index = at.top.index + 1; locals = slice_set at.top.locals to (Some (Object (length at.heap))) }) other
+        (frame_gets p (length (slice_set (at.heap ++ object ∷ []) o held)) at.top (at.top.index + 1) to (Object (length at.heap)) other.top f.0 f.1
+        (omega (arith, count, is_new at.heap object)))) w.2
     becomes_fit at (effect.writes o field v) new h f w =
         let other = with_other at o (written w.0 field v) h (written_fits p (length at.heap) w.0 field v (h.objects o w.0 w.1) f.2) in
         shape_of (goes_on (with_object o (written w.0 field v) at)) new

@@ -1,5 +1,6 @@
 -- What a statement may do.
 use Rattle.std.specs.Prelude.{ℕ, Option}
+use Rattle.link_sites.specs.declared.site.Site.{Site}
 use Rattle.step_rules.specs.declared.parts.Value.{Value}
 use Rattle.step_rules.specs.States.{Frame}
 
@@ -17,6 +18,8 @@ pub data Effect : Type 0 where
   gets : ℕ → Value → Effect
   -- a new object of the class is made, and the local gets it
   makes : ℕ → ℕ → Effect
+  -- a new array of the site and the class is made and written into the array as an element, and the local gets it
+  nests : ℕ → ℕ → Site → ℕ → Effect
   -- the value is written into a field of the object
   writes : ℕ → ℕ → Value → Effect
   -- the static field gets the value

@@ -8,15 +8,16 @@ use Rattle.jim_ast.specs.declared.syntax.Mode.TheVariants.{Special, Virtual, Int
 use Rattle.link_rules.specs.declared.code.Arg.{Arg}
 use Rattle.link_rules.specs.declared.code.Catch.{Catch}
 use Rattle.link_rules.specs.declared.code.Code.{Code}
-use Rattle.link_rules.specs.declared.code.Code.TheVariants.{This, Param, Caught, Copy, Cast, New, NewArray, Numeric, Length, Load, Store, LoadCell, StoreCell, LoadStatic, StoreStatic, Call, If, Goto, Switch, Return, Throw, Monitor, Skip}
+use Rattle.link_rules.specs.declared.code.Code.TheVariants.{This, Param, Caught, Copy, Cast, New, NewArray, NewMulti, Numeric, Length, Load, Store, LoadCell, StoreCell, LoadStatic, StoreStatic, Call, If, Goto, Switch, Return, Throw, Monitor, Skip}
 use Rattle.link_rules.specs.Classes.{object_name}
 use Rattle.link_rules.specs.Flow.{CoversPlace}
 use Rattle.link_rules.specs.Linked.{LinkedMethod, LinkedProgram}
+use Rattle.link_sites.specs.declared.site.Site.{Site}
 use Rattle.link_sites.specs.Places.{HasCode}
-use Rattle.link_sites.specs.Sites.{HasDeclared, IsArraySite, IsNamedClass}
+use Rattle.link_sites.specs.Sites.{HasDeclared, IsArraySite, IsInnerSite, IsNamedClass}
 use Rattle.step_rules.specs.declared.parts.Value.{Value}
 use Rattle.step_rules.specs.declared.parts.Value.TheVariants.{Null, Number, Object}
-use Rattle.step_rules.specs.Effects.{Effect, is_ill_typed, raises, throws, goes, gets, makes, writes, sets, calls, returns, handles, leaves}
+use Rattle.step_rules.specs.Effects.{Effect, is_ill_typed, raises, throws, goes, gets, makes, nests, writes, sets, calls, returns, handles, leaves}
 use Rattle.step_rules.specs.Slots.{cells, field_of, local_of, operand_of, operands_of}
 use Rattle.step_rules.specs.States.{Frame, HeapObject, Point, new_frame}
 
@@ -55,7 +56,7 @@ Assigns to source = WithValue source (λ value. Only (gets to value ∷ []))
 abbrev pub Casts : ℕ → Option Value → List Effect → Type 0
 Casts to source = WithValue source (λ value. Only (gets to value ∷ raises 4 ∷ []))
 
--- an array, of which the class is `java.lang.Object`, or a negative size
+-- an array, of which the class is `java.lang.Object`, or a negative size. Of an array of arrays it is the outermost one
 abbrev pub MakesArray : LinkedProgram → ℕ → List Effect → Type 0
 MakesArray p to offered = (class : ℕ) × IsNamedClass p object_name class × Only (makes to class ∷ raises 3 ∷ []) offered
 
@@ -78,10 +79,25 @@ abbrev pub Stores : LinkedProgram → Point → ℕ → Option Value → Option 
 Stores p at field base source = WithValue source (λ stored. WithValue base (λ value. WithObject value (λ o. AtObject at.heap o (λ object.
     Where (HasDeclared p object.class field) (writes o field stored ∷ [])))))
 
--- null, or one of the elements of an array, or an index out of its bounds
+-- where arrays hold arrays of an inner level, one more such array may be found in it: inner arrays come to be when they are looked at
+abbrev pub Nests : LinkedProgram → ℕ → ℕ → Site → List Effect → Type 0
+Nests p to o outer offered =
+    ((inner : Site) × (class : ℕ) × IsInnerSite p outer inner × IsNamedClass p object_name class × Only (nests to o inner class ∷ []) offered)
+    ⊎ (((inner : Site) → IsInnerSite p outer inner → ⊥) × Only [] offered)
+
+-- null, or one of the elements of an array, or an index out of its bounds, or one more array within an array of arrays
+abbrev pub FindsCell : LinkedProgram → ℕ → ℕ → HeapObject → List Effect → Type 0
+FindsCell p to o object offered = (more : List Effect) × Nests p to o object.site more
+    × Only (gets to Null ∷ map (λ cell. gets to cell) (cells object) ++ raises 1 ∷ more) offered
+
+-- an element of what is an array, or the load isn't well typed
+abbrev pub FindsElement : LinkedProgram → ℕ → ℕ → HeapObject → List Effect → Type 0
+FindsElement p to o object offered =
+    (IsArraySite p object.site × FindsCell p to o object offered) ⊎ ((IsArraySite p object.site → ⊥) × IllTyped offered)
+
+-- an element of an array
 abbrev pub LoadsCell : LinkedProgram → Point → ℕ → Option Value → List Effect → Type 0
-LoadsCell p at to base = WithValue base (λ value. WithObject value (λ o. AtObject at.heap o (λ object.
-    Where (IsArraySite p object.site) (gets to Null ∷ map (λ cell. gets to cell) (cells object) ++ raises 1 ∷ []))))
+LoadsCell p at to base = WithValue base (λ value. WithObject value (λ o. AtObject at.heap o (λ object. FindsElement p to o object)))
 
 -- a value is written into an array, or the index is out of its bounds, or the array's type doesn't take the value. Both operands are read first
 abbrev pub StoresCell : LinkedProgram → Point → Option Value → Option Value → List Effect → Type 0
@@ -160,6 +176,7 @@ Row p at (Copy to a) = Assigns to (operand_of p at.top a)
 Row p at (Cast to a) = Casts to (operand_of p at.top a)
 Row p at (New to class) = Only (makes to class ∷ [])
 Row p at (NewArray to) = MakesArray p to
+Row p at (NewMulti to levels) = MakesArray p to
 Row p at (Numeric to divides) = Computes to divides
 Row p at (Length to a) = Measures to (operand_of p at.top a)
 Row p at (Load to base field) = Loads p at to field (local_of at.top base)

@@ -99,6 +99,7 @@ FitsEffect p at (effect.throws o) = o < length at.heap
 FitsEffect p at (effect.goes index) = GoesIn p at.top.method index
 FitsEffect p at (effect.gets to value) = GoesOn p at × (to < length at.top.locals) × FitsValue (length at.heap) value
 FitsEffect p at (effect.makes to class) = GoesOn p at × (to < length at.top.locals) × (class < length p.classes)
+FitsEffect p at (effect.nests to o inner class) = GoesOn p at × (to < length at.top.locals) × (o < length at.heap) × (class < length p.classes)
 FitsEffect p at (effect.writes o field value) = GoesOn p at × (o < length at.heap) × FitsValue (length at.heap) value
 FitsEffect p at (effect.sets field value) = GoesOn p at × (field < length at.statics) × FitsValue (length at.heap) value
 FitsEffect p at (effect.calls frame) = Waits p at.top × FitsFrame p (length at.heap) frame

@@ -3,6 +3,7 @@ use Rattle.std.specs.Prelude.{◌≡◌, ◌≢◌, ℕ, ◌<◌, ◌⊎◌, ◌
 use Rattle.link_rules.specs.declared.code.Code.{Code}
 use Rattle.link_rules.specs.declared.code.Code.TheVariants.{Call}
 use Rattle.link_rules.specs.Linked.{LinkedProgram}
+use Rattle.link_sites.specs.declared.site.Site.{Site}
 use Rattle.link_sites.specs.declared.site.Site.TheVariants as site
 use Rattle.link_sites.specs.Places.{HasCode}
 use Rattle.link_sites.specs.Sites.{IsClassOfRaised}
@@ -26,6 +27,12 @@ made to class at = gets to (Object (length at.heap)) (allocates (new_object (sit
 -- the object at this place of the heap is replaced
 abbrev pub with_object : ℕ → HeapObject → Point → Point
 with_object o object at = record at { heap = slice_set at.heap o object }
+
+-- a new array of the site and the class is an element of the array, and the local gets it
+abbrev pub nested : ℕ → ℕ → HeapObject → Site → ℕ → Point → Point
+nested to o outer inner class at =
+    let made = Object (length at.heap) in
+    gets to made (with_object o (written outer 0 made) (allocates (new_object inner class) at))
 
 -- the static field has the value
 abbrev pub with_static : ℕ → Value → Point → Point
@@ -63,6 +70,8 @@ Becomes p at (effect.gets to value) new = new ≡ state_of (gets to value at)
 Becomes p at (effect.makes to class) new = new ≡ state_of (made to class at)
 Becomes p at (effect.writes o field value) new =
     (object : HeapObject) × (slice_get at.heap o ≡ Some object) × (new ≡ state_of (goes_on (with_object o (written object field value) at)))
+Becomes p at (effect.nests to o inner class) new =
+    (outer : HeapObject) × (slice_get at.heap o ≡ Some outer) × (new ≡ state_of (nested to o outer inner class at))
 Becomes p at (effect.sets field value) new = new ≡ state_of (goes_on (with_static field value at))
 Becomes p at (effect.calls frame) new = new ≡ state_of (enters frame at)
 Becomes p at (effect.returns value) new = Returns p at value new

@@ -14,6 +14,3 @@ pub use pair::Pair;
 pub use reach::Reach;
 pub use rel::Rel;
 pub use weight::{Small, Weight};
-
-#[cfg(test)]
-mod tests;

@@ -6,6 +6,7 @@ use Rattle.demand_walk.specs.Walks.{AsksFew}
 use Rattle.demand_walk.proofs.Asked.{Asks-none, Asks-take_more, Asks-then_none, AsksFew-take}
 use Rattle.demand_walk.proofs.Followed.{IsFollowed-same}
 use Rattle.demand_walk.proofs.Grown.{length-grows, take-kept}
+use Rattle.demand_walk.proofs.EdgesAt.{AreEdgesAt-none}
 use Rattle.demand_walk.proofs.Searched.{IsSearched-none, IsSearched-visited}
 use Rattle.demand_walk.proofs.searching.search.Goals as goal
 
@@ -19,12 +20,16 @@ loop-at-init g c = record {
   same_stores = λ s. (λ h. h, λ h. h);
   asked = Asks-none _;
   searched = IsSearched-none _ _ _ _ _ _ _ _ c.requires.nodes c.requires.edges c.requires.fields c.requires.stores c.in_ok-add_all.ensures.grows c.in_ok-add_all.ensures.all;
+  numbered = AreEdgesAt-none _ _ _ c.requires.edges c.requires.numbered;
   within = omega arith;
   few = omega arith;
 }
 
-pub visit-requires : goal.visit-requires
-visit-requires g c = record { followed = IsFollowed-same _ _ _ _ _ _ c.loop-at.invariant.same_stores c.loop-at.invariant.searched.followed }
+pub visit-requires-clause-numbered : goal.visit-requires-clause-numbered
+visit-requires-clause-numbered g c = c.loop-at.invariant.numbered
+
+pub visit-requires-clause-followed : goal.visit-requires-clause-followed
+visit-requires-clause-followed g c = IsFollowed-same _ _ _ _ _ _ c.loop-at.invariant.same_stores c.loop-at.invariant.searched.followed
 
 pub returns-in_err-visit-clause-asked_few : goal.returns-in_err-visit-clause-asked_few
 returns-in_err-visit-clause-asked_few g c =
@@ -47,6 +52,7 @@ loop-at-preserved g c =
       asked = rw (take-kept (c.loop-at.at + 1) _ _ now.grows.kept (omega arith)) (Asks-take_more _ _ _ _ _ _ bound before.asked (rw c.as_slice.ensures.value at now.asked));
       searched = IsSearched-visited _ _ _ _ _ _ _ _ _ _ _ _ _ _ _ before.same_edges before.same_stores bound c.as_slice.ensures.apart before.searched
           (rw c.as_slice.ensures.value at now.edges) (rw c.as_slice.ensures.value at now.grows) now.followed;
+      numbered = now.numbered;
       within = let more = length-grows _ _ _ now.grows bound in omega (arith, more);
       few = omega arith;
     }

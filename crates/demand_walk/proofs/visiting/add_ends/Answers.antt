@@ -3,6 +3,6 @@ use Rattle.demand_walk.proofs.visiting.add_ends.Goals as goal
 
 pub loop-store-preserved : goal.loop-store-preserved
 loop-store-preserved c = record {
-  grows = Grows-ends _ _ _ _ _ _ _ c.loop-store-test.true c.loop-store.invariant.grows c.in_ok-add.ensures c.in_ok-add-2.ensures;
-  ends = ends-more _ _ _ _ _ _ c.loop-store-test.true c.loop-store.invariant.ends c.in_ok-add.ensures c.in_ok-add-2.ensures;
+  grows = Grows-ends _ _ _ _ _ _ _ c.loop-store-test.true c.loop-store.invariant.grows c.in_ok-add.ensures.added c.in_ok-add-2.ensures.added;
+  ends = ends-more _ _ _ _ _ _ c.loop-store-test.true c.loop-store.invariant.ends c.in_ok-add.ensures.added c.in_ok-add-2.ensures.added;
 }

@@ -1,11 +1,23 @@
+use Rattle.std.proofs.Common.{◌∙◌, Some, ap, sym}
 use Rattle.std.proofs.lemmas.List.{take_all}
+use Rattle.spds_rules.specs.Demand.{AreAll}
+use Rattle.demand_walk.specs.Graphs.{EdgeInto}
 use Rattle.demand_walk.proofs.Asked.{Asks-then_none}
-use Rattle.demand_walk.proofs.Followed.{Grows-followed, IsFollowed-same, edges-more}
+use Rattle.demand_walk.proofs.Followed.{Grows-followed, IsFollowed-same, edges-more, into_node}
 use Rattle.demand_walk.proofs.Grown.{Grows-weaker}
 use Rattle.demand_walk.proofs.visiting.visit.Goals as goal
 
 pub follow-requires : goal.follow-requires
-follow-requires g c = record { followed = IsFollowed-same _ _ _ _ _ _ c.loop-edge.invariant.same_stores c.loop-edge.invariant.followed }
+follow-requires g c =
+    let before = c.loop-edge.invariant in
+    let items = c.deref-edge-items.result.now in
+    let are : AreAll (EdgeInto (g.G.Graph.edge c.args.graph.now) c.args.node) items = rw c.deref-edge-items.ensures.value c.in_ok-into.ensures.into in
+    let leads = into_node (g.G.Graph.edge c.args.graph.now) c.args.node items c.loop-edge.edge-index _ are c.loop-edge-test.true in
+    record {
+      to = before.grows.kept _ _ c.requires.number ∙ ap Some (sym leads);
+      numbered = before.numbered;
+      followed = IsFollowed-same _ _ _ _ _ _ before.same_stores before.followed;
+    }
 
 pub loop-edge-preserved : goal.loop-edge-preserved
 loop-edge-preserved g c =
@@ -17,6 +29,7 @@ loop-edge-preserved g c =
       asked = Asks-then_none _ _ _ _ before.asked now.kept;
       edges = edges-more _ _ _ _ _ _ c.loop-edge-test.true before.edges now.edges;
       grows = Grows-followed _ _ _ _ _ _ _ _ c.loop-edge-test.true before.same_stores before.grows now.grows;
+      numbered = now.numbered;
       followed = IsFollowed-same _ _ _ _ _ _ (λ s. ((before.same_stores s).1, (before.same_stores s).0)) now.followed;
     }
 

@@ -1,6 +1,7 @@
 use Rattle.std.proofs.Common.{◌≡◌, ◌++◌, ◌∷◌, [], take}
 use Rattle.jim_ast.specs.Lists.{Has}
 use Rattle.demand_walk.specs.Graphs.{AreSameEdges, AreSameStores, Asks}
+use Rattle.demand_walk.specs.Numbers.{AreEdgesAt}
 use Rattle.demand_walk.specs.Searches.{ComesFromOne, Grows, IsFollowed}
 use Rattle.demand_walk.proofs.visiting.visit.Given as goal
 
@@ -11,5 +12,6 @@ invariant-loop-edge g l = record {
   asked : Asks (g.G.Graph.asked l.fn.graph) (l.fn.node ∷ []) (g.G.Graph.asked l.graph);
   edges : l.found.edges.items ≡ l.fn.found.edges.items ++ take l.edge-index l.edge-items;
   grows : Grows (ComesFromOne (g.G.Graph.store l.fn.graph) (Has (take l.edge-index l.edge-items))) l.fn.found.nodes l.found.nodes;
+  numbered : AreEdgesAt l.found.nodes l.found.edges.items l.found.numbered.items;
   followed : IsFollowed (g.G.Graph.store l.fn.graph) l.found.nodes l.found.edges.items l.found.fields l.found.stores.items;
 }

@@ -1,8 +1,8 @@
-use Rattle.jim_step.proofs.Wheres.{where_not, where_so}
+use Rattle.std.proofs.Common.{◌≡◌, [], ◌∷◌, map, refl, inl, inr}
 use Rattle.jim_step.proofs.fields.load_element.Goals as goal
 
-pub returns-then-is_array-clause-row : goal.returns-then-is_array-clause-row
-returns-then-is_array-clause-row c = λ p top. rw c.cells.ensures.cells (where_so _ _ c.is_array.result (rw (← c.site.ensures) c.is_array.ensures) c.if-is_array.true)
-
-pub returns-else-is_array-clause-row : goal.returns-else-is_array-clause-row
-returns-else-is_array-clause-row c = λ p top. where_not _ _ c.is_array.result (rw (← c.site.ensures) c.is_array.ensures) c.if-is_array.false
+pub returns-in-Some-clause-row : goal.returns-in-Some-clause-row
+returns-in-Some-clause-row c = λ p top.
+    let array = rw c.site-site.ensures at (c.is_array.ensures.0 c.if-not-is_array.false) in
+    let inner = rw c.site-site.ensures at c.in-Some.ensures.some in
+    rw (← c.cells.ensures.cells) (inl (array, (_, inl (c.in-Some.inner, c.args.class, inner, c.requires.class, refl), refl)))

@@ -9,7 +9,7 @@ pub store-requires-clause-base : goal.store-requires-clause-base
 store-requires-clause-base c = rw c.local-in-Store.ensures (c.requires.fits.top.holds (slot.Local c.in-Store.base))
 
 pub load_cell-requires : goal.load_cell-requires
-load_cell-requires c = record { base = rw c.local-in-LoadCell.ensures (c.requires.fits.top.holds (slot.Local c.in-LoadCell.base)) }
+load_cell-requires c = record { class = c.requires.classes.object; base = rw c.local-in-LoadCell.ensures (c.requires.fits.top.holds (slot.Local c.in-LoadCell.base)) }
 
 pub store_cell-requires : goal.store_cell-requires
 store_cell-requires c = record { base = rw c.local-in-StoreCell.ensures (c.requires.fits.top.holds (slot.Local c.in-StoreCell.base)) }

@@ -2,7 +2,7 @@ use Rattle.std.proofs.Common.{◌≡◌, ◌++◌, ℕ, List, length, take, drop
 use Rattle.std.proofs.lemmas.List.{take-append-le, take_all}
 use Rattle.spds_rules.specs.declared.edge.EdgeKind.TheVariants.{Flow}
 use Rattle.spds_cells.specs.declared.cells.Entered.{Entered}
-use Rattle.spds_cells.specs.declared.numbered.EdgeAt.{EdgeAt}
+use Rattle.demand_walk.specs.declared.numbered.EdgeAt.{EdgeAt}
 use Rattle.spds_cells.proofs.Entering.{entered_all, entered_next, entered_none}
 use Rattle.spds_cells.proofs.Lists.{has-read}
 use Rattle.spds_cells.proofs.cells.entries_of.Goals as goal

@@ -1,12 +1,12 @@
-use Rattle.std.proofs.Common.{◌≡◌, ℕ, List, length, subst, sym, ◌∙◌}
+use Rattle.std.proofs.Common.{◌≡◌, ℕ, List, length, refl, subst, sym, ◌∙◌}
 use Rattle.spds_rules.specs.declared.node.Node.{Node}
 use Rattle.spds_cells.specs.declared.cells.Entered.{Entered}
-use Rattle.spds_cells.specs.declared.numbered.EdgeAt.{EdgeAt}
+use Rattle.demand_walk.specs.declared.numbered.EdgeAt.{EdgeAt}
 use Rattle.spds_cells.specs.Between.{IsJoined}
 use Rattle.spds_cells.specs.Entered.{AreEntered, AreLed, AreWithin, ComeFrom}
 use Rattle.spds_cells.specs.Gathered.{AreGathered}
 use Rattle.spds_cells.proofs.Entering.{entered_come}
-use Rattle.spds_cells.proofs.Joining.{between_made, numbered_within}
+use Rattle.spds_cells.proofs.Joining.{between_made, numbered_apart, numbered_within}
 use Rattle.spds_cells.proofs.Leading.{cells_made}
 use Rattle.spds_cells.proofs.contraction.contract.Goals as goal
 
@@ -31,47 +31,47 @@ joined_lent cells cells' edges edges' joined a b h =
 pub entries_of-requires : goal.entries_of-requires
 entries_of-requires c =
     let d = c.args.demand.now in
-    let edges = c.in_ok-edges.edges.items in
+    let edges = c.numbered-edges.result.now in
     let same = c.nodes.ensures in
-    within_lent (length d.nodes) (length c.nodes.result.now) edges c.deref.result.now (rw same) c.deref.ensures.value
-    (numbered_within d.nodes d.edges edges c.in_ok-edges.ensures)
+    within_lent (length d.nodes) (length c.nodes.result.now) edges edges (rw same) refl
+    (numbered_within d.nodes d.edges edges (numbered_apart d.nodes d.edges edges c.numbered-edges.ensures.apart c.numbered-edges.ensures.value))
 
 pub cells_of-requires : goal.cells_of-requires
 cells_of-requires c =
     let d = c.args.demand.now in
-    let edges = c.in_ok-edges.edges.items in
+    let edges = c.numbered-edges.result.now in
     let entries = c.in_ok-entries.entries.items in
-    let are = entered_lent d.nodes c.nodes.result.now edges c.deref.result.now entries c.nodes.ensures c.deref.ensures.value c.in_ok-entries.ensures in
-    let come = entered_come d.nodes edges entries (numbered_within d.nodes d.edges edges c.in_ok-edges.ensures) are in
-    subst (λ (xs : List Entered). ComeFrom xs (length xs)) (sym c.deref-2.ensures.value) come
+    let are = entered_lent d.nodes c.nodes.result.now edges edges entries c.nodes.ensures refl c.in_ok-entries.ensures in
+    let come = entered_come d.nodes edges entries (numbered_within d.nodes d.edges edges (numbered_apart d.nodes d.edges edges c.numbered-edges.ensures.apart c.numbered-edges.ensures.value)) are in
+    subst (λ (xs : List Entered). ComeFrom xs (length xs)) (sym c.deref.ensures.value) come
 
 pub between-requires : goal.between-requires
 between-requires c =
     let d = c.args.demand.now in
-    let edges = c.in_ok-edges.edges.items in
+    let edges = c.numbered-edges.result.now in
     let entries = c.in_ok-entries.entries.items in
     let cells = c.in_ok-cells.cells.items in
-    let are = entered_lent d.nodes c.nodes.result.now edges c.deref.result.now entries c.nodes.ensures c.deref.ensures.value c.in_ok-entries.ensures in
-    let led = led_lent entries c.deref-2.result.now cells c.deref-2.ensures.value c.in_ok-cells.ensures in
-    let count : length c.deref-3.result.now ≡ length d.nodes = rw c.deref-3.ensures.value (led.count ∙ are.count) in
-    within_lent (length d.nodes) (length c.deref-3.result.now) edges c.deref-4.result.now count c.deref-4.ensures.value
-    (numbered_within d.nodes d.edges edges c.in_ok-edges.ensures)
+    let are = entered_lent d.nodes c.nodes.result.now edges edges entries c.nodes.ensures refl c.in_ok-entries.ensures in
+    let led = led_lent entries c.deref.result.now cells c.deref.ensures.value c.in_ok-cells.ensures in
+    let count : length c.deref-2.result.now ≡ length d.nodes = rw c.deref-2.ensures.value (led.count ∙ are.count) in
+    within_lent (length d.nodes) (length c.deref-2.result.now) edges edges count refl
+    (numbered_within d.nodes d.edges edges (numbered_apart d.nodes d.edges edges c.numbered-edges.ensures.apart c.numbered-edges.ensures.value))
 
 pub returns-clause-cells : goal.returns-clause-cells
 returns-clause-cells c p q is =
     let d = c.args.demand.now in
-    let edges = c.in_ok-edges.edges.items in
+    let edges = c.numbered-edges.result.now in
     let entries = c.in_ok-entries.entries.items in
     let cells = c.in_ok-cells.cells.items in
-    let are = entered_lent d.nodes c.nodes.result.now edges c.deref.result.now entries c.nodes.ensures c.deref.ensures.value c.in_ok-entries.ensures in
-    let led = led_lent entries c.deref-2.result.now cells c.deref-2.ensures.value c.in_ok-cells.ensures in
-    cells_made p q d is edges c.in_ok-edges.ensures entries are cells led
+    let are = entered_lent d.nodes c.nodes.result.now edges edges entries c.nodes.ensures refl c.in_ok-entries.ensures in
+    let led = led_lent entries c.deref.result.now cells c.deref.ensures.value c.in_ok-cells.ensures in
+    cells_made p q d is edges (numbered_apart d.nodes d.edges edges c.numbered-edges.ensures.apart c.numbered-edges.ensures.value) entries are cells led
 
 pub returns-clause-edges : goal.returns-clause-edges
 returns-clause-edges c =
     let d = c.args.demand.now in
-    let edges = c.in_ok-edges.edges.items in
+    let edges = c.numbered-edges.result.now in
     let cells = c.in_ok-cells.cells.items in
     let joined = c.in_ok-joined.joined.items in
-    between_made d.nodes d.edges edges c.in_ok-edges.ensures cells joined
-    (joined_lent cells c.deref-3.result.now edges c.deref-4.result.now joined c.deref-3.ensures.value c.deref-4.ensures.value c.in_ok-joined.ensures)
+    between_made d.nodes d.edges edges (numbered_apart d.nodes d.edges edges c.numbered-edges.ensures.apart c.numbered-edges.ensures.value) cells joined
+    (joined_lent cells c.deref-2.result.now edges edges joined c.deref-2.ensures.value refl c.in_ok-joined.ensures)

@@ -7,6 +7,9 @@ constant_class-requires-in-Class c = (2, refl)
 pub returns-in-New-clause-is : goal.returns-in-New-clause-is
 returns-in-New-clause-is c = λ class. rw c.in-New.is (c.made_class.ensures.is class)
 
+pub returns-in-Nested-clause-is : goal.returns-in-Nested-clause-is
+returns-in-Nested-clause-is c = λ class. rw c.in-Nested.is (c.nested_class.ensures.is class)
+
 pub returns-in-Raised-clause-is : goal.returns-in-Raised-clause-is
 returns-in-Raised-clause-is c = λ class. rw c.in-Raised.is (c.raised_class.ensures.is class)
 

@@ -1,10 +1,15 @@
 use Rattle.std.proofs.lemmas.Result.{on_ok_weaker}
 use Rattle.spds_nodes.proofs.Joined.{IsAdded-same}
-use Rattle.spds_nodes.proofs.Started.{starts_class, starts_made, starts_raised, starts_text}
+use Rattle.spds_nodes.proofs.Started.{starts_class, starts_made, starts_nested, starts_raised, starts_text}
 use Rattle.spds_nodes.proofs.starts.push_starts.Goals as goal
 
 pub returns-in-New : goal.returns-in-New
 returns-in-New c = rw c.in-New.is (on_ok_weaker c.push_there.result (IsAdded-same _ _ _ _ (starts_made c.args.linked.now c.in-New.place)) c.push_there.ensures)
+
+pub returns-in-Nested : goal.returns-in-Nested
+returns-in-Nested c =
+    rw c.in-Nested.is
+    (on_ok_weaker c.push_there-in-Nested.result (IsAdded-same _ _ _ _ (starts_nested c.args.linked.now c.in-Nested.place c.in-Nested.level)) c.push_there-in-Nested.ensures)
 
 pub returns-in-Raised : goal.returns-in-Raised
 returns-in-Raised c =

@@ -1,14 +1,10 @@
-use Rattle.spds_nodes.proofs.Filed.{store_found, store_none, store_only}
-use Rattle.spds_nodes.proofs.Joined.{IsAdded-none, IsAdded-one}
+use Rattle.std.proofs.Common.{sym, ◌∙◌}
+use Rattle.spds_nodes.proofs.Filed.{IsFiled-local, IsFiled-none}
 use Rattle.spds_nodes.proofs.stores.push_store.Goals as goal
 
-pub returns-in_ok-push-clause-added : goal.returns-in_ok-push-clause-added
-returns-in_ok-push-clause-added c =
-    let p = c.args.linked.now in
-    IsAdded-one _ _ _ _ c.in_ok-push.ensures.items
-    (store_found p c.args.field c.args.place c.stored_at.result c.requires c.stored_at.ensures c.in-Some.found c.in-Some.is)
-    (store_only p c.args.field c.args.place c.stored_at.result c.requires c.stored_at.ensures c.in-Some.found c.in-Some.is)
+pub returns-in_ok-push : goal.returns-in_ok-push
+returns-in_ok-push c =
+    IsFiled-local c.args.place c.args.field c.args.base c.args.arg _ _ c.in-Some.stored (sym c.arg_var.ensures ∙ c.in-Some.is) c.in_ok-push.ensures.items
 
-pub returns-in_default-clause-added : goal.returns-in_default-clause-added
-returns-in_default-clause-added c =
-    IsAdded-none _ _ (store_none c.args.linked.now c.args.field c.args.place c.stored_at.result c.requires c.stored_at.ensures c.in_default.not-Some)
+pub returns-in_default : goal.returns-in_default
+returns-in_default c = IsFiled-none c.args.place _ _ (λ s is. c.in_default.not-Some is.0 (c.arg_var.ensures ∙ is.1))

@@ -17,14 +17,14 @@ loop-indexed-preserved c =
     let list = c.stores-places.result.now in
     let i = c.loop-indexed.indexed-index in
     let there = slice_get-get_or list i (record { method = 0; index = 0 }) c.loop-indexed-test.true in
-    let here = rw c.before-place.ensures at c.in_ok-push_store.ensures.added in
+    let here = rw c.before-place.ensures at c.in_ok-push_stores.ensures in
     record {
       added =
           Over-next list (λ (q : Place). IsStoreAt c.args.linked.now c.args.field (before q.method q.index)) _ _ _ i _ there
-          (places_apart list c.stores-places.ensures.ordered) (λ a b s x y. one_place s.place a b x.1 y.1) c.loop-indexed.invariant.added here;
+          (places_apart list c.stores-places.ensures.ordered) (λ a b s x y. one_place s.place a b x.1 y.1) c.loop-indexed.invariant.added here.added;
       ordered =
           ordered_more list i _ (λ (q : Place). IsStoreAt c.args.linked.now c.args.field (before q.method q.index)) (λ q s x. x.1) c.stores-places.ensures.ordered there _ _
-          c.loop-indexed.invariant.added here c.in_ok-push_store.ensures.one c.loop-indexed.invariant.ordered;
+          c.loop-indexed.invariant.added here c.loop-indexed.invariant.ordered;
     }
 
 pub returns-clause-all : goal.returns-clause-all

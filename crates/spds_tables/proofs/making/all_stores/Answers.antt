@@ -5,7 +5,7 @@ use Rattle.spds_rules.specs.declared.node.Node.{Node}
 use Rattle.spds_rules.specs.declared.node.Var.TheVariants.{Local}
 use Rattle.spds_tables.specs.PartsOf.{IsStoreOf}
 use Rattle.spds_cells.proofs.Lists.{has-read}
-use Rattle.spds_cells.proofs.Gathered.{each_all, each_more}
+use Rattle.spds_tables.proofs.SideBySide.{each_all, each_more}
 use Rattle.spds_tables.proofs.making.all_stores.Goals as goal
 
 abbrev no_node : Node

@@ -20,4 +20,4 @@ starts_at nodes sites starts i site v are at is =
     are.each i site v.items at (slice_get-map (λ (x : Vec ℕ). x.items) starts i ∙ ap (option_map (λ (x : Vec ℕ). x.items)) there)
 
 pub returns : goal.returns
-returns c = rw (← c.self.view_is, c.as_slice.ensures.value) (λ s at. starts_at _ _ _ _ s _ c.self.invariant.are_starts at c.index.ensures)
+returns c = rw (← c.self.view_is, c.as_slice.ensures.value) (λ s at. starts_at _ _ _ _ s _ c.self.invariant.0.are_starts at c.index.ensures)

@@ -1,7 +1,7 @@
 use Rattle.std.proofs.Common.{◌≡◌, sym}
 use Rattle.std.proofs.lemmas.List.{take_all}
 use Rattle.demand_walk.proofs.Selected.{AreAll-found, AreAll-skipped}
-use Rattle.demand_walk.proofs.SameKey.{differs_node, same_node}
+use Rattle.spds_rules.proofs.Keys.{differs_node, same_node}
 use Rattle.demand_walk.proofs.listed.ListedGraphGraph.edges_into.Goals as goal
 use Rattle.demand_walk.proofs.listed.ListedGraphGraph.edges_into.Goals.{then-eq+in_ok-put_edge, else-eq}
 

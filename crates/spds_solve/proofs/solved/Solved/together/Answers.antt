@@ -4,8 +4,8 @@ use Rattle.jim_ast.proofs.Places.{slice_get-below}
 use Rattle.link_indexes.proofs.Grown.{slice_get-read}
 use Rattle.link_laws.proofs.Lists.{at_map, map_at}
 use Rattle.post_star.specs.Jobs.{Job}
-use Rattle.spds_solve.specs.Solved.{GivesBoth, IsOfBases}
-use Rattle.spds_solve.proofs.Celled.{cell_there}
+use Rattle.spds_solve.specs.Solved.{IsOfBases, SpellsCalls}
+use Rattle.spds_solve.proofs.Celled.{cell_there, strings_shared}
 use Rattle.spds_solve.proofs.solved.Solved.together.Goals as goal
 use Rattle.spds_solve.proofs.solved.Solved.together.Goals.{In-Some}
 use Rattle.spds_tables.specs.declared.tables.SiteTables.{SiteTables}
@@ -49,10 +49,9 @@ returns-in_ok-shared-in-Some c =
     let same : job.0 ≡ c.in-Some.tables.now.calls = cc (job.1, at) in
     let first = cell_there d.nodes c.self.inside.parts.cells.items solved.cells.count c.args.a n a c.cell_of-a.result c.cell_of-a.ensures in
     let second = cell_there d.nodes c.self.inside.parts.cells.items solved.cells.count c.args.b m b c.cell_of-b.result c.cell_of-b.ensures in
-    let gives = subst (λ (j : Job Reach). GivesBoth j c.cell_of-a.result c.cell_of-b.result) same in
-    let takes = subst (λ (j : Job Reach). GivesBoth j c.cell_of-a.result c.cell_of-b.result) (sym same) in
-    let both = job.2 c.cell_of-a.result c.cell_of-b.result n m first second in
-    ((λ h. both.0 (takes (c.in_ok-shared-in-Some.ensures.0 h))), (λ h. c.in_ok-shared-in-Some.ensures.1 (gives (both.1 h)))))
+    let words = subst (SpellsCalls p q d _ o) same job.2 in
+    let shared = strings_shared p q d _ o c.in-Some.tables.now.calls words c.cell_of-a.result c.cell_of-b.result n m first second in
+    ((λ h. shared.0 (c.in_ok-shared-in-Some.ensures.0 h)), (λ h. c.in_ok-shared-in-Some.ensures.1 (shared.1 h))))
 
 pub returns-in-None : goal.returns-in-None
 returns-in-None c =

@@ -9,9 +9,6 @@ use Rattle.spds_tables.proofs.Made.{demand_names, parts_led, parts_made}
 use Rattle.spds_tables.proofs.parts.Parts.new.Goals as goal
 use Rattle.spds_tables.proofs.parts.Parts.new.Goals.{In_ok-all_stores}
 
-pub contract-requires : goal.contract-requires
-contract-requires c = demand_numbered c.args.linked.now c.requires.demanded.0 c.args.demand.now c.requires.demanded.1
-
 pub all_stores-requires-clause-numbered : goal.all_stores-requires-clause-numbered
 all_stores-requires-clause-numbered c = demand_numbered c.args.linked.now c.requires.demanded.0 c.args.demand.now c.requires.demanded.1
 

@@ -1,6 +1,0 @@
-use Rattle.spds_nodes.proofs.Statements.{none_exactly}
-use Rattle.spds_nodes.proofs.stores.stored_at.Goals as goal
-
-pub returns-in_err-code_at : goal.returns-in_err-code_at
-returns-in_err-code_at c =
-    λ s. none_exactly c.from_residual.result s _ c.from_residual.ensures (λ has. c.in_err-code_at.ensures.none has.code has.at)
