@@ -7,7 +7,7 @@ use Rattle.post_star.specs.declared.bases.Start.{Start}
 use Rattle.post_star.specs.declared.bases.BaseStep.{BaseStep}
 use Rattle.post_star.specs.Derivations.{Derives, flows}
 use Rattle.post_star.specs.Measures.{to_of}
-use Rattle.post_star.specs.Works.{IsTold, weight_of}
+use Rattle.post_star.specs.Works.{AreTold, IsTold, weight_of}
 use Rattle.post_star.proofs.Joins.{derives_meant}
 use Rattle.post_star.proofs.Parted.{has_either}
 use Rattle.post_star.proofs.Scopes.{has_left}
@@ -70,3 +70,15 @@ module _ {W : Type 0} (d : Domain W) (rules : List (Rule W)) (kept : List ℕ) w
         subst (λ (t : W). Derives d rules starts steps last n word t)
         (l.extend_assoc y x w (derives_meant l steps told given) (carried_meant first) (told.rule _ flow.flow))
         (flows flow.flow (carry first given))
+
+  -- chains are joined
+  module _ (l : IsLawful W d) (told : AreTold d rules) where
+    pub product_meant : {h n : ℕ} {w : W} → IsCarriedFrom d rules kept h n w → d.IsMeant w
+    product_meant here = l.one_meant
+    product_meant (further first last) = l.extend_meant _ _ (product_meant first) (told _ last.flow)
+
+    pub carried_on : {h m n : ℕ} {x y : W} → IsCarriedFrom d rules kept h m x → IsCarriedFrom d rules kept m n y → IsCarriedFrom d rules kept h n (d.extend x y)
+    carried_on {h} {m} {x = x} c here = subst (λ (t : W). IsCarriedFrom d rules kept h m t) (sym (l.extend_one x (product_meant c))) c
+    carried_on {h} {n = n} {x} c (further {x = y} {w} first last) =
+        subst (λ (t : W). IsCarriedFrom d rules kept h n t) (l.extend_assoc x y w (product_meant c) (product_meant first) (told _ last.flow))
+        (further (carried_on c first) last)

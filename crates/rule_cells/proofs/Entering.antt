@@ -8,9 +8,9 @@ use Rattle.auto_table.specs.Lists.{Has}
 use Rattle.auto_table.proofs.Places.{slice_get-below, slice_get-pushed}
 use Rattle.post_star.specs.Measures.{to_of}
 use Rattle.post_star.proofs.Scopes.{has_last, has_left}
-use Rattle.rule_cells.specs.declared.cells.Entered.{Entered}
-use Rattle.rule_cells.specs.declared.cells.Entered.TheVariants.{Never, Once, Otherwise}
-use Rattle.rule_cells.specs.Entered.{AreAhead, AreEntered, IsEntered}
+use Rattle.rule_cells.specs.declared.entered.Entered.{Entered}
+use Rattle.rule_cells.specs.declared.entered.Entered.TheVariants.{Never, Once, Otherwise}
+use Rattle.rule_cells.specs.Entered.{AreEntered, IsEntered}
 
 -- an element of a list with one more
 pub has_pushed : {X : Type 0} (xs : List X) (x y : X) → Has (xs ++ x ∷ []) y → Has xs y ⊎ (y ≡ x)
@@ -34,10 +34,10 @@ module _ {X : Type 0} where
   slice_get-set_other (y ∷ xs) (suc i) (suc j) x h = slice_get-set_other xs i j x (λ e. h (ap suc e))
 
 module _ {W : Type 0} (count : ℕ) (rules : List (Rule W)) (kept : List ℕ) where
-  -- the first rule, where it is a flow from a greater number below the count
-  pub first_once : (rule : Rule W) (from to : ℕ) (weight : W) → rule ≡ Flow from to weight → (to < from) × (from < count) → IsEntered count rules kept (to_of rule) Never
+  -- the first rule, where it is a flow from below the count
+  pub first_once : (rule : Rule W) (from to : ℕ) (weight : W) → rule ≡ Flow from to weight → from < count → IsEntered count rules kept (to_of rule) Never
       → IsEntered count (rules ++ rule ∷ []) kept (to_of rule) (Once from weight)
-  first_once rule from to weight is ahead never =
+  first_once rule from to weight is low never =
       let leads_to : to_of rule ≡ to = ap to_of is in
       let flow : rule ≡ Flow from (to_of rule) weight = subst (λ (k : ℕ). rule ≡ Flow from k weight) (sym leads_to) is in (
         record {
@@ -45,20 +45,16 @@ module _ {W : Type 0} (count : ℕ) (rules : List (Rule W)) (kept : List ℕ) wh
           only = λ r has leads. elim (has_pushed rules rule r has) [ inl old ↦ absurd (never.1 r old leads) | inr new ↦ new ∙ flow ];
           free = never.0;
         },
-        omega (arith, leads_to, ahead.0),
-        ahead.1,
+        low,
       )
 
   -- and where it isn't
-  pub refused : (rule : Rule W) → ((m : ℕ) (w : W) → to_of rule < m → m < count → rule ≡ Flow m (to_of rule) w → ⊥)
-      → IsEntered count (rules ++ rule ∷ []) kept (to_of rule) Otherwise
-  refused rule not m w above below only free = not m w above below (only rule (has_last rules rule) refl)
+  pub refused : (rule : Rule W) → ((m : ℕ) (w : W) → m < count → rule ≡ Flow m (to_of rule) w → ⊥) → IsEntered count (rules ++ rule ∷ []) kept (to_of rule) Otherwise
+  refused rule not m w below only free = not m w below (only rule (has_last rules rule) refl)
 
-  pub flow_refused : (rule : Rule W) (from to : ℕ) (weight : W) → rule ≡ Flow from to weight → ((to < from) × (from < count) → ⊥)
+  pub flow_refused : (rule : Rule W) (from to : ℕ) (weight : W) → rule ≡ Flow from to weight → count ≤ from
       → IsEntered count (rules ++ rule ∷ []) kept (to_of rule) Otherwise
-  flow_refused rule from to weight is not =
-      let leads_to : to_of rule ≡ to = ap to_of is in
-      refused rule (λ m w above below other. let same : from ≡ m = cc (is, other) in not (omega (arith, leads_to, same, above), omega (arith, same, below)))
+  flow_refused rule from to weight is past = refused rule (λ m w below other. let same : from ≡ m = cc (is, other) in omega (arith, same, below, past))
 
   -- the same flow once more
   pub once_again : (rule : Rule W) (from n : ℕ) (weight : W) → to_of rule ≡ n → rule ≡ Flow from n weight → IsEntered count rules kept n (Once from weight)
@@ -70,18 +66,17 @@ module _ {W : Type 0} (count : ℕ) (rules : List (Rule W)) (kept : List ℕ) wh
       free = once.0.free;
     },
     once.1,
-    once.2,
   )
 
   -- another rule
   pub once_otherwise : (rule : Rule W) (from n : ℕ) (weight : W) → to_of rule ≡ n → (rule ≡ Flow from n weight → ⊥)
       → IsEntered count rules kept n (Once from weight) → IsEntered count (rules ++ rule ∷ []) kept n Otherwise
-  once_otherwise rule from n weight to other once m w above below only free =
+  once_otherwise rule from n weight to other once m w below only free =
       other (only rule (has_last rules rule) to ∙ sym (only (Flow from n weight) (has_left rules (rule ∷ []) (Flow from n weight) once.0.flow) refl))
 
   -- what is otherwise stays so
   pub otherwise_more : (rule : Rule W) (n : ℕ) → IsEntered count rules kept n Otherwise → IsEntered count (rules ++ rule ∷ []) kept n Otherwise
-  otherwise_more rule n was m w above below only free = was m w above below (λ r has leads. only r (has_left rules (rule ∷ []) r has) leads) free
+  otherwise_more rule n was m w below only free = was m w below (λ r has leads. only r (has_left rules (rule ∷ []) r has) leads) free
 
   -- a rule doesn't change how others lead to another node
   pub elsewhere : (rule : Rule W) (n : ℕ) (e : Entered W) → to_of rule ≢ n → IsEntered count rules kept n e → IsEntered count (rules ++ rule ∷ []) kept n e
@@ -96,7 +91,6 @@ module _ {W : Type 0} (count : ℕ) (rules : List (Rule W)) (kept : List ℕ) wh
       free = was.0.free;
     },
     was.1,
-    was.2,
   )
   elsewhere rule n Otherwise apart was = otherwise_more rule n was
 
@@ -110,12 +104,11 @@ module _ {W : Type 0} (count : ℕ) (rules : List (Rule W)) (kept : List ℕ) wh
       free = λ has. elim (has_pushed kept node n has) [ inl old ↦ was.0.free old | inr new ↦ apart (sym new) ];
     },
     was.1,
-    was.2,
   )
-  kept_elsewhere node n Otherwise apart was = λ m w above below only free. was m w above below only (λ has. free (has_left kept (node ∷ []) n has))
+  kept_elsewhere node n Otherwise apart was = λ m w below only free. was m w below only (λ has. free (has_left kept (node ∷ []) n has))
 
   pub kept_here : (node : ℕ) → IsEntered count rules (kept ++ node ∷ []) node Otherwise
-  kept_here node m w above below only free = free (has_last kept node)
+  kept_here node m w below only free = free (has_last kept node)
 
   -- one entry changes
   module _ (more : List (Rule W)) (also : List ℕ) (to : ℕ) (entries : List (Entered W)) (are : AreEntered count rules kept entries)
@@ -149,8 +142,3 @@ entered_none {W} count entries many never = record {
   many = many;
   each = λ n e at. subst (λ (x : Entered W). IsEntered count [] [] n x) (sym (never n e at)) ((λ has. cc has.1), (λ r has leads. cc has.1));
 }
-
--- nodes that one flow leads to come from a greater number
-pub entered_ahead : {W : Type 0} (count : ℕ) (rules : List (Rule W)) (kept : List ℕ) (entries : List (Entered W)) → AreEntered count rules kept entries
-    → AreAhead entries
-entered_ahead count rules kept entries are n from weight at = let e = are.each n (Once from weight) at in (e.1, (let many = are.many in let below = e.2 in omega arith))

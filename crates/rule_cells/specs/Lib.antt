@@ -1,4 +1,6 @@
 pub mod Cells
 pub mod Entered
+pub mod Forests
 pub mod Laws
 pub mod Made
+pub mod Renamed

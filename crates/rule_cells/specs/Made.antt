@@ -1,11 +1,9 @@
 -- Lists of cells, and rules that are contracted by them.
-use Rattle.std.specs.Prelude.{◌≡◌, ◌<◌, ◌≤◌, ℕ, List, Some, get_or, length, slice_get}
+use Rattle.std.specs.Prelude.{◌≡◌, ◌<◌, ℕ, List, Some, get_or, length, slice_get}
 use Rattle.auto_table.specs.declared.rule.Rule.{Rule}
 use Rattle.post_star.specs.Measures.{to_of}
 use Rattle.weight_laws.specs.Law.{Domain}
 use Rattle.rule_cells.specs.declared.cells.Cell.{Cell}
-use Rattle.rule_cells.specs.declared.cells.Entered.{Entered}
-use Rattle.rule_cells.specs.declared.cells.Entered.TheVariants.{Once}
 use Rattle.rule_cells.specs.Cells.{IsCarried, moved}
 
 -- a node that is its own head
@@ -22,21 +20,10 @@ head_at d cells n = (cell_at d cells n).head
 abbrev pub offset_at : {W : Type 0} → Domain W → List (Cell W) → ℕ → W
 offset_at d cells n = (cell_at d cells n).offset
 
--- the cell of a node by how it is entered: that of the node before it, over the flow between them, or its own
-abbrev pub entered_cell : {W : Type 0} → Domain W → List (Cell W) → ℕ → Entered W → Cell W
-entered_cell d cells n (Once from weight) = record { head = head_at d cells from; offset = d.extend (offset_at d cells from) weight }
-entered_cell d cells n _ = own_cell d n
-
--- the cells of the nodes from a number on are made; those before are still their own
-pub record AreMade {W : Type 0} (d : Domain W) (entries : List (Entered W)) (from : ℕ) (cells : List (Cell W)) : Type 0 where
-  pub many : length cells ≡ length entries
-  pub made : (n : ℕ) (e : Entered W) → from ≤ n → slice_get entries n ≡ Some e → cell_at d cells n ≡ entered_cell d cells n e
-  pub own : (n : ℕ) → n < from → cell_at d cells n ≡ own_cell d n
-
--- a node that is carried from a greater number below the count has the head of that
-abbrev pub HaveHeadsBefore : {W : Type 0} → Domain W → ℕ → List (Rule W) → List ℕ → List (Cell W) → Type 0
-HaveHeadsBefore {W} d count rules kept cells =
-    (m n : ℕ) (w : W) → n < m → m < count → IsCarried rules kept m n w → head_at d cells n ≡ head_at d cells m
+-- Each of so many nodes that is carried from another has the head of that. So all that hang together by such flows, circles too, have one head.
+abbrev pub AreConverged : {W : Type 0} → Domain W → ℕ → List (Rule W) → List ℕ → List (Cell W) → Type 0
+AreConverged {W} d count rules kept cells =
+    (m n : ℕ) (w : W) → n < count → m < count → IsCarried rules kept m n w → head_at d cells n ≡ head_at d cells m
 
 -- a contracted rule, and the one that it comes from
 pub record IsMovedFrom {W : Type 0} (d : Domain W) (cells : List (Cell W)) (q r : Rule W) : Type 0 where

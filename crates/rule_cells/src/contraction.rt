@@ -4,7 +4,8 @@ ghost use Rattle.post_star.specs.Measures.{to_of};
 ghost use Rattle.rule_cells.specs.Cells.{AreContracted, moved as moved_rule};
 ghost use Rattle.rule_cells.specs.Made.{AreSources, head_at, offset_at};
 
-use super::cells::{Cell, cell_of, target};
+use super::cells::{Cell, cell_of};
+use super::entered::target;
 use auto_table::{NoMemory, Rule};
 use std::alloc::Global;
 use weight_laws::Weight;

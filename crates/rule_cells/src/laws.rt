@@ -1,4 +1,5 @@
 ghost use Rattle.rule_cells.specs.Laws.{AnyDerivationsAreExtended, AnyValuesAreExtended, DerivationsAreExtended, OnesHaveNoOffset, ValuesAreExtended};
+ghost use Rattle.rule_cells.specs.Renamed.{AnyDerivationsAreRenamed, DerivationsAreRenamed};
 
 use weight_laws::Weight;
 
@@ -17,4 +18,10 @@ pub fn values_are_extended<W: Weight>()
 /// Where each rule weighs one, so does each offset.
 pub fn ones_have_no_offset<W: Weight>()
     ensures { OnesHaveNoOffset W.domain }
+{}
+
+/// A node by a new number has the derivations that it has by its old one.
+pub fn derivations_are_renamed<W: Weight>()
+    ensures word { DerivationsAreRenamed W.domain }
+    ensures any { AnyDerivationsAreRenamed W.domain }
 {}

@@ -1,13 +1,20 @@
 //! Cells of the nodes of weighted pushdown systems: nodes that one flow alone leads to are kept by the head of their chain.
 //!
 //! The law of contraction, for every lawful domain of weights: a system derives at a node what its contraction derives at the head of the node, extended
-//! by the product of the weights between. `cells_of` finds heads and offsets, and `contract` the rules between heads.
+//! by the product of the weights between. `cells_of` finds heads and offsets, `contract` the rules
+//! between heads, and `number_heads` numbers without gaps for these.
 #![tactic(auto)]
 
 mod cells;
 mod contraction;
+mod entered;
 mod laws;
+mod numbers;
 
-pub use cells::{Cell, cells_of};
+pub use cells::{Cell, Cells, cells_of};
 pub use contraction::{Contracted, contract};
-pub use laws::{derivations_are_extended, ones_have_no_offset, values_are_extended};
+pub use entered::{Entered, entries_of};
+pub use laws::{
+    derivations_are_extended, derivations_are_renamed, ones_have_no_offset, values_are_extended,
+};
+pub use numbers::{Numbers, number_heads, renumber};

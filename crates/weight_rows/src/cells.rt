@@ -2,10 +2,10 @@
 ghost use Rattle.std.specs.Prelude.{◌<◌};
 
 use auto_table::{NoMemory, Rule};
-use rule_cells::{Cell, Contracted, cells_of, contract};
+use rule_cells::{Cell, Contracted, cells_of, contract, number_heads, renumber};
 use std::alloc::Global;
 use std::test::Fail;
-use weight_laws::{Least, Rel, Weight};
+use weight_laws::{Least, Reach, Rel, Weight};
 
 fn flow<W: Weight>(from: u32, to: u32, weight: W) -> Rule<W> {
     Rule::Flow { from, to, weight }
@@ -81,9 +81,9 @@ fn has_rules(few: &Contracted<Least>) -> bool {
 
 fn kinds_hold(alloc: Global) -> Result<bool, NoMemory> {
     let rules = rules_of_all_kinds();
-    let cells = cells_of(alloc, 9, &rules, &[5, 7])?;
-    let few = contract(alloc, &cells, &rules)?;
-    Ok(has_cells(&cells) && has_rules(&few))
+    let made = cells_of(alloc, 9, &rules, &[5, 7])?;
+    let few = contract(alloc, &made.cells, &rules)?;
+    Ok(has_cells(&made.cells) && has_rules(&few))
 }
 
 #[test]
@@ -106,26 +106,126 @@ fn leading(from: usize, to: u32) -> Rel
 fn circle_holds(alloc: Global) -> Result<bool, NoMemory> {
     let rules = [
         flow(1, 2, leading(1, 2)),
-        flow(2, 1, leading(0, 1)),
+        flow(2, 1, leading(2, 0)),
         flow(1, 0, leading(1, 3)),
         flow(1, 0, leading(1, 3)),
     ];
-    let cells = cells_of(alloc, 3, &rules, &[])?;
-    let few = contract(alloc, &cells, &rules)?;
+    let made = cells_of(alloc, 3, &rules, &[])?;
+    let few = contract(alloc, &made.cells, &rules)?;
     let wanted = [
-        cell(2, leading(0, 3)),
-        cell(2, leading(0, 1)),
-        cell(2, Rel::one()),
+        cell(1, leading(1, 3)),
+        cell(1, Rel::one()),
+        cell(1, leading(1, 2)),
     ];
     Ok(
-        cells.as_slice() == wanted.as_slice()
-            && few.rules.as_slice() == [flow(2, 2, leading(0, 2))].as_slice()
-            && few.sources.as_slice() == [0].as_slice(),
+        made.cells.as_slice() == wanted.as_slice()
+            && few.rules.as_slice() == [flow(1, 1, leading(1, 0))].as_slice()
+            && few.sources.as_slice() == [1].as_slice(),
     )
 }
 
 #[test]
 fn circles(rt: HostRuntime) -> Result<(), Fail> {
     assert!(rt; circle_holds(rt.alloc())?);
+    Ok(())
+}
+
+/// How many of so many nodes are their own heads.
+fn heads(alloc: Global, count: u32, rules: &[Rule<Reach>]) -> Result<usize, NoMemory> {
+    let made = cells_of(alloc, count, rules, &[])?;
+    Ok(
+        made.cells
+            .iter()
+            .enumerate()
+            .filter(|(node, cell)| cell.head as usize == *node)
+            .count(),
+    )
+}
+
+fn copy(from: u32, to: u32) -> Rule<Reach> {
+    flow(from, to, Reach(true))
+}
+
+/// So many nodes in a row, each a copy of the one before: numbers rise, or fall, or it ends where it begins.
+fn chain_cells(alloc: Global, count: u32) -> Result<(usize, usize, usize), NoMemory>
+    requires { 0 < count }
+{
+    let mut rising = Vec::new(alloc);
+    let mut falling = Vec::new(alloc);
+    for node in 1..count {
+        rising.push(copy(node - 1, node))?;
+        falling.push(copy(node, node - 1))?;
+    }
+    let one = heads(alloc, count, &rising)?;
+    let other = heads(alloc, count, &falling)?;
+    rising.push(copy(count - 1, 0))?;
+    Ok((one, other, heads(alloc, count, &rising)?))
+}
+
+#[test]
+fn chains(rt: HostRuntime) -> Result<(), Fail> {
+    assert!(rt; chain_cells(rt.alloc(), 1000)? == (1, 1, 1));
+    Ok(())
+}
+
+/// A local that is used at so many nodes in a row, each time for the same node.
+fn used_cells(alloc: Global, uses: u32) -> Result<usize, NoMemory>
+    requires { uses < 1000 }
+{
+    let mut rules = Vec::new(alloc);
+    for node in 1..uses {
+        rules.push(copy(node, node + 1))?;
+        rules.push(copy(node, 0))?;
+    }
+    rules.push(copy(uses, 0))?;
+    heads(alloc, uses + 1, &rules)
+}
+
+#[test]
+fn uses(rt: HostRuntime) -> Result<(), Fail> {
+    let few = used_cells(rt.alloc(), 8)?;
+    let many = used_cells(rt.alloc(), 64)?;
+    assert!(rt; few == 2 && many == 2);
+    Ok(())
+}
+
+/// Of nodes 0 to 4 nodes 1, 2 and 4 are heads, by two pushes and a flow that isn't alone.
+fn numbers_hold(alloc: Global) -> Result<bool, NoMemory> {
+    let rules = [
+        copy(1, 0),
+        Rule::Push {
+            from: 4,
+            to: 2,
+            mark: 7,
+            weight: Reach(true),
+        },
+        copy(2, 3),
+        copy(4, 1),
+        copy(3, 1),
+    ];
+    let made = cells_of(alloc, 5, &rules, &[])?;
+    let few = contract(alloc, &made.cells, &rules)?;
+    let numbers = number_heads(alloc, &made.cells, 5)?;
+    let dense = renumber(alloc, &few.rules, &numbers.numbers)?;
+    let wanted = [
+        Rule::Push {
+            from: 2,
+            to: 1,
+            mark: 7,
+            weight: Reach(true),
+        },
+        copy(2, 0),
+        copy(1, 0),
+    ];
+    Ok(
+        numbers.heads.as_slice() == [1, 2, 4].as_slice()
+            && numbers.numbers.as_slice() == [0, 0, 1, 1, 2].as_slice()
+            && dense.as_slice() == wanted.as_slice(),
+    )
+}
+
+#[test]
+fn numbers(rt: HostRuntime) -> Result<(), Fail> {
+    assert!(rt; numbers_hold(rt.alloc())?);
     Ok(())
 }

@@ -7,6 +7,8 @@ mod cells;
 #[cfg(test)]
 mod domains;
 #[cfg(test)]
+mod marks;
+#[cfg(test)]
 mod saturation;
 #[cfg(test)]
 mod tables;
