@@ -1,0 +1,6 @@
+pub mod Marks
+pub mod Numerals
+pub mod NodeWords
+pub mod LineWords
+pub mod TextLines
+pub mod ListWords

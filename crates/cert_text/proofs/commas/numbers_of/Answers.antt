@@ -1,0 +1,16 @@
+use Rattle.std.proofs.Common.{arith}
+use Rattle.std.specs.Fmt.{decimal}
+use Rattle.cert_rules.specs.Spelled.{IsRoomy}
+use Rattle.cert_text.proofs.ListWords.{roomy_one, words_end, words_more, words_none}
+use Rattle.cert_text.proofs.commas.numbers_of.Goals as goal
+
+pub returns-in_default : goal.returns-in_default
+returns-in_default c = words_none decimal IsRoomy roomy_one c.args.words.now c.loop-word.word-index _ (omega arith) c.in_default.ensures
+
+pub loop-word-preserved : goal.loop-word-preserved
+loop-word-preserved c =
+    words_more decimal IsRoomy roomy_one c.args.words.now c.loop-word.word-index _ c.loop-word.numbers.items c.push.new.self.items c.in-Some.number (omega arith) c.in_ok-push.ensures.items c.in-Some.ensures
+    c.loop-word.invariant
+
+pub returns : goal.returns
+returns c = words_end decimal IsRoomy roomy_one c.args.words.now c.loop-word.word-index c.loop-word.numbers.items c.from_vec.result (omega arith) c.from_vec.ensures c.loop-word.invariant

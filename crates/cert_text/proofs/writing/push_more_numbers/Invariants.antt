@@ -1,0 +1,6 @@
+use Rattle.std.proofs.Common.{◌≡◌, ◌∷◌, ◌++◌, flat_map, string_bytes, take}
+use Rattle.std.specs.Fmt.{decimal}
+use Rattle.cert_text.proofs.writing.push_more_numbers.Given as goal
+
+abbrev pub invariant-loop-number : goal.invariant-loop-number
+invariant-loop-number l = string_bytes l.text ≡ string_bytes l.fn.text ++ flat_map (λ number. 44 ∷ decimal number) (take l.number-index l.numbers)

@@ -1,0 +1,16 @@
+//! Certificates as texts: the call that reads one and the call that writes one.
+#![tactic(auto)]
+
+mod commas;
+mod cuts;
+mod error;
+mod heads;
+mod lines;
+mod nodes;
+mod numbers;
+mod reading;
+mod writing;
+
+pub use error::CertError;
+pub use reading::read_cert;
+pub use writing::cert_text;
