@@ -121,6 +121,33 @@ def boxes(count):
     return main_class(methods, declared, statements, f'class Box {{ {OBJECT} v; }}'), points_to(4 * count, f'x{count - 1}')
 
 
+def returns(count):
+    """A method of many returns that is called as often, so that its edges are the square of that."""
+    branches = [part for i in range(count) for part in (f'if 0 == 1 goto next{i};', 'return p;', f'next{i}:')]
+    method = f'static {OBJECT} id({OBJECT}) ' + body([f'{OBJECT} p;'], [f'p := @parameter0: {OBJECT};', *branches, 'return p;'])
+    statements = ['x = new A;', *[f'x = staticinvoke <Main: {OBJECT} id({OBJECT})>(x);' for _ in range(count)], 'return;']
+    return main_class([method], [f'{OBJECT} x;'], statements), points_to(count + 1, 'x')
+
+
+def statics(count):
+    """A static field that is stored and loaded as often as the other."""
+    more = f'class S {{ static {OBJECT} f; }}'
+    statements = ['x = new A;', *[f'<S: {OBJECT} f> = x;' for _ in range(count)]]
+    statements += [part for i in range(count) for part in (f'if 0 == 1 goto next{i};', f'y = <S: {OBJECT} f>;', 'goto done;', f'next{i}:')]
+    index = 1 + count + 3 * count
+    statements += ['done:', 'return;']
+    return main_class([], [f'{OBJECT} x, y;'], statements, more), points_to(index, 'y')
+
+
+def uses(count):
+    """A local that is used at many places, far behind where it is defined."""
+    statements = ['x = new A;']
+    for i in range(count):
+        statements += ['nop;' for _ in range(20)] + [f'if 0 == 1 goto next{i};', 'y = x;', 'goto done;', f'next{i}:']
+    statements += ['done:', 'return;']
+    return main_class([], [f'{OBJECT} x, y;'], statements), points_to(1 + 23 * count, 'y')
+
+
 def loop(steps):
     """A loop that makes an object at each turn of two steps."""
     return main_class([], ['A x;'], ['again:', 'x = new A;', 'goto again;']), ['run', 'Main', str(steps), '-']
@@ -137,12 +164,15 @@ TABLES = {
         ('a chain of calls', chain, [1250, 2500, 5000, 10000], [50, 100]),
         ('methods that all call each other', clique, [25, 50, 100, 200], [4, 8]),
         ('a call that many classes answer', dispatch, [125, 250, 500], [10, 20]),
+        ('a method of many returns, called as often', returns, [50, 100, 200], [5, 10]),
+        ('a static field, stored and loaded as often', statics, [50, 100, 200], [5, 10]),
+        ('a local that is used at many places', uses, [64, 128, 256], [5, 10]),
     ],
     'fields': [
         ('a list of cells, built and read', cells, [50, 100, 200, 400], [5, 10]),
         ('a list of cells, made, joined and read', joined_cells, [50, 100, 200, 400], [5, 10]),
         ('boxes of a loop of factories', factories, [50, 100, 200, 400], [5, 10]),
-        ('boxes through one put and one get', boxes, [50, 100, 200, 400], [5, 10]),
+        ('boxes through one put and one get', boxes, [50, 100, 200, 400, 1600, 6400], [5, 10]),
     ],
     'demo': [('boxes of the demo', demo, [50, 100, 200, 400], [5, 10])],
 }

@@ -11,14 +11,14 @@ work=$(mktemp -d)
 trap 'rm -rf "$work"' EXIT
 trap 'exit 1' HUP INT TERM
 cp "$top/HANDLES" "$work/"
-for crate in weight_laws auto_table post_star; do
+for crate in lists weight_laws auto_table post_star; do
     mkdir -p "$work/crates/$crate"
     for part in src specs proofs; do
         cp -r "$top/crates/$crate/$part" "$work/crates/$crate/"
     done
     grep "^$crate:" "$top/crates.txt" >> "$work/crates.txt"
 done
-echo 'saturate_speed: weight_laws auto_table post_star indexmap anyhow' >> "$work/crates.txt"
+echo 'saturate_speed: lists weight_laws auto_table post_star indexmap anyhow' >> "$work/crates.txt"
 cd "$work/crates"
 mkdir -p saturate_speed/src saturate_speed/proofs/settled
 cat > saturate_speed/src/main.rt <<'END'

@@ -14,8 +14,8 @@ import tempfile
 from proved import ASKED, build
 from queries import TABLES
 
-USES = ('linked_text jim_ast class_tree link_rules link_laws link_indexes link_program link_sites spds_rules spds_laws spds_nodes demand_walk demand_set spds_cells weight_laws auto_table '
-        'post_star call_side spds_tables spds_solve indexmap anyhow')
+USES = ('linked_text jim_ast class_tree link_rules link_laws link_indexes link_program link_sites spds_rules spds_laws spds_nodes demand_walk demand_set weight_laws auto_table '
+        'post_star rule_cells call_side spds_tables spds_solve indexmap anyhow')
 
 PROGRAM = r'''//! Links a program from standard input with the prelude, and tells of a local at the end of `main` how long its query takes to be solved, and how much
 //! that holds. The local is the one word of the command line.

@@ -1,42 +1,10 @@
--- A cell is written or put last into its row, and rows come in.
-use Rattle.std.proofs.Common.{◌≡◌, ◌⊎◌, inl, inr, ℕ, zero, suc, ◌<◌, List, [], ◌∷◌, ◌++◌, length, set, slice_get, Some, None, Bool, true, false, cond, refl, sym, ap, ◌∙◌, subst, arith}
-use Rattle.std.specs.declared.option.Option.{Option}
-use Rattle.std.specs.Option.{option_map, option_map_or}
-use Rattle.std.specs.Map.{lookup}
-use Rattle.std.proofs.lemmas.Map.Made.{lookup-map_values}
-use Rattle.std.proofs.lemmas.Option.{slice_get_within}
-use Rattle.auto_table.specs.declared.entry.Entry.{Entry}
-use Rattle.auto_table.specs.declared.entry.Place.{Place}
-use Rattle.auto_table.specs.Lists.{IsApart}
-use Rattle.auto_table.specs.Rows.{row_at, value_at, values_of, IsCell, IsFiled}
-use Rattle.auto_table.proofs.Places.{slice_get-pushed, slice_get-push, slice_get-append_left}
-
-abbrev pub place : ℕ → ℕ → Place
-place i j = record { row = i; at = j }
-
-one_or_other : (i j : ℕ) → (i ≡ j) ⊎ (i ≡ j → ⊥)
-one_or_other i j = grind arith
-
-slice_get-set_same : {X : Type 0} (xs : List X) (i : ℕ) (x : X) → i < length xs → slice_get (set xs i x) i ≡ Some x
-slice_get-set_same [] i x h = absurd (omega arith)
-slice_get-set_same (y ∷ xs) zero x h = refl
-slice_get-set_same (y ∷ xs) (suc i) x h = slice_get-set_same xs i x (omega arith)
-
-slice_get-set_other : {X : Type 0} (xs : List X) (i : ℕ) (x : X) (k : ℕ) → (k ≡ i → ⊥) → slice_get (set xs i x) k ≡ slice_get xs k
-slice_get-set_other [] i x k n = refl
-slice_get-set_other (y ∷ xs) zero x zero n = absurd (n refl)
-slice_get-set_other (y ∷ xs) zero x (suc k) n = refl
-slice_get-set_other (y ∷ xs) (suc i) x zero n = refl
-slice_get-set_other (y ∷ xs) (suc i) x (suc k) n = slice_get-set_other xs i x k (λ e. n (ap suc e))
-
-length-set : {X : Type 0} (xs : List X) (i : ℕ) (x : X) → length (set xs i x) ≡ length xs
-length-set [] i x = refl
-length-set (y ∷ xs) zero x = refl
-length-set (y ∷ xs) (suc i) x = ap suc (length-set xs i x)
-
-length_pushed : {X : Type 0} (xs : List X) (x : X) → length (xs ++ x ∷ []) ≡ suc (length xs)
-length_pushed [] x = refl
-length_pushed (y ∷ xs) x = ap suc (length_pushed xs x)
+-- Cells that are found by their keys: one is written, one is put last into its row, and rows come in.
+use Rattle.std.proofs.Common.{◌≡◌, ◌≢◌, ◌⊎◌, inl, inr, ℕ, zero, suc, ◌+◌, ◌-◌, ◌<◌, List, [], ◌∷◌, ◌++◌, length, map, slice_get, Some, refl, sym, ap, ◌∙◌, subst, arith, length-append}
+use Rattle.std.specs.List.{slice_set}
+use Rattle.lists.specs.Lists.{Has}
+use Rattle.lists.proofs.Places.{IsApart-push, slice_get-append_left, slice_get-below, slice_get-push, slice_get-pushed, slice_get-set_other, slice_get-set_same}
+use Rattle.auto_table.specs.Grids.{HasPlace, IsFiled, IsFound, IsPlaced, row_at}
+use Rattle.auto_table.proofs.Found.{one_or_other}
 
 module _ {X : Type 0} where
   -- a row that has a cell is there
@@ -51,211 +19,222 @@ module _ {X : Type 0} where
   row_at-grown (r ∷ rows) zero = refl
   row_at-grown (r ∷ rows) (suc i) = row_at-grown rows i
 
-  row_at-set_same : (rows : List (List X)) (i : ℕ) (r : List X) → i < length rows → row_at (set rows i r) i ≡ r
+  pub row_at-beyond : (rows : List (List X)) (i : ℕ) → length rows ≡ i → row_at rows i ≡ []
+  row_at-beyond [] i e = refl
+  row_at-beyond (r ∷ rows) zero e = absurd (omega (arith, e))
+  row_at-beyond (r ∷ rows) (suc i) e = row_at-beyond rows i (omega (arith, e))
+
+  pub row_at-set_same : (rows : List (List X)) (i : ℕ) (r : List X) → i < length rows → row_at (slice_set rows i r) i ≡ r
   row_at-set_same [] i r h = absurd (omega arith)
   row_at-set_same (q ∷ rows) zero r h = refl
   row_at-set_same (q ∷ rows) (suc i) r h = row_at-set_same rows i r (omega arith)
 
-  row_at-set_other : (rows : List (List X)) (i : ℕ) (r : List X) (k : ℕ) → (k ≡ i → ⊥) → row_at (set rows i r) k ≡ row_at rows k
+  pub row_at-set_other : (rows : List (List X)) (i : ℕ) (r : List X) (k : ℕ) → k ≢ i → row_at (slice_set rows i r) k ≡ row_at rows k
   row_at-set_other [] i r k n = refl
   row_at-set_other (q ∷ rows) zero r zero n = absurd (n refl)
   row_at-set_other (q ∷ rows) zero r (suc k) n = refl
   row_at-set_other (q ∷ rows) (suc i) r zero n = refl
   row_at-set_other (q ∷ rows) (suc i) r (suc k) n = row_at-set_other rows i r k (λ e. n (ap suc e))
 
--- nothing is kept
-pub filed_none : {S X : Type 0} (eq : S → S → Bool) (head : S → Entry) (key : Entry → X → S) → IsFiled eq head key [] [] []
-filed_none eq head key = record { long = refl; placed = λ s p h. cc; found = λ i j e x h k. cc }
+  -- a row that comes in with cells is one that came in empty and got them
+  pub rows-new : (rows : List (List X)) (r : List X) → rows ++ r ∷ [] ≡ slice_set (rows ++ [] ∷ []) (length rows) r
+  rows-new [] r = refl
+  rows-new (q ∷ rows) r = ap (λ (rs : List (List X)). q ∷ rs) (rows-new rows r)
 
-module _ {S X W : Type 0} (weight : X → W) (none : W) where
-  -- an empty row has no weights
-  pub values_of-grown : (rows : List (List X)) (places : List (S × Place)) → values_of weight none (rows ++ [] ∷ []) places ≡ values_of weight none rows places
-  values_of-grown rows [] = refl
-  values_of-grown rows (q ∷ places) =
-      let same : value_at weight none (rows ++ [] ∷ []) q.1 ≡ value_at weight none rows q.1 = ap (λ (r : List X). option_map_or weight (slice_get r q.1.at) none) (row_at-grown rows q.1.row) in
-      let rest : values_of weight none (rows ++ [] ∷ []) places ≡ values_of weight none rows places = values_of-grown rows places in
-      λ i. (q.0, same i) ∷ rest i
+  length-set : (xs : List X) (i : ℕ) (x : X) → length (slice_set xs i x) ≡ length xs
+  length-set [] i x = refl
+  length-set (y ∷ xs) zero x = refl
+  length-set (y ∷ xs) (suc i) x = ap suc (length-set xs i x)
 
-module _ {S X W : Type 0} (eq : S → S → Bool) (same : (x y : S) → eq x y ≡ true → x ≡ y) (self : (x : S) → eq x x ≡ true)
-    (head : S → Entry) (key : Entry → X → S) (heads : (e : Entry) (x : X) → head (key e x) ≡ e) (weight : X → W) (none : W) where
-  -- two keys are one, or the test tells them apart
-  one_key : (s q : S) → ((s ≡ q) × (eq s q ≡ true)) ⊎ ((s ≡ q → ⊥) × (eq s q ≡ false))
-  one_key s q = by (eq s q) refl
+-- the number of rows stays
+pub rows-set : {X : Type 0} (rows : List (List X)) (i : ℕ) (r : List X) → length (slice_set rows i r) ≡ length rows
+rows-set rows i r = length-set rows i r
+
+-- ---- what cells stand in rows of which one is another
+module _ {X : Type 0} (rows : List (List X)) (i : ℕ) (there : i < length rows) (y : X) where
+  -- a cell is written
+  module _ (j : ℕ) (within : j < length (row_at rows i)) where
+    abbrev pub written : List (List X)
+    written = slice_set rows i (slice_set (row_at rows i) j y)
+
+    pub written-here : slice_get (row_at written i) j ≡ Some y
+    written-here = ap (λ (r : List X). slice_get r j) (row_at-set_same rows i _ there) ∙ slice_get-set_same (row_at rows i) j y within
+
+    pub written-elsewhere : (k l : ℕ) → (k ≡ i → l ≡ j → ⊥) → slice_get (row_at written k) l ≡ slice_get (row_at rows k) l
+    written-elsewhere k l n = by (one_or_other k i)
+      where
+        by : (k ≡ i) ⊎ (k ≢ i) → slice_get (row_at written k) l ≡ slice_get (row_at rows k) l
+        by (inl e) = ap (λ (m : ℕ). slice_get (row_at written m) l) e ∙ ap (λ (r : List X). slice_get r l) (row_at-set_same rows i _ there)
+            ∙ slice_get-set_other (row_at rows i) j l y (n e) ∙ ap (λ (m : ℕ). slice_get (row_at rows m) l) (sym e)
+        by (inr d) = ap (λ (r : List X). slice_get r l) (row_at-set_other rows i _ k d)
+
+    -- each cell is the written one, or was there
+    pub written-cell : (k l : ℕ) (z : X) → slice_get (row_at written k) l ≡ Some z → ((k ≡ i) × (l ≡ j) × (z ≡ y)) ⊎ (slice_get (row_at rows k) l ≡ Some z)
+    written-cell k l z h = by (one_or_other k i) (one_or_other l j)
+      where
+        by : (k ≡ i) ⊎ (k ≢ i) → (l ≡ j) ⊎ (l ≢ j) → ((k ≡ i) × (l ≡ j) × (z ≡ y)) ⊎ (slice_get (row_at rows k) l ≡ Some z)
+        by (inl a) (inl b) = let g : slice_get (row_at written i) j ≡ Some z = subst (λ (m : ℕ). slice_get (row_at written i) m ≡ Some z) b (subst (λ (m : ℕ). slice_get (row_at written m) l ≡ Some z) a h) in
+            let one : Some z ≡ Some y = sym g ∙ written-here in inl (a, b, cc)
+        by (inr n) b = inr (sym (written-elsewhere k l (λ a c. n a)) ∙ h)
+        by (inl a) (inr n) = inr (sym (written-elsewhere k l (λ c b. n b)) ∙ h)
+
+  -- a cell is put last
+  abbrev pub pushed : List (List X)
+  pushed = slice_set rows i (row_at rows i ++ y ∷ [])
+
+  pub pushed-here : slice_get (row_at pushed i) (length (row_at rows i)) ≡ Some y
+  pushed-here = ap (λ (r : List X). slice_get r (length (row_at rows i))) (row_at-set_same rows i _ there) ∙ slice_get-push (row_at rows i) y
+
+  pub pushed-kept : (k l : ℕ) (z : X) → slice_get (row_at rows k) l ≡ Some z → slice_get (row_at pushed k) l ≡ Some z
+  pushed-kept k l z h = by (one_or_other k i)
     where
-      by : (b : Bool) → eq s q ≡ b → ((s ≡ q) × (eq s q ≡ true)) ⊎ ((s ≡ q → ⊥) × (eq s q ≡ false))
-      by true e = inl (same s q e, e)
-      by false e = inr ((λ h. let t : eq s q ≡ true = subst (λ (z : S). eq s z ≡ true) h (self s) in cc), e)
+      by : (k ≡ i) ⊎ (k ≢ i) → slice_get (row_at pushed k) l ≡ Some z
+      by (inl e) = ap (λ (m : ℕ). slice_get (row_at pushed m) l) e ∙ ap (λ (r : List X). slice_get r l) (row_at-set_same rows i _ there)
+          ∙ slice_get-append_left (row_at rows i) _ l z (subst (λ (m : ℕ). slice_get (row_at rows m) l ≡ Some z) e h)
+      by (inr n) = ap (λ (r : List X). slice_get r l) (row_at-set_other rows i _ k n) ∙ h
 
-  -- a look-up among the weights, by the place
-  value_found : (rows : List (List X)) (places : List (S × Place)) (q : S) → lookup (eq q) (values_of weight none rows places) ≡ option_map (value_at weight none rows) (lookup (eq q) places)
-  value_found rows places q = lookup-map_values (value_at weight none rows) (eq q) places
+  -- each cell is the new one, or was there
+  pub pushed-cell : (k l : ℕ) (z : X) → slice_get (row_at pushed k) l ≡ Some z → ((k ≡ i) × (l ≡ length (row_at rows i)) × (z ≡ y)) ⊎ (slice_get (row_at rows k) l ≡ Some z)
+  pushed-cell k l z h = by (one_or_other k i)
+    where
+      by : (k ≡ i) ⊎ (k ≢ i) → ((k ≡ i) × (l ≡ length (row_at rows i)) × (z ≡ y)) ⊎ (slice_get (row_at rows k) l ≡ Some z)
+      by (inl e) = elim (slice_get-pushed (row_at rows i) y l z (sym (ap (λ (r : List X). slice_get r l) (row_at-set_same rows i _ there)) ∙ subst (λ (m : ℕ). slice_get (row_at pushed m) l ≡ Some z) e h)) [
+        | inl p ↦ inr (subst (λ (m : ℕ). slice_get (row_at rows m) l ≡ Some z) (sym e) p)
+        | inr q ↦ inl (e, q.0, q.1)
+      ]
+      by (inr n) = inr (sym (ap (λ (r : List X). slice_get r l) (row_at-set_other rows i _ k n)) ∙ h)
 
-  pub value_of_cell : (rows : List (List X)) (i j : ℕ) (x : X) → slice_get (row_at rows i) j ≡ Some x → value_at weight none rows (place i j) ≡ weight x
-  value_of_cell rows i j x h = ap (λ (o : Option X). option_map_or weight o none) h
+-- ---- each cell is found by its key
+module _ {S X K : Type 0} (row_of : S → ℕ) (of : S → K) (one : (s t : S) → row_of s ≡ row_of t → of s ≡ of t → s ≡ t) (is_of : X → K) where
+  pub filed-none : (rows : List (List X)) (keys : List S) (places : List ℕ) → rows ≡ [] → keys ≡ [] → places ≡ [] → IsFiled row_of of is_of rows keys places
+  filed-none rows keys places r k p = rw (r, k, p) (record { as_many = refl; apart = λ i j x h g. cc; placed = λ n s j h g. cc; found = λ i j x h. cc })
 
-  pub lookup_placed : (rows : List (List X)) (places : List (S × Place)) (q : S) (p : Place) → lookup (eq q) places ≡ Some p → lookup (eq q) (values_of weight none rows places) ≡ Some (value_at weight none rows p)
-  lookup_placed rows places q p h = value_found rows places q ∙ ap (option_map (value_at weight none rows)) h
+  module _ (rows : List (List X)) (keys : List S) (places : List ℕ) (f : IsFiled row_of of is_of rows keys places) where
+    -- a key leads to the cell that is of it
+    pub filed-cell : (s : S) (j : ℕ) → HasPlace keys places s j → IsPlaced row_of of is_of rows s j
+    filed-cell s j h = f.placed h.0 s j h.1 h.2
 
-  pub lookup_missing : (rows : List (List X)) (places : List (S × Place)) (q : S) → lookup (eq q) places ≡ None → lookup (eq q) (values_of weight none rows places) ≡ None
-  lookup_missing rows places q h = value_found rows places q ∙ ap (option_map (value_at weight none rows)) h
+    pub filed-row : (s : S) (j : ℕ) → HasPlace keys places s j → row_of s < length rows
+    filed-row s j at = let c = filed-cell s j at in row_within rows (row_of s) j c.cell c.there
 
-  -- ---- an empty row comes in
-  pub filed_grown : (numbers : List Entry) (rows : List (List X)) (places : List (S × Place)) (e : Entry) → IsFiled eq head key numbers rows places → IsFiled eq head key (numbers ++ e ∷ []) (rows ++ [] ∷ []) places
-  filed_grown numbers rows places e f = record {
-    long = length_pushed rows [] ∙ ap suc f.long ∙ sym (length_pushed numbers e);
-    placed = λ s p h. let c = f.placed s p h in record { cell = c.cell; is = ap (λ (r : List X). slice_get r p.at) (row_at-grown rows p.row) ∙ c.is; entry = slice_get-append_left numbers _ p.row _ c.entry; same = c.same };
-    found = λ i j x y h k. elim (slice_get-pushed numbers e i x h) [
-      | inl q ↦ f.found i j x y q (sym (ap (λ (r : List X). slice_get r j) (row_at-grown rows i)) ∙ k)
-      | inr q ↦ let low : i < length rows = row_within rows i j y (sym (ap (λ (r : List X). slice_get r j) (row_at-grown rows i)) ∙ k) in
-          let at : i ≡ length numbers = q.0 in let long = f.long in absurd (omega arith)
-    ];
-  }
+    pub filed-place : (s : S) (j : ℕ) → HasPlace keys places s j → j < length (row_at rows (row_of s))
+    filed-place s j at = let c = filed-cell s j at in slice_get-below (row_at rows (row_of s)) j c.cell c.there
 
-  -- ---- a cell is written
-  module _ (numbers : List Entry) (rows : List (List X)) (places : List (S × Place)) (apart : IsApart numbers) (f : IsFiled eq head key numbers rows places) (s : S) (x : X) (is : key (head s) x ≡ s) where
-    module _ (p : Place) (at : lookup (eq s) places ≡ Some p) where
-      abbrev written : List (List X)
-      written = set rows p.row (set (row_at rows p.row) p.at x)
+    -- the cells of a row are of different keys
+    pub filed-apart : (i j k : ℕ) (x y : X) → slice_get (row_at rows i) j ≡ Some x → slice_get (row_at rows i) k ≡ Some y → is_of x ≡ is_of y → j ≡ k
+    filed-apart i j k x y h g e =
+        let a = f.found i j x h in
+        let b = f.found i k y g in
+        let same : a.key ≡ b.key = one a.key b.key (a.in_row ∙ sym b.in_row) (a.same ∙ e ∙ sym b.same) in
+        let number : a.number ≡ b.number = f.apart a.number b.number b.key (a.there ∙ ap Some same) b.there in
+        let place : Some j ≡ Some k = sym a.at ∙ ap (slice_get places) number ∙ b.at in cc
 
-      cell_there : IsCell head key numbers rows s p
-      cell_there = f.placed s p at
+    -- a key that has no place is that of no cell
+    pub filed-missed : (s : S) → (Has keys s → ⊥) → (j : ℕ) (x : X) → slice_get (row_at rows (row_of s)) j ≡ Some x → is_of x ≢ of s
+    filed-missed s miss j x h e = let a = f.found (row_of s) j x h in miss (a.number, a.there ∙ ap Some (one a.key s a.in_row (a.same ∙ e)))
 
-      in_rows : p.row < length rows
-      in_rows = row_within rows p.row p.at _ cell_there.is
+    pub filed-grown : IsFiled row_of of is_of (rows ++ [] ∷ []) keys places
+    filed-grown = record {
+      as_many = f.as_many;
+      apart = f.apart;
+      placed = λ n s j h g. let c = f.placed n s j h g in record { cell = c.cell; there = ap (λ (r : List X). slice_get r j) (row_at-grown rows (row_of s)) ∙ c.there; same = c.same };
+      found = λ i j x h. f.found i j x (sym (ap (λ (r : List X). slice_get r j) (row_at-grown rows i)) ∙ h);
+    }
 
-      in_row : p.at < length (row_at rows p.row)
-      in_row = slice_get_within (row_at rows p.row) p.at _ cell_there.is
+    -- a cell in the place of the one of its key
+    module _ (s : S) (j : ℕ) (at : HasPlace keys places s j) (y : X) (is : is_of y ≡ of s) where
+      abbrev others : List (List X)
+      others = slice_set rows (row_of s) (slice_set (row_at rows (row_of s)) j y)
 
-      here : slice_get (row_at written p.row) p.at ≡ Some x
-      here = ap (λ (r : List X). slice_get r p.at) (row_at-set_same rows p.row _ in_rows) ∙ slice_get-set_same (row_at rows p.row) p.at x in_row
+      low : row_of s < length rows
+      low = filed-row s j at
 
-      elsewhere : (i j : ℕ) → (i ≡ p.row → j ≡ p.at → ⊥) → slice_get (row_at written i) j ≡ slice_get (row_at rows i) j
-      elsewhere i j n = by (one_or_other i p.row)
+      within : j < length (row_at rows (row_of s))
+      within = filed-place s j at
+
+      pub filed-written : IsFiled row_of of is_of others keys places
+      filed-written = record { as_many = f.as_many; apart = f.apart; placed = placed; found = found }
         where
-          by : (i ≡ p.row) ⊎ (i ≡ p.row → ⊥) → slice_get (row_at written i) j ≡ slice_get (row_at rows i) j
-          by (inl e) = ap (λ (k : ℕ). slice_get (row_at written k) j) e ∙ ap (λ (r : List X). slice_get r j) (row_at-set_same rows p.row _ in_rows)
-              ∙ slice_get-set_other (row_at rows p.row) p.at x j (n e) ∙ ap (λ (k : ℕ). slice_get (row_at rows k) j) (sym e)
-          by (inr d) = ap (λ (r : List X). slice_get r j) (row_at-set_other rows p.row _ i d)
-
-      -- another key has another place
-      other_place : (q : S) (r : Place) → (s ≡ q → ⊥) → lookup (eq q) places ≡ Some r → r.row ≡ p.row → r.at ≡ p.at → ⊥
-      other_place q r n h e a =
-          let c = f.placed q r h in
-          let there = cell_there in
-          let entries : slice_get numbers p.row ≡ Some (head q) = subst (λ (k : ℕ). slice_get numbers k ≡ Some (head q)) e c.entry in
-          let one_head : head s ≡ head q = cc (there.entry) in
-          let cells : slice_get (row_at rows p.row) p.at ≡ Some c.cell = subst (λ (k : ℕ). slice_get (row_at rows p.row) k ≡ Some c.cell) a (subst (λ (k : ℕ). slice_get (row_at rows k) r.at ≡ Some c.cell) e c.is) in
-          let one_cell : there.cell ≡ c.cell = cc (there.is) in
-          n (sym there.same ∙ ap (λ (z : Entry). key z there.cell) one_head ∙ ap (key (head q)) one_cell ∙ c.same)
-
-      pub filed_written : IsFiled eq head key numbers written places
-      filed_written = record { long = length-set rows p.row _ ∙ f.long; placed = placed; found = found }
-        where
-          mine : IsCell head key numbers written s p
-          mine = record { cell = x; is = here; entry = cell_there.entry; same = is }
-
-          placed : (q : S) (r : Place) → lookup (eq q) places ≡ Some r → IsCell head key numbers written q r
-          placed q r h = elim (one_key s q) [
-            | inl e ↦ let one_place : p ≡ r = (let t : lookup (eq s) places ≡ Some r = subst (λ (z : S). lookup (eq z) places ≡ Some r) (sym e.0) h in cc (at)) in
-                subst (λ (z : S). IsCell head key numbers written z r) e.0 (subst (λ (z : Place). IsCell head key numbers written s z) one_place mine)
-            | inr n ↦ let c = f.placed q r h in record { cell = c.cell; is = elsewhere r.row r.at (λ e a. other_place q r n.0 h e a) ∙ c.is; entry = c.entry; same = c.same }
-          ]
-
-          found : (i j : ℕ) (e : Entry) (y : X) → slice_get numbers i ≡ Some e → slice_get (row_at written i) j ≡ Some y → lookup (eq (key e y)) places ≡ Some (place i j)
-          found i j e y h k = by (one_or_other i p.row) (one_or_other j p.at)
+          placed : (n : ℕ) (t : S) (k : ℕ) → slice_get keys n ≡ Some t → slice_get places n ≡ Some k → IsPlaced row_of of is_of others t k
+          placed n t k h g = by (one_or_other (row_of t) (row_of s)) (one_or_other k j)
             where
-              by : (i ≡ p.row) ⊎ (i ≡ p.row → ⊥) → (j ≡ p.at) ⊎ (j ≡ p.at → ⊥) → lookup (eq (key e y)) places ≡ Some (place i j)
+              c : IsPlaced row_of of is_of rows t k
+              c = f.placed n t k h g
+
+              by : (row_of t ≡ row_of s) ⊎ (row_of t ≢ row_of s) → (k ≡ j) ⊎ (k ≢ j) → IsPlaced row_of of is_of others t k
               by (inl a) (inl b) =
-                  let there = cell_there in
-                  let heads_same : head s ≡ e = (let t : slice_get numbers p.row ≡ Some e = subst (λ (n : ℕ). slice_get numbers n ≡ Some e) a h in cc (there.entry)) in
-                  let cells_same : x ≡ y = (let t : slice_get (row_at written p.row) p.at ≡ Some y = subst (λ (n : ℕ). slice_get (row_at written p.row) n ≡ Some y) b (subst (λ (n : ℕ). slice_get (row_at written n) j ≡ Some y) a k) in cc (here)) in
-                  let key_same : s ≡ key e y = sym is ∙ ap (λ (z : Entry). key z x) heads_same ∙ ap (key e) cells_same in
-                  subst (λ (z : S). lookup (eq z) places ≡ Some (place i j)) key_same (at ∙ ap Some (λ t. record { row = sym a t; at = sym b t }))
-              by (inr n) b = f.found i j e y h (sym (elsewhere i j (λ a c. n a)) ∙ k)
-              by (inl a) (inr n) = f.found i j e y h (sym (elsewhere i j (λ c b. n b)) ∙ k)
+                  let d = filed-cell s j at in
+                  let same : Some c.cell ≡ Some d.cell = sym c.there ∙ ap (λ (m : ℕ). slice_get (row_at rows m) k) a ∙ ap (slice_get (row_at rows (row_of s))) b ∙ d.there in
+                  let cell : c.cell ≡ d.cell = cc in
+                  record { cell = y; there = ap (λ (m : ℕ). slice_get (row_at others m) k) a ∙ ap (slice_get (row_at others (row_of s))) b ∙ written-here rows (row_of s) low y j within; same = is ∙ sym d.same ∙ ap is_of (sym cell) ∙ c.same }
+              by (inr q) b = record { cell = c.cell; there = written-elsewhere rows (row_of s) low y j within (row_of t) k (λ a z. q a) ∙ c.there; same = c.same }
+              by (inl a) (inr q) = record { cell = c.cell; there = written-elsewhere rows (row_of s) low y j within (row_of t) k (λ z b. q b) ∙ c.there; same = c.same }
 
-      pub values_written : (q : S) → lookup (eq q) (values_of weight none written places) ≡ cond (eq s q) (Some (weight x)) (lookup (eq q) (values_of weight none rows places))
-      values_written q = elim (one_key s q) [
-        | inl e ↦ lookup_placed written places q p (subst (λ (z : S). lookup (eq z) places ≡ Some p) e.0 at)
-            ∙ ap Some (value_of_cell written p.row p.at x here)
-            ∙ sym (ap (λ (b : Bool). cond b (Some (weight x)) (lookup (eq q) (values_of weight none rows places))) e.1)
-        | inr n ↦ value_found written places q ∙ by n.0 (lookup (eq q) places) refl ∙ sym (value_found rows places q)
-            ∙ sym (ap (λ (b : Bool). cond b (Some (weight x)) (lookup (eq q) (values_of weight none rows places))) n.1)
-      ]
-        where
-          by : (s ≡ q → ⊥) → (o : Option Place) → lookup (eq q) places ≡ o → option_map (value_at weight none written) o ≡ option_map (value_at weight none rows) o
-          by n None h = refl
-          by n (Some r) h = ap (λ (c : Option X). Some (option_map_or weight c none)) (elsewhere r.row r.at (λ e a. other_place q r n h e a))
-
-    -- ---- a cell is put last
-    module _ (i : ℕ) (entry : slice_get numbers i ≡ Some (head s)) (absent : lookup (eq s) places ≡ None) (after : List (S × Place))
-        (updates : (q : S) → lookup (eq q) after ≡ cond (eq s q) (Some (place i (length (row_at rows i)))) (lookup (eq q) places)) where
-      abbrev pushed : List (List X)
-      pushed = set rows i (row_at rows i ++ x ∷ [])
-
-      row_there : i < length rows
-      row_there = let low : i < length numbers = slice_get_within numbers i _ entry in let long = f.long in omega arith
-
-      last : slice_get (row_at pushed i) (length (row_at rows i)) ≡ Some x
-      last = ap (λ (r : List X). slice_get r (length (row_at rows i))) (row_at-set_same rows i _ row_there) ∙ slice_get-push (row_at rows i) x
-
-      kept : (k j : ℕ) (y : X) → slice_get (row_at rows k) j ≡ Some y → slice_get (row_at pushed k) j ≡ Some y
-      kept k j y h = by (one_or_other k i)
-        where
-          by : (k ≡ i) ⊎ (k ≡ i → ⊥) → slice_get (row_at pushed k) j ≡ Some y
-          by (inl e) = ap (λ (n : ℕ). slice_get (row_at pushed n) j) e ∙ ap (λ (r : List X). slice_get r j) (row_at-set_same rows i _ row_there)
-              ∙ slice_get-append_left (row_at rows i) _ j y (subst (λ (n : ℕ). slice_get (row_at rows n) j ≡ Some y) e h)
-          by (inr n) = ap (λ (r : List X). slice_get r j) (row_at-set_other rows i _ k n) ∙ h
-
-      only : (k j : ℕ) (y : X) → slice_get (row_at pushed k) j ≡ Some y → (slice_get (row_at rows k) j ≡ Some y) ⊎ ((k ≡ i) × (j ≡ length (row_at rows i)) × (y ≡ x))
-      only k j y h = by (one_or_other k i)
-        where
-          by : (k ≡ i) ⊎ (k ≡ i → ⊥) → (slice_get (row_at rows k) j ≡ Some y) ⊎ ((k ≡ i) × (j ≡ length (row_at rows i)) × (y ≡ x))
-          by (inl e) = elim (slice_get-pushed (row_at rows i) x j y (sym (ap (λ (r : List X). slice_get r j) (row_at-set_same rows i _ row_there)) ∙ subst (λ (n : ℕ). slice_get (row_at pushed n) j ≡ Some y) e h)) [
-            | inl q ↦ inl (subst (λ (n : ℕ). slice_get (row_at rows n) j ≡ Some y) (sym e) q)
-            | inr q ↦ inr (e, q.0, q.1)
-          ]
-          by (inr n) = inl (sym (ap (λ (r : List X). slice_get r j) (row_at-set_other rows i _ k n)) ∙ h)
-
-      -- the places of other keys stay, and the key has the last one
-      others : (q : S) → eq s q ≡ false → lookup (eq q) after ≡ lookup (eq q) places
-      others q e = updates q ∙ ap (λ (b : Bool). cond b (Some (place i (length (row_at rows i)))) (lookup (eq q) places)) e
-
-      mine : (q : S) → eq s q ≡ true → lookup (eq q) after ≡ Some (place i (length (row_at rows i)))
-      mine q e = updates q ∙ ap (λ (b : Bool). cond b (Some (place i (length (row_at rows i)))) (lookup (eq q) places)) e
-
-      pub filed_pushed : IsFiled eq head key numbers pushed after
-      filed_pushed = record { long = length-set rows i _ ∙ f.long; placed = placed; found = found }
-        where
-          placed : (q : S) (r : Place) → lookup (eq q) after ≡ Some r → IsCell head key numbers pushed q r
-          placed q r h = elim (one_key s q) [
-            | inl e ↦ let one_place : place i (length (row_at rows i)) ≡ r = (let t = mine q e.1 in cc) in
-                subst (λ (z : S). IsCell head key numbers pushed z r) e.0 (subst (λ (z : Place). IsCell head key numbers pushed s z) one_place (record { cell = x; is = last; entry = entry; same = is }))
-            | inr n ↦ let c = f.placed q r (sym (others q n.1) ∙ h) in record { cell = c.cell; is = kept r.row r.at c.cell c.is; entry = c.entry; same = c.same }
+          found : (i l : ℕ) (x : X) → slice_get (row_at others i) l ≡ Some x → IsFound row_of of is_of keys places i l x
+          found i l x h = elim (written-cell rows (row_of s) low y j within i l x h) [
+            | inl e ↦ record { key = s; in_row = sym e.0; same = sym is ∙ ap is_of (sym e.2); number = at.0; there = at.1; at = at.2 ∙ ap Some (sym e.1) }
+            | inr o ↦ f.found i l x o
           ]
 
-          found : (k j : ℕ) (e : Entry) (y : X) → slice_get numbers k ≡ Some e → slice_get (row_at pushed k) j ≡ Some y → lookup (eq (key e y)) after ≡ Some (place k j)
-          found k j e y h g = elim (only k j y g) [
-            | inl q ↦ let before = f.found k j e y h q in elim (one_key s (key e y)) [
-              | inl o ↦ let t : lookup (eq s) places ≡ Some (place k j) = subst (λ (z : S). lookup (eq z) places ≡ Some (place k j)) (sym o.0) before in cc (absent)
-              | inr n ↦ others (key e y) n.1 ∙ before
-            ]
-            | inr q ↦
-                let heads_same : head s ≡ e = (let t : slice_get numbers i ≡ Some e = subst (λ (n : ℕ). slice_get numbers n ≡ Some e) q.0 h in cc (entry)) in
-                let key_same : s ≡ key e y = sym is ∙ ap (λ (z : Entry). key z x) heads_same ∙ ap (key e) (sym q.2) in
-                mine (key e y) (subst (λ (z : S). eq s z ≡ true) key_same (self s)) ∙ ap Some (λ t. record { row = sym q.0 t; at = sym q.1 t })
+    -- a cell of a new key behind the others of its row
+    module _ (s : S) (new : Has keys s → ⊥) (y : X) (is : is_of y ≡ of s) (low : row_of s < length rows) where
+      abbrev more : List (List X)
+      more = slice_set rows (row_of s) (row_at rows (row_of s) ++ y ∷ [])
+
+      abbrev place : ℕ
+      place = length (row_at rows (row_of s))
+
+      pub filed-pushed : IsFiled row_of of is_of more (keys ++ s ∷ []) (places ++ place ∷ [])
+      filed-pushed = record { as_many = omega (arith, f.as_many, length-append keys (s ∷ []), length-append places (place ∷ [])); apart = IsApart-push keys s f.apart new; placed = placed; found = found }
+        where
+          placed : (n : ℕ) (t : S) (k : ℕ) → slice_get (keys ++ s ∷ []) n ≡ Some t → slice_get (places ++ place ∷ []) n ≡ Some k → IsPlaced row_of of is_of more t k
+          placed n t k h g = by (slice_get-pushed keys s n t h) (slice_get-pushed places place n k g)
+            where
+              by : (slice_get keys n ≡ Some t) ⊎ ((n ≡ length keys) × (t ≡ s)) → (slice_get places n ≡ Some k) ⊎ ((n ≡ length places) × (k ≡ place)) → IsPlaced row_of of is_of more t k
+              by (inl a) (inl b) = let c = f.placed n t k a b in record { cell = c.cell; there = pushed-kept rows (row_of s) low y (row_of t) k c.cell c.there; same = c.same }
+              by (inr a) (inr b) = record {
+                cell = y;
+                there = ap (λ (z : S). slice_get (row_at more (row_of z)) k) a.1 ∙ ap (slice_get (row_at more (row_of s))) b.1 ∙ pushed-here rows (row_of s) low y;
+                same = is ∙ ap of (sym a.1);
+              }
+              by (inl a) (inr b) = absurd (omega (arith, slice_get-below keys n t a, f.as_many, b.0))
+              by (inr a) (inl b) = absurd (omega (arith, slice_get-below places n k b, f.as_many, a.0))
+
+          found : (i l : ℕ) (x : X) → slice_get (row_at more i) l ≡ Some x → IsFound row_of of is_of (keys ++ s ∷ []) (places ++ place ∷ []) i l x
+          found i l x h = elim (pushed-cell rows (row_of s) low y i l x h) [
+            | inl e ↦ record {
+              key = s;
+              in_row = sym e.0;
+              same = sym is ∙ ap is_of (sym e.2);
+              number = length keys;
+              there = slice_get-push keys s;
+              at = ap (slice_get (places ++ place ∷ [])) (sym f.as_many) ∙ slice_get-push places place ∙ ap Some (sym e.1);
+            }
+            | inr o ↦ let c = f.found i l x o in record {
+              key = c.key;
+              in_row = c.in_row;
+              same = c.same;
+              number = c.number;
+              there = slice_get-append_left keys (s ∷ []) c.number c.key c.there;
+              at = slice_get-append_left places (place ∷ []) c.number l c.at;
+            }
           ]
 
-      pub values_pushed : (q : S) → lookup (eq q) (values_of weight none pushed after) ≡ cond (eq s q) (Some (weight x)) (lookup (eq q) (values_of weight none rows places))
-      values_pushed q = elim (one_key s q) [
-        | inl e ↦ lookup_placed pushed after q _ (mine q e.1)
-            ∙ ap Some (value_of_cell pushed i (length (row_at rows i)) x last)
-            ∙ sym (ap (λ (b : Bool). cond b (Some (weight x)) (lookup (eq q) (values_of weight none rows places))) e.1)
-        | inr n ↦ value_found pushed after q ∙ ap (option_map (value_at weight none pushed)) (others q n.1) ∙ by (lookup (eq q) places) refl ∙ sym (value_found rows places q)
-            ∙ sym (ap (λ (b : Bool). cond b (Some (weight x)) (lookup (eq q) (values_of weight none rows places))) n.1)
-      ]
-        where
-          by : (o : Option Place) → lookup (eq q) places ≡ o → option_map (value_at weight none pushed) o ≡ option_map (value_at weight none rows) o
-          by None h = refl
-          by (Some r) h = let c = f.placed q r h in
-              ap (λ (o : Option X). Some (option_map_or weight o none)) (kept r.row r.at c.cell c.is ∙ sym c.is)
+-- ---- lists of lists
+pub length_map : {X Y : Type 0} (f : X → Y) (xs : List X) → length (map f xs) ≡ length xs
+length_map f [] = refl
+length_map f (x ∷ xs) = ap suc (length_map f xs)
+
+-- the room that is left
+pub less_room : (cap len cap' len' : ℕ) → cap' ≡ cap → len' ≡ len + 1 → cap' - len' ≡ cap - len - 1
+less_room cap len cap' len' a b = omega (arith, a, b)
+
+-- as many stay as many
+pub length_push : {X Y : Type 0} (xs : List X) (ys : List Y) (x : X) (y : Y) → length xs ≡ length ys → length (xs ++ x ∷ []) ≡ length (ys ++ y ∷ [])
+length_push xs ys x y e = omega (arith, e, length-append xs (x ∷ []), length-append ys (y ∷ []))
+
+-- a row in its own place
+pub set_row-same : {X : Type 0} (rows : List (List X)) (i : ℕ) → slice_set rows i (row_at rows i) ≡ rows
+set_row-same [] i = refl
+set_row-same (r ∷ rows) zero = refl
+set_row-same {X} (r ∷ rows) (suc i) = ap (λ (rs : List (List X)). r ∷ rs) (set_row-same rows i)

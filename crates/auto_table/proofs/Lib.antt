@@ -1,10 +1,10 @@
 pub mod Filed
+pub mod Found
 pub mod Keys
-pub mod LinkSteps
 pub mod Places
 pub mod Raises
 pub mod RowReads
 pub mod Same
-pub mod Steps
+pub mod Tables
+pub mod Weighed
 pub mod Whole
-pub mod Written

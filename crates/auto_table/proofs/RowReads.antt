@@ -1,103 +1,95 @@
--- What the rows of a table list.
-use Rattle.std.proofs.Common.{◌≡◌, ◌≢◌, ℕ, List, [], slice_get, Some, None, refl, sym, ap, subst, ◌∙◌}
-use Rattle.std.specs.declared.option.Option.{Option}
-use Rattle.std.specs.Map.{lookup}
+-- What is read of a table.
+use Rattle.std.proofs.Common.{◌≡◌, ℕ, List, [], Some, slice_get, sym, ap, subst, ◌∙◌, eqb}
 use Rattle.auto_table.specs.declared.entry.Entry.{Entry}
-use Rattle.auto_table.specs.declared.entry.Spot.{Spot}
-use Rattle.auto_table.specs.declared.entry.Link.{Link}
-use Rattle.auto_table.specs.declared.entry.Place.{Place}
-use Rattle.auto_table.specs.declared.row.Row.{Row}
-use Rattle.auto_table.specs.contracts.entry.SpotPartialEq.TheImpl as spot
-use Rattle.auto_table.specs.contracts.entry.LinkPartialEq.TheImpl as link
-use Rattle.auto_table.specs.Lists.{Has}
-use Rattle.auto_table.specs.Cells.{weight_at, link_at}
-use Rattle.auto_table.specs.Inside.{spot_in, link_in, entry_of, child_of, weight_in, link_weight, cells_of, IsTable}
-use Rattle.auto_table.specs.Rows.{reached_rows, parents_rows, row_at}
-use Rattle.auto_table.proofs.Filed.{place, lookup_placed, value_of_cell}
-use Rattle.auto_table.proofs.Same.{same_spot, self_spot, same_link, self_link}
-use Rattle.auto_table.proofs.Raises.{spot_of, link_of}
+use Rattle.auto_table.specs.declared.spot.Spot.{Spot}
+use Rattle.auto_table.specs.declared.spot.Joint.{Joint}
+use Rattle.auto_table.specs.declared.row.Reached.{Reached}
+use Rattle.auto_table.specs.declared.row.Linked.{Linked}
+use Rattle.auto_table.specs.contracts.entry.EntryPartialEq.TheImpl as entry
+use Rattle.auto_table.specs.Cells.{Cells, weight_at, link_at, node_of, parent_of, reached_weight, linked_weight, AreParents, IsRow}
+use Rattle.auto_table.specs.Grids.{HasPlace, row_at}
+use Rattle.auto_table.specs.Inside.{IsLaid, joint_parent, joint_row, spot_node, spot_row}
+use Rattle.lists.specs.Lists.{Has}
+use Rattle.auto_table.proofs.Filed.{filed-apart, filed-cell, filed-missed}
+use Rattle.auto_table.proofs.Found.{row-cell, row-none}
+use Rattle.auto_table.proofs.Same.{same_entry, self_entry}
+use Rattle.auto_table.proofs.Tables.{one_joint, one_spot}
+use Rattle.auto_table.proofs.Weighed.{link_cell, link_there, link_unnamed, same_node, self_node, weight_cell, weight_there, weight_unnamed}
 use Rattle.weight_laws.specs.Law.{Domain}
-use Rattle.auto_table.specs.Cells.{IsRow, AreParents}
-use Rattle.auto_table.proofs.Steps.{weight_read, weight_missing, link_read, link_missing}
 
-module _ {W : Type 0} (d : Domain W) {es ns : List Entry} {rows : List (Row W)} {spots : List (Spot × Place)} {links : List (Link × Place)} (t : IsTable d es ns rows spots links) (e : Entry) where
-  -- a weight other than zero has a place in the row of the entry
-  row_place : (n : ℕ) → weight_at d (cells_of d rows spots links) e n ≢ d.zero → (p : Place) × (lookup (spot.eq-value.it (spot_of e n)) spots ≡ Some p)
-  row_place n nz = by (lookup (spot.eq-value.it (spot_of e n)) spots) refl
-    where
-      by : (o : Option Place) → lookup (spot.eq-value.it (spot_of e n)) spots ≡ o → (p : Place) × (lookup (spot.eq-value.it (spot_of e n)) spots ≡ Some p)
-      by None h = absurd (nz (sym (weight_missing d rows spots links e n (sym h))))
-      by (Some p) h = (p, h)
+module _ {W : Type 0} (d : Domain W) (t : Cells W) (spots : List Spot) (places : List ℕ) (joints : List Joint) (seats : List ℕ) (laid : IsLaid d t spots places joints seats) where
+  -- ---- weights at nodes
+  -- a cell of the row of an entry
+  weight_cell_read : (e : Entry) (i : ℕ) → slice_get t.names i ≡ Some e → (j : ℕ) (x : Reached W) → slice_get (row_at t.reached i) j ≡ Some x → x.weight ≡ weight_at d t e x.node
+  weight_cell_read e i number j x h = sym (weight_there d t laid.apart e i number x.node
+      ∙ row-cell eqb same_node self_node node_of reached_weight d.zero (row_at t.reached i) j x h (λ k y g same. filed-apart spot_row spot_node one_spot node_of t.reached spots places laid.by_spot i k j y x g h same))
 
-  row_cell : (n : ℕ) → weight_at d (cells_of d rows spots links) e n ≢ d.zero → (i : ℕ) → slice_get ns i ≡ Some e → Has (row_at (reached_rows rows) i) (record { node = n; weight = weight_at d (cells_of d rows spots links) e n })
-  row_cell n nz i h =
-      let p = row_place n nz in
-      let c = t.by_spot.placed (spot_of e n) p.0 p.1 in
-      let row : p.0.row ≡ i = t.numbered p.0.row i e c.entry h in
-      let key : c.cell.node ≡ n = ap (λ (s : Spot). s.node) c.same in
-      let weight : c.cell.weight ≡ weight_at d (cells_of d rows spots links) e n = weight_read d rows spots links e n p.0 c.cell (sym p.1) c.is in
-      (p.0.at, subst (λ (k : ℕ). slice_get (row_at (reached_rows rows) k) p.0.at ≡ Some (record { node = n; weight = weight_at d (cells_of d rows spots links) e n })) row (c.is ∙ ap Some (λ k. record { node = key k; weight = weight k })))
+  pub weight_found : (s : Spot) (e : Entry) → slice_get t.names s.row ≡ Some e → (j : ℕ) → HasPlace spots places s j → (x : Reached W) → slice_get (row_at t.reached s.row) j ≡ Some x → x.weight ≡ weight_at d t e s.node
+  weight_found s e number j at x h =
+      let c = filed-cell spot_row spot_node one_spot node_of t.reached spots places laid.by_spot s j at in
+      let one : Some x ≡ Some c.cell = sym h ∙ c.there in
+      let same : x ≡ c.cell = cc in
+      weight_cell_read e s.row number j x h ∙ ap (weight_at d t e) (ap node_of same ∙ c.same)
 
-  -- the row of a number
-  pub reached_at : (i : ℕ) → slice_get ns i ≡ Some e → IsRow d (cells_of d rows spots links) e (row_at (reached_rows rows) i)
-  reached_at i h = record {
-    weight = λ x p. weight_read d rows spots links e x.node (place i p.0) x (sym (t.by_spot.found i p.0 e x h p.1)) p.1;
-    some = λ x p. t.held.weights (spot_of e x.node) x.weight
-        (lookup_placed spot.eq-value.it same_spot self_spot entry_of spot_in (λ e x. refl) weight_in d.zero (reached_rows rows) spots (spot_of e x.node) (place i p.0) (t.by_spot.found i p.0 e x h p.1)
-        ∙ ap Some (value_of_cell spot.eq-value.it same_spot self_spot entry_of spot_in (λ e x. refl) weight_in d.zero (reached_rows rows) i p.0 x p.1));
-    all = λ n nz. row_cell n nz i h;
-    apart = λ j k x y p q s.
-        let first = t.by_spot.found i j e x h p in
-        let second : lookup (spot.eq-value.it (spot_of e x.node)) spots ≡ Some (place i k) = subst (λ (n : ℕ). lookup (spot.eq-value.it (spot_of e n)) spots ≡ Some (place i k)) (sym s) (t.by_spot.found i k e y h q) in
-        let same : place i j ≡ place i k = cc in ap (λ (z : Place). z.at) same;
+  pub weight_missed : (s : Spot) (e : Entry) → slice_get t.names s.row ≡ Some e → (Has spots s → ⊥) → d.zero ≡ weight_at d t e s.node
+  weight_missed s e number miss = sym (weight_there d t laid.apart e s.row number s.node
+      ∙ row-none eqb same_node self_node node_of reached_weight d.zero (row_at t.reached s.row) s.node (λ j x h. filed-missed spot_row spot_node one_spot node_of t.reached spots places laid.by_spot s miss j x h))
+
+  pub weight_row : (e : Entry) (i : ℕ) → slice_get t.names i ≡ Some e → IsRow d t e (row_at t.reached i)
+  weight_row e i number = record {
+    weight = λ x p. weight_cell_read e i number p.0 x p.1;
+    some = λ x p. laid.weights_some i p.0 x p.1;
+    all = λ n nz.
+        let c = weight_cell d t e n nz in
+        let row : c.0 ≡ i = laid.apart c.0 i e c.1 number in
+        let there : slice_get (row_at t.reached i) c.2 ≡ Some c.3 = subst (λ (k : ℕ). slice_get (row_at t.reached k) c.2 ≡ Some c.3) row c.4 in
+        let weighs : c.3.weight ≡ weight_at d t e n = weight_cell_read e i number c.2 c.3 there ∙ ap (weight_at d t e) c.5 in
+        (c.2, there ∙ ap Some (λ k. record { node = c.5 k; weight = weighs k }));
+    apart = λ j k x y p q same. filed-apart spot_row spot_node one_spot node_of t.reached spots places laid.by_spot i j k x y p q same;
   }
 
-  -- an entry with no number has no weights
-  pub row_none : (Has ns e → ⊥) → IsRow d (cells_of d rows spots links) e []
-  row_none n = record {
+  pub weight_row_none : (e : Entry) → (Has t.names e → ⊥) → IsRow d t e []
+  weight_row_none e miss = record {
     weight = λ x p. let h = p.1 in cc;
     some = λ x p. let h = p.1 in cc;
-    all = λ m nz. let p = row_place m nz in absurd (n (p.0.row, (t.by_spot.placed (spot_of e m) p.0 p.1).entry));
-    apart = λ j k x y p q s. cc;
+    all = λ n nz. absurd (nz (weight_unnamed d t e miss n));
+    apart = λ j k x y p q same. cc;
   }
 
-module _ {W : Type 0} (d : Domain W) {es ns : List Entry} {rows : List (Row W)} {spots : List (Spot × Place)} {links : List (Link × Place)} (t : IsTable d es ns rows spots links) (e : Entry) where
-  -- a weight other than zero has a place in the row of the entry
-  parents_place : (n : Entry) → link_at d (cells_of d rows spots links) e n ≢ d.zero → (p : Place) × (lookup (link.eq-value.it (link_of e n)) links ≡ Some p)
-  parents_place n nz = by (lookup (link.eq-value.it (link_of e n)) links) refl
-    where
-      by : (o : Option Place) → lookup (link.eq-value.it (link_of e n)) links ≡ o → (p : Place) × (lookup (link.eq-value.it (link_of e n)) links ≡ Some p)
-      by None h = absurd (nz (sym (link_missing d rows spots links e n (sym h))))
-      by (Some p) h = (p, h)
+  -- ---- weights at links
+  -- a cell of the row of an entry
+  link_cell_read : (e : Entry) (i : ℕ) → slice_get t.names i ≡ Some e → (j : ℕ) (x : Linked W) → slice_get (row_at t.parents i) j ≡ Some x → x.weight ≡ link_at d t e x.parent
+  link_cell_read e i number j x h = sym (link_there d t laid.apart e i number x.parent
+      ∙ row-cell entry.eq-value.it same_entry self_entry parent_of linked_weight d.zero (row_at t.parents i) j x h (λ k y g same. filed-apart joint_row joint_parent one_joint parent_of t.parents joints seats laid.by_joint i k j y x g h same))
 
-  parents_cell : (n : Entry) → link_at d (cells_of d rows spots links) e n ≢ d.zero → (i : ℕ) → slice_get ns i ≡ Some e → Has (row_at (parents_rows rows) i) (record { parent = n; weight = link_at d (cells_of d rows spots links) e n })
-  parents_cell n nz i h =
-      let p = parents_place n nz in
-      let c = t.by_link.placed (link_of e n) p.0 p.1 in
-      let row : p.0.row ≡ i = t.numbered p.0.row i e c.entry h in
-      let key : c.cell.parent ≡ n = ap (λ (s : Link). s.parent) c.same in
-      let weight : c.cell.weight ≡ link_at d (cells_of d rows spots links) e n = link_read d rows spots links e n p.0 c.cell (sym p.1) c.is in
-      (p.0.at, subst (λ (k : ℕ). slice_get (row_at (parents_rows rows) k) p.0.at ≡ Some (record { parent = n; weight = link_at d (cells_of d rows spots links) e n })) row (c.is ∙ ap Some (λ k. record { parent = key k; weight = weight k })))
+  pub link_found : (s : Joint) (e : Entry) → slice_get t.names s.row ≡ Some e → (j : ℕ) → HasPlace joints seats s j → (x : Linked W) → slice_get (row_at t.parents s.row) j ≡ Some x → x.weight ≡ link_at d t e s.parent
+  link_found s e number j at x h =
+      let c = filed-cell joint_row joint_parent one_joint parent_of t.parents joints seats laid.by_joint s j at in
+      let one : Some x ≡ Some c.cell = sym h ∙ c.there in
+      let same : x ≡ c.cell = cc in
+      link_cell_read e s.row number j x h ∙ ap (link_at d t e) (ap parent_of same ∙ c.same)
 
-  -- the row of a number
-  pub linked_at : (i : ℕ) → slice_get ns i ≡ Some e → AreParents d (cells_of d rows spots links) e (row_at (parents_rows rows) i)
-  linked_at i h = record {
-    weight = λ x p. link_read d rows spots links e x.parent (place i p.0) x (sym (t.by_link.found i p.0 e x h p.1)) p.1;
-    some = λ x p. t.held.links (link_of e x.parent) x.weight
-        (lookup_placed link.eq-value.it same_link self_link child_of link_in (λ e x. refl) link_weight d.zero (parents_rows rows) links (link_of e x.parent) (place i p.0) (t.by_link.found i p.0 e x h p.1)
-        ∙ ap Some (value_of_cell link.eq-value.it same_link self_link child_of link_in (λ e x. refl) link_weight d.zero (parents_rows rows) i p.0 x p.1));
-    all = λ n nz. parents_cell n nz i h;
-    apart = λ j k x y p q s.
-        let first = t.by_link.found i j e x h p in
-        let second : lookup (link.eq-value.it (link_of e x.parent)) links ≡ Some (place i k) = subst (λ (n : Entry). lookup (link.eq-value.it (link_of e n)) links ≡ Some (place i k)) (sym s) (t.by_link.found i k e y h q) in
-        let same : place i j ≡ place i k = cc in ap (λ (z : Place). z.at) same;
+  pub link_missed : (s : Joint) (e : Entry) → slice_get t.names s.row ≡ Some e → (Has joints s → ⊥) → d.zero ≡ link_at d t e s.parent
+  link_missed s e number miss = sym (link_there d t laid.apart e s.row number s.parent
+      ∙ row-none entry.eq-value.it same_entry self_entry parent_of linked_weight d.zero (row_at t.parents s.row) s.parent (λ j x h. filed-missed joint_row joint_parent one_joint parent_of t.parents joints seats laid.by_joint s miss j x h))
+
+  pub link_row : (e : Entry) (i : ℕ) → slice_get t.names i ≡ Some e → AreParents d t e (row_at t.parents i)
+  link_row e i number = record {
+    weight = λ x p. link_cell_read e i number p.0 x p.1;
+    some = λ x p. laid.links_some i p.0 x p.1;
+    all = λ n nz.
+        let c = link_cell d t e n nz in
+        let row : c.0 ≡ i = laid.apart c.0 i e c.1 number in
+        let there : slice_get (row_at t.parents i) c.2 ≡ Some c.3 = subst (λ (k : ℕ). slice_get (row_at t.parents k) c.2 ≡ Some c.3) row c.4 in
+        let weighs : c.3.weight ≡ link_at d t e n = link_cell_read e i number c.2 c.3 there ∙ ap (link_at d t e) c.5 in
+        (c.2, there ∙ ap Some (λ k. record { parent = c.5 k; weight = weighs k }));
+    apart = λ j k x y p q same. filed-apart joint_row joint_parent one_joint parent_of t.parents joints seats laid.by_joint i j k x y p q same;
   }
 
-  -- an entry with no number has no weights
-  pub parents_none : (Has ns e → ⊥) → AreParents d (cells_of d rows spots links) e []
-  parents_none n = record {
+  pub link_row_none : (e : Entry) → (Has t.names e → ⊥) → AreParents d t e []
+  link_row_none e miss = record {
     weight = λ x p. let h = p.1 in cc;
     some = λ x p. let h = p.1 in cc;
-    all = λ m nz. let p = parents_place m nz in absurd (n (p.0.row, (t.by_link.placed (link_of e m) p.0 p.1).entry));
-    apart = λ j k x y p q s. cc;
+    all = λ n nz. absurd (nz (link_unnamed d t e miss n));
+    apart = λ j k x y p q same. cc;
   }

@@ -1,29 +1,48 @@
 -- What a table of weights is: a weight for each entry and node, and one for each link from an entry to an entry.
-use Rattle.std.specs.Prelude.{◌≡◌, ◌≢◌, ℕ, List, Some, slice_get}
-use Rattle.std.specs.Option.{unwrap_or}
-use Rattle.std.specs.Map.{lookup}
+use Rattle.std.specs.Prelude.{◌≡◌, ◌≢◌, ℕ, suc, Bool, eqb, List, [], ◌∷◌, Some, cond, slice_get}
 use Rattle.auto_table.specs.declared.entry.Entry.{Entry}
-use Rattle.auto_table.specs.declared.entry.Spot.{Spot}
-use Rattle.auto_table.specs.declared.entry.Link.{Link}
 use Rattle.auto_table.specs.declared.row.Reached.{Reached}
 use Rattle.auto_table.specs.declared.row.Linked.{Linked}
-use Rattle.auto_table.specs.contracts.entry.SpotPartialEq.TheImpl as spot
-use Rattle.auto_table.specs.contracts.entry.LinkPartialEq.TheImpl as link
+use Rattle.auto_table.specs.contracts.entry.EntryPartialEq.TheImpl as entry
+use Rattle.auto_table.specs.Grids.{row_at}
 use Rattle.auto_table.specs.Lists.{Has, IsApart}
 use Rattle.weight_laws.specs.Law.{Domain}
 
--- what a table means: the weights that aren't zero, by their spots and by their links
+-- what a table means: entries by number, and of each number the weights at nodes, and the links to parents
 pub record Cells (W : Type 0) : Type 0 where
-  pub weights : List (Spot × W)
-  pub links : List (Link × W)
+  pub names : List Entry
+  pub reached : List (List (Reached W))
+  pub parents : List (List (Linked W))
+
+-- what there is at the number of the entry, and something else where it has none
+abbrev pub at_entry : {X : Type 0} → List Entry → (ℕ → X) → X → Entry → X
+at_entry [] at none e = none
+at_entry (k ∷ ks) at none e = cond (entry.eq-value.it k e) (at 0) (at_entry ks (λ i. at (suc i)) none e)
+
+-- the weight of the first cell of this key, and something else where there is none
+abbrev pub weight_of : {K X W : Type 0} → (K → K → Bool) → (X → K) → (X → W) → W → K → List X → W
+weight_of eq is_of weight none k [] = none
+weight_of eq is_of weight none k (x ∷ xs) = cond (eq (is_of x) k) (weight x) (weight_of eq is_of weight none k xs)
+
+abbrev pub node_of : {W : Type 0} → Reached W → ℕ
+node_of x = x.node
+
+abbrev pub parent_of : {W : Type 0} → Linked W → Entry
+parent_of x = x.parent
+
+abbrev pub reached_weight : {W : Type 0} → Reached W → W
+reached_weight x = x.weight
+
+abbrev pub linked_weight : {W : Type 0} → Linked W → W
+linked_weight x = x.weight
 
 -- the weight of the entry at the node
 unfoldable pub weight_at : {W : Type 0} → Domain W → Cells W → Entry → ℕ → W
-weight_at d t entry node = unwrap_or (lookup (spot.eq-value.it (record { entry = entry; node = node })) t.weights) d.zero
+weight_at d t entry node = at_entry t.names (λ i. weight_of eqb node_of reached_weight d.zero node (row_at t.reached i)) d.zero entry
 
 -- the weight of the link from the child to the parent
 unfoldable pub link_at : {W : Type 0} → Domain W → Cells W → Entry → Entry → W
-link_at d t child parent = unwrap_or (lookup (link.eq-value.it (record { child = child; parent = parent })) t.links) d.zero
+link_at d t child parent = at_entry t.names (λ i. weight_of entry.eq-value.it parent_of linked_weight d.zero parent (row_at t.parents i)) d.zero child
 
 -- a weight at the entry, or at a link from or to it, isn't zero
 pub data IsUsed {W : Type 0} (d : Domain W) (t : Cells W) (entry : Entry) : Type 0 where

@@ -1,4 +1,6 @@
 pub mod Cells
+pub mod Grids
 pub mod Inside
 pub mod Lists
-pub mod Rows
+pub mod Naming
+pub mod Spreads

@@ -3,11 +3,14 @@
 #![tactic(auto)]
 
 pub mod entry;
+pub mod grid;
+pub mod naming;
 pub mod row;
 pub mod rule;
+pub mod spot;
 pub mod table;
 
 pub use entry::Entry;
-pub use row::{Linked, Reached};
+pub use row::{Linked, NoMemory, Reached};
 pub use rule::Rule;
-pub use table::{NoMemory, Table};
+pub use table::Table;

@@ -1,6 +1,6 @@
 mod Filed
 mod Grouped
 mod Laid
-mod Places
+pub mod Places
 mod Roomy
 mod Tallied

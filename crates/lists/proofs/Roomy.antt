@@ -20,6 +20,11 @@ room-within count capacity heads room =
     let d : min capacity (limit heads) ≤ limit heads = min-le_right _ _ in
     (omega (arith, room, a, c), omega (arith, room, a, d), omega (arith, room, b))
 
+-- one key more takes room for one
+pub room-put : (count capacity count' capacity' : ℕ) (heads heads' : List ℕ) → count' ≡ count + 1 → capacity ≤ capacity' → length heads' ≡ length heads
+    → min (min capacity (limit heads)) (2 ^ 32 - 1) - count ≤ (min (min capacity' (limit heads')) (2 ^ 32 - 1) - count') + 1
+room-put count capacity count' capacity' heads heads' one more same = omega (arith, one, more, same)
+
 module _ {K : Type 0} (spread : K → ℕ) (keys : List K) (heads next : List ℕ) (numbered : IsNumbered spread keys heads next) (key : K) where
   -- a new key, filed where there are slots
   pub IsNumbered-put : (new_heads new_next : List ℕ) → (Has keys key → ⊥) → length keys + 1 < 2 ^ 32 → length new_heads ≡ length heads

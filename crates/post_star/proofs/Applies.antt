@@ -3,9 +3,8 @@ use Rattle.std.proofs.Common.{◌≡◌, ◌⊎◌, inl, inr, ℕ, ◌+◌, ◌<
 use Rattle.auto_table.specs.declared.rule.Rule.{Rule}
 use Rattle.auto_table.specs.declared.rule.Rule.TheVariants.{Flow, Push, Pop}
 use Rattle.auto_table.specs.declared.entry.Entry.{Entry}
-use Rattle.auto_table.specs.declared.entry.Link.{Link}
 use Rattle.auto_table.specs.declared.row.Linked.{Linked}
-use Rattle.auto_table.proofs.Raises.{link_of, link_or}
+use Rattle.post_star.proofs.Pairs.{link_of, link_or}
 use Rattle.auto_table.specs.declared.entry.Entry.TheVariants.{Base, Pushed}
 use Rattle.auto_table.specs.Lists.{Has}
 use Rattle.auto_table.specs.Cells.{Cells, weight_at, link_at, IsRaisedLink, AreParents}
@@ -33,11 +32,11 @@ below_or_last i t h = grind arith
 
 -- a rise of a link moves no other
 link_moves : {W : Type 0} {d : Domain W} {old new : Cells W} (c p : Entry) (w : W) → IsRaisedLink d old new c p w → (x y : Entry) → (link_at d new x y ≡ link_at d old x y) ⊎ (y ≡ p)
-link_moves {W} {d} {old} {new} c p w r x y = by (link_or _ (link_of x y) (link_of c p) refl)
+link_moves {W} {d} {old} {new} c p w r x y = by (link_or (link_of x y) (link_of c p))
   where
     by : (link_of x y ≡ link_of c p) ⊎ (link_of x y ≡ link_of c p → ⊥) → (link_at d new x y ≡ link_at d old x y) ⊎ (y ≡ p)
-    by (inl q) = inr (ap (λ (k : Link). k.parent) q)
-    by (inr n) = inl (r.others x y (λ a b. n (λ i. record { child = a i; parent = b i })))
+    by (inl q) = inr (ap (λ (k : Entry × Entry). k.1) q)
+    by (inr n) = inl (r.others x y (λ a b. n (λ i. (a i, b i))))
 
 -- ---- a pop at a base, up to a step
 pub record IsBaseGone {W : Type 0} (d : Domain W) (rules : List (Rule W)) (starts : List (Start W)) (steps : List BaseStep) (group : List BaseStep) (start now : Cells W) (u w : List Item) (base from mark to : ℕ) (r : W) (t : ℕ) : Type 0 where

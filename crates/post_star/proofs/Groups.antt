@@ -1,10 +1,11 @@
 -- Elements by their keys: one comes into a group that is there, or into a new one.
-use Rattle.std.proofs.Common.{◌≡◌, ◌≢◌, ◌⊎◌, inl, inr, ◌∙◌, ℕ, zero, suc, ◌<◌, List, [], ◌∷◌, ◌++◌, length, get_or, set, Some, None, Bool, true, false, cond, refl, sym, ap, subst, arith, rules, get_or-set_same, get_or-set_other}
-use Rattle.std.specs.declared.option.Option.{Option}
-use Rattle.std.specs.Option.{option_map_or}
-use Rattle.std.specs.Map.{lookup}
-use Rattle.std.proofs.lemmas.List.{get_or_append_left}
-use Rattle.std.proofs.Math.Seq.{get_or-append_seam}
+use Rattle.std.proofs.Common.{◌≡◌, ◌≢◌, ◌⊎◌, inl, inr, ◌∙◌, ℕ, zero, suc, ◌<◌, List, [], ◌∷◌, ◌++◌, length, map, slice_get, Some, Bool, true, false, cond, refl, sym, ap, subst, arith, rules, length-append}
+use Rattle.std.specs.List.{slice_set}
+use Rattle.lists.specs.Filings.{row}
+use Rattle.lists.specs.Groups.{found_in}
+use Rattle.lists.specs.Lists.{Has, IsApart}
+use Rattle.lists.proofs.Places.{IsApart-push, slice_get-below, slice_get-push}
+use Rattle.auto_table.proofs.Filed.{row_at-set_other, row_at-set_same, rows-set}
 use Rattle.post_star.specs.declared.key.Key.{Key}
 use Rattle.post_star.specs.contracts.key.KeyPartialEq.TheImpl as keys
 use Rattle.post_star.specs.Groups.{Groups, found_at, IsGrouped, IsAdded}
@@ -16,15 +17,6 @@ same_key a b h = search rules
 self_key : (a : Key) → keys.eq-value.it a a ≡ true
 self_key a = search rules
 
-length-set : {X : Type 0} (xs : List X) (i : ℕ) (x : X) → length (set xs i x) ≡ length xs
-length-set [] i x = refl
-length-set (y ∷ xs) zero x = refl
-length-set (y ∷ xs) (suc i) x = ap suc (length-set xs i x)
-
-length-push : {X : Type 0} (xs : List X) (x : X) → length (xs ++ x ∷ []) ≡ suc (length xs)
-length-push [] x = refl
-length-push (y ∷ xs) x = ap suc (length-push xs x)
-
 -- two keys are one, or the test tells them apart
 pub one_key : (a b : Key) → ((a ≡ b) × (keys.eq-value.it a b ≡ true)) ⊎ ((a ≡ b → ⊥) × (keys.eq-value.it a b ≡ false))
 one_key a b = by (keys.eq-value.it a b) refl
@@ -33,93 +25,96 @@ one_key a b = by (keys.eq-value.it a b) refl
     by true e = inl (same_key a b e, e)
     by false e = inr ((λ h. let t : keys.eq-value.it a b ≡ true = subst (λ (z : Key). keys.eq-value.it a z ≡ true) h (self_key a) in cc), e)
 
--- the number of a key, in other words
-pub renumbered : (numbers mid more : List (Key × ℕ)) (node from : Key) (n m : ℕ) → node ≡ from → n ≡ m → mid ≡ numbers → ((q : Key) → lookup (keys.eq-value.it q) more ≡ cond (keys.eq-value.it node q) (Some n) (lookup (keys.eq-value.it q) mid))
-    → (q : Key) → lookup (keys.eq-value.it q) more ≡ cond (keys.eq-value.it from q) (Some m) (lookup (keys.eq-value.it q) numbers)
-renumbered numbers mid more node from n m e f g h q =
-    h q ∙ ap (λ (x : Key). cond (keys.eq-value.it x q) (Some n) (lookup (keys.eq-value.it q) mid)) e ∙ ap (λ (x : ℕ). cond (keys.eq-value.it from q) (Some x) (lookup (keys.eq-value.it q) mid)) f
-    ∙ ap (λ (ns : List (Key × ℕ)). cond (keys.eq-value.it from q) (Some m) (lookup (keys.eq-value.it q) ns)) g
-
 module _ {X : Type 0} where
-  abbrev pub group_of : List (List X) → Option ℕ → List X
-  group_of groups o = option_map_or (λ i. get_or groups i []) o []
+  -- the list at the numbers of the key alone counts
+  pub found-same : (ks : List Key) (at to : ℕ → List X) (key : Key) → ((i : ℕ) → slice_get ks i ≡ Some key → at i ≡ to i) → found_in keys.eq-value.it ks at key ≡ found_in keys.eq-value.it ks to key
+  found-same [] at to key h = refl
+  found-same (k ∷ ks) at to key h = elim (one_key k key) [
+    | inl s ↦ ap (λ (t : Bool). cond t (at 0) (found_in keys.eq-value.it ks (λ i. at (suc i)) key)) s.1 ∙ h 0 (ap Some s.0) ∙ sym (ap (λ (t : Bool). cond t (to 0) (found_in keys.eq-value.it ks (λ i. to (suc i)) key)) s.1)
+    | inr s ↦ ap (λ (t : Bool). cond t (at 0) (found_in keys.eq-value.it ks (λ i. at (suc i)) key)) s.1
+        ∙ found-same ks (λ i. at (suc i)) (λ i. to (suc i)) key (λ i g. h (suc i) g)
+        ∙ sym (ap (λ (t : Bool). cond t (to 0) (found_in keys.eq-value.it ks (λ i. to (suc i)) key)) s.1)
+  ]
 
-  abbrev pub groups_by : List (Key × ℕ) → List (List X) → Groups X
-  groups_by numbers groups = record { numbers = numbers; groups = groups }
+  -- of a key with a number
+  pub found-there : (ks : List Key) (at : ℕ → List X) (key : Key) (i : ℕ) → IsApart ks → slice_get ks i ≡ Some key → found_in keys.eq-value.it ks at key ≡ at i
+  found-there [] at key i apart h = cc
+  found-there (k ∷ ks) at key zero apart h = let e : k ≡ key = cc in ap (λ (t : Bool). cond t (at 0) (found_in keys.eq-value.it ks (λ i. at (suc i)) key)) (ap (λ (z : Key). keys.eq-value.it z key) e ∙ self_key key)
+  found-there (k ∷ ks) at key (suc i) apart h = elim (one_key k key) [
+    | inl s ↦ let n : 0 ≡ suc i = apart 0 (suc i) key (ap Some s.0) h in absurd (omega (arith, n))
+    | inr s ↦ ap (λ (t : Bool). cond t (at 0) (found_in keys.eq-value.it ks (λ i. at (suc i)) key)) s.1
+        ∙ found-there ks (λ i. at (suc i)) key i (λ a b x g f. let n : suc a ≡ suc b = apart (suc a) (suc b) x g f in omega (arith, n)) h
+  ]
 
-  pub grouped_none : (numbers : List (Key × ℕ)) (groups : List (List X)) → numbers ≡ [] → IsGrouped (groups_by numbers groups)
-  grouped_none numbers groups e = record {
-    within = λ k i h. let t : lookup (keys.eq-value.it k) [] ≡ Some i = subst (λ (ns : List (Key × ℕ)). lookup (keys.eq-value.it k) ns ≡ Some i) e h in cc;
-    apart = λ a b i h k. let t : lookup (keys.eq-value.it a) [] ≡ Some i = subst (λ (ns : List (Key × ℕ)). lookup (keys.eq-value.it a) ns ≡ Some i) e h in cc;
-  }
+  -- of a key without one
+  pub found-none : (ks : List Key) (at : ℕ → List X) (key : Key) → (Has ks key → ⊥) → found_in keys.eq-value.it ks at key ≡ []
+  found-none [] at key miss = refl
+  found-none (k ∷ ks) at key miss = elim (one_key k key) [
+    | inl s ↦ absurd (miss (0, ap Some s.0))
+    | inr s ↦ ap (λ (t : Bool). cond t (at 0) (found_in keys.eq-value.it ks (λ i. at (suc i)) key)) s.1 ∙ found-none ks (λ i. at (suc i)) key (λ h. miss (suc h.0, h.1))
+  ]
 
-  pub reads_none : (numbers : List (Key × ℕ)) (groups : List (List X)) → numbers ≡ [] → (node : Key) → found_at (groups_by numbers groups) node ≡ []
-  reads_none numbers groups e node = ap (λ (ns : List (Key × ℕ)). group_of groups (lookup (keys.eq-value.it node) ns)) e
+  -- another key comes in
+  found-other : (ks : List Key) (k : Key) (at : ℕ → List X) (key : Key) → key ≢ k → found_in keys.eq-value.it (ks ++ k ∷ []) at key ≡ found_in keys.eq-value.it ks at key
+  found-other [] k at key n = elim (one_key k key) [
+    | inl s ↦ absurd (n (sym s.0))
+    | inr s ↦ ap (λ (t : Bool). cond t (at 0) []) s.1
+  ]
+  found-other (x ∷ ks) k at key n = ap (λ (r : List X). cond (keys.eq-value.it x key) (at 0) r) (found-other ks k (λ i. at (suc i)) key n)
 
-  module _ (numbers : List (Key × ℕ)) (groups : List (List X)) (g : IsGrouped (groups_by numbers groups)) (key : Key) (x : X) where
+  row-left : (ls : List (List X)) (l : List X) (i : ℕ) → i < length ls → row (ls ++ l ∷ []) i ≡ row ls i
+  row-left [] l i h = absurd (omega arith)
+  row-left (x ∷ ls) l zero h = refl
+  row-left (x ∷ ls) l (suc i) h = row-left ls l i (omega arith)
+
+  row-last : (ls : List (List X)) (l : List X) (i : ℕ) → length ls ≡ i → row (ls ++ l ∷ []) i ≡ l
+  row-last [] l zero e = refl
+  row-last [] l (suc i) e = absurd (omega (arith, e))
+  row-last (x ∷ ls) l zero e = absurd (omega (arith, e))
+  row-last (x ∷ ls) l (suc i) e = row-last ls l i (omega (arith, e))
+
+  -- as many groups, of which one is another
+  pub same_long : {Y : Type 0} (f : Y → List X) (ys : List Y) (i : ℕ) (y : Y) → length (map f (slice_set ys i y)) ≡ length (map f ys)
+  same_long f [] i y = refl
+  same_long f (z ∷ ys) zero y = refl
+  same_long f (z ∷ ys) (suc i) y = ap suc (same_long f ys i y)
+
+  abbrev pub groups_by : List Key → List (List X) → Groups X
+  groups_by ks ls = record { keys = ks; lists = ls }
+
+  pub grouped_none : (ks : List Key) (ls : List (List X)) → ks ≡ [] → ls ≡ [] → IsGrouped (groups_by ks ls)
+  grouped_none ks ls e f = record { as_many = ap length f ∙ sym (ap length e); apart = λ i j x h k. let p : slice_get [] i ≡ Some x = subst (λ (ys : List Key). slice_get ys i ≡ Some x) e h in cc }
+
+  pub reads_none : (ks : List Key) (ls : List (List X)) → ks ≡ [] → (key : Key) → found_at (groups_by ks ls) key ≡ []
+  reads_none ks ls e key = ap (λ (ys : List Key). found_in keys.eq-value.it ys (row ls) key) e
+
+  module _ (ks : List Key) (ls : List (List X)) (g : IsGrouped (groups_by ks ls)) (key : Key) (x : X) where
     -- the element comes into the group of its key
-    module _ (i : ℕ) (there : Some i ≡ lookup (keys.eq-value.it key) numbers) (after : List (List X)) (is : after ≡ set groups i (get_or groups i [] ++ x ∷ [])) where
-      long : length after ≡ length groups
-      long = ap length is ∙ length-set groups i _
+    module _ (i : ℕ) (at : slice_get ks i ≡ Some key) where
+      pub group_there : i < length ls
+      group_there = let low : i < length ks = slice_get-below ks i key at in let many = g.as_many in omega arith
 
-      pub grouped_in : IsGrouped (groups_by numbers after)
-      grouped_in = record { within = λ node j h. let k : j < length groups = g.within node j h in let e = long in omega arith; apart = g.apart }
+      abbrev pub longer : List (List X)
+      longer = slice_set ls i (row ls i ++ x ∷ [])
 
-      here : get_or after i [] ≡ get_or groups i [] ++ x ∷ []
-      here =
-          let low : i < length groups = g.within key i (sym there) in
-          ap (λ (xs : List (List X)). get_or xs i []) is ∙ get_or-set_same groups i _ [] low
+      pub grouped_in : IsGrouped (groups_by ks longer)
+      grouped_in = record { as_many = rows-set ls i (row ls i ++ x ∷ []) ∙ g.as_many; apart = g.apart }
 
-      other : (node : Key) → node ≢ key → (o : Option ℕ) → lookup (keys.eq-value.it node) numbers ≡ o → group_of after o ≡ group_of groups o
-      other node n None h = refl
-      other node n (Some j) h =
-          let apart : j ≢ i = λ e. n (g.apart node key i (h ∙ ap Some e) (sym there)) in
-          ap (λ (xs : List (List X)). get_or xs j []) is ∙ get_or-set_other groups i j _ [] apart
-
-      pub indexed_in : IsAdded (groups_by numbers groups) (groups_by numbers after) key x
-      indexed_in = record {
-        here = ap (group_of after) (sym there) ∙ here ∙ ap (λ (o : Option ℕ). group_of groups o ++ x ∷ []) there;
-        others = λ node n. other node n (lookup (keys.eq-value.it node) numbers) refl;
+      pub added_in : IsAdded (groups_by ks ls) (groups_by ks longer) key x
+      added_in = record {
+        here = found-there ks (row longer) key i g.apart at ∙ row_at-set_same ls i (row ls i ++ x ∷ []) group_there ∙ ap (λ (l : List X). l ++ x ∷ []) (sym (found-there ks (row ls) key i g.apart at));
+        others = λ k n. found-same ks (row longer) (row ls) k (λ j h. row_at-set_other ls i (row ls i ++ x ∷ []) j (λ e. n (let p : Some k ≡ Some key = sym h ∙ ap (slice_get ks) e ∙ at in cc)));
       }
 
-    -- the element comes into a new group
-    module _ (none : None ≡ lookup (keys.eq-value.it key) numbers) (after : List (List X)) (is : after ≡ groups ++ (x ∷ []) ∷ []) (more : List (Key × ℕ))
-        (updates : (q : Key) → lookup (keys.eq-value.it q) more ≡ cond (keys.eq-value.it key q) (Some (length groups)) (lookup (keys.eq-value.it q) numbers)) where
-      mine : (q : Key) → keys.eq-value.it key q ≡ true → lookup (keys.eq-value.it q) more ≡ Some (length groups)
-      mine q e = updates q ∙ ap (λ (b : Bool). cond b (Some (length groups)) (lookup (keys.eq-value.it q) numbers)) e
+    -- the element is the first of its key
+    module _ (new : Has ks key → ⊥) where
+      pub grouped_new : IsGrouped (groups_by (ks ++ key ∷ []) (ls ++ (x ∷ []) ∷ []))
+      grouped_new = record { as_many = omega (arith, g.as_many, length-append ls ((x ∷ []) ∷ []), length-append ks (key ∷ [])); apart = IsApart-push ks key g.apart new }
 
-      kept : (q : Key) → keys.eq-value.it key q ≡ false → lookup (keys.eq-value.it q) more ≡ lookup (keys.eq-value.it q) numbers
-      kept q e = updates q ∙ ap (λ (b : Bool). cond b (Some (length groups)) (lookup (keys.eq-value.it q) numbers)) e
-
-      -- a key with a number is the element's, or it had one below
-      number : (q : Key) (j : ℕ) → lookup (keys.eq-value.it q) more ≡ Some j → ((key ≡ q) × (j ≡ length groups)) ⊎ ((lookup (keys.eq-value.it q) numbers ≡ Some j) × (j < length groups))
-      number q j h = elim (one_key key q) [
-        | inl e ↦ inl (e.0, (let t = mine q e.1 in cc))
-        | inr n ↦ let k = sym (kept q n.1) ∙ h in inr (k, g.within q j k)
-      ]
-
-      pub grouped_new : IsGrouped (groups_by more after)
-      grouped_new = record {
-        within = λ node j h. (let long : length after ≡ suc (length groups) = ap length is ∙ length-push groups (x ∷ []) in elim (number node j h) [
-          | inl e ↦ let at = e.1 in omega arith
-          | inr k ↦ let low = k.1 in omega arith
-        ]);
-        apart = λ a b j h k. elim (number a j h) [
-          | inl e ↦ elim (number b j k) [ inl f ↦ sym e.0 ∙ f.0 | inr f ↦ let at = e.1 in let low = f.1 in absurd (omega arith) ]
-          | inr e ↦ elim (number b j k) [ inl f ↦ let at = f.1 in let low = e.1 in absurd (omega arith) | inr f ↦ g.apart a b j e.0 f.0 ]
-        ];
-      }
-
-      other_new : (node : Key) → (o : Option ℕ) → lookup (keys.eq-value.it node) numbers ≡ o → group_of after o ≡ group_of groups o
-      other_new node None h = refl
-      other_new node (Some j) h = ap (λ (xs : List (List X)). get_or xs j []) is ∙ get_or_append_left groups _ [] j (g.within node j h)
-
-      pub indexed_new : IsAdded (groups_by numbers groups) (groups_by more after) key x
-      indexed_new = record {
-        here = ap (group_of after) (mine key (self_key key)) ∙ ap (λ (xs : List (List X)). get_or xs (length groups) []) is ∙ get_or-append_seam groups (x ∷ []) [] []
-            ∙ ap (λ (o : Option ℕ). group_of groups o ++ x ∷ []) none;
-        others = λ node n. elim (one_key key node) [
-          | inl e ↦ absurd (n (sym e.0))
-          | inr k ↦ ap (group_of after) (kept node k.1) ∙ other_new node (lookup (keys.eq-value.it node) numbers) refl
-        ];
+      pub added_new : IsAdded (groups_by ks ls) (groups_by (ks ++ key ∷ []) (ls ++ (x ∷ []) ∷ [])) key x
+      added_new = record {
+        here = found-there (ks ++ key ∷ []) (row (ls ++ (x ∷ []) ∷ [])) key (length ks) (IsApart-push ks key g.apart new) (slice_get-push ks key) ∙ row-last ls (x ∷ []) (length ks) g.as_many
+            ∙ ap (λ (l : List X). l ++ x ∷ []) (sym (found-none ks (row ls) key new));
+        others = λ k n. found-other ks key (row (ls ++ (x ∷ []) ∷ [])) k n
+            ∙ found-same ks (row (ls ++ (x ∷ []) ∷ [])) (row ls) k (λ j h. row-left ls (x ∷ []) j (omega (arith, slice_get-below ks j k h, g.as_many)));
       }

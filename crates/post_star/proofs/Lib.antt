@@ -18,3 +18,4 @@ pub mod Gathers
 pub mod Takes
 pub mod Found
 pub mod Parted
+pub mod Pairs

@@ -1,15 +1,13 @@
 -- One rise of a weight keeps what was done.
-use Rattle.std.proofs.Common.{◌≡◌, ◌⊎◌, inl, inr, ℕ, List, length, refl, sym, ap, ◌∙◌, subst}
+use Rattle.std.proofs.Common.{◌≡◌, ◌⊎◌, inl, inr, ℕ, List, length, sym, ap, ◌∙◌, subst}
 use Rattle.auto_table.specs.declared.rule.Rule.{Rule}
 use Rattle.auto_table.specs.declared.rule.Rule.TheVariants.{Flow, Push, Pop}
 use Rattle.auto_table.specs.declared.entry.Entry.{Entry}
 use Rattle.auto_table.specs.declared.entry.Entry.TheVariants.{Base, Pushed}
-use Rattle.auto_table.specs.declared.entry.Spot.{Spot}
-use Rattle.auto_table.specs.declared.entry.Link.{Link}
 use Rattle.auto_table.specs.Lists.{Has}
 use Rattle.auto_table.specs.Cells.{Cells, weight_at, link_at, IsRaised, IsRaisedLink}
 use Rattle.auto_table.proofs.Places.{slice_get-append_left, slice_get-push}
-use Rattle.auto_table.proofs.Raises.{spot_of, link_of, spot_or, link_or}
+use Rattle.post_star.proofs.Pairs.{link_of, link_or, spot_of, spot_or}
 use Rattle.post_star.specs.declared.bases.Start.{Start}
 use Rattle.post_star.specs.declared.bases.BaseStep.{BaseStep}
 use Rattle.post_star.specs.declared.rise.Item.{Item}
@@ -32,55 +30,55 @@ paid_moved (stayed s e) = inr s
 module _ {W : Type 0} {d : Domain W} {rules : List (Rule W)} {starts : List (Start W)} {steps : List BaseStep} where
   pub sound_risen : {old new : Cells W} {e : Entry} {n : ℕ} {w : W} → IsSound d rules starts steps old → IsRaised d old new e n w → Combines d (EntryRuns d rules starts steps e n) w → IsSound d rules starts steps new
   sound_risen {old} {new} {e} {n} {w} s r c = record {
-    weights = λ x m. by x m (spot_or _ (spot_of x m) (spot_of e n) refl);
+    weights = λ x m. by x m (spot_or (spot_of x m) (spot_of e n));
     links = λ x y. subst (λ (z : W). Combines d (LinkRuns d rules starts steps x y) z) (sym (r.links x y)) (s.links x y);
   }
     where
       by : (x : Entry) (m : ℕ) → (spot_of x m ≡ spot_of e n) ⊎ (spot_of x m ≡ spot_of e n → ⊥) → Combines d (EntryRuns d rules starts steps x m) (weight_at d new x m)
-      by x m (inl q) = subst (λ (z : Spot). Combines d (EntryRuns d rules starts steps z.entry z.node) (weight_at d new z.entry z.node)) (sym q)
+      by x m (inl q) = subst (λ (z : Entry × ℕ). Combines d (EntryRuns d rules starts steps z.0 z.1) (weight_at d new z.0 z.1)) (sym q)
           (subst (λ (z : W). Combines d (EntryRuns d rules starts steps e n) z) (sym r.here) (both (s.weights e n) c))
-      by x m (inr q) = subst (λ (z : W). Combines d (EntryRuns d rules starts steps x m) z) (sym (r.others x m (λ a b. q (λ i. record { entry = a i; node = b i })))) (s.weights x m)
+      by x m (inr q) = subst (λ (z : W). Combines d (EntryRuns d rules starts steps x m) z) (sym (r.others x m (λ a b. q (λ i. (a i, b i))))) (s.weights x m)
 
   pub sound_risen_link : {old new : Cells W} {c p : Entry} {w : W} → IsSound d rules starts steps old → IsRaisedLink d old new c p w → Combines d (LinkRuns d rules starts steps c p) w → IsSound d rules starts steps new
   sound_risen_link {old} {new} {c} {p} {w} s r k = record {
     weights = λ x m. subst (λ (z : W). Combines d (EntryRuns d rules starts steps x m) z) (sym (r.weights x m)) (s.weights x m);
-    links = λ x y. by x y (link_or _ (link_of x y) (link_of c p) refl);
+    links = λ x y. by x y (link_or (link_of x y) (link_of c p));
   }
     where
       by : (x y : Entry) → (link_of x y ≡ link_of c p) ⊎ (link_of x y ≡ link_of c p → ⊥) → Combines d (LinkRuns d rules starts steps x y) (link_at d new x y)
-      by x y (inl q) = subst (λ (z : Link). Combines d (LinkRuns d rules starts steps z.child z.parent) (link_at d new z.child z.parent)) (sym q)
+      by x y (inl q) = subst (λ (z : Entry × Entry). Combines d (LinkRuns d rules starts steps z.0 z.1) (link_at d new z.0 z.1)) (sym q)
           (subst (λ (z : W). Combines d (LinkRuns d rules starts steps c p) z) (sym r.here) (both (s.links c p) k))
-      by x y (inr q) = subst (λ (z : W). Combines d (LinkRuns d rules starts steps x y) z) (sym (r.others x y (λ a b. q (λ i. record { child = a i; parent = b i })))) (s.links x y)
+      by x y (inr q) = subst (λ (z : W). Combines d (LinkRuns d rules starts steps x y) z) (sym (r.others x y (λ a b. q (λ i. (a i, b i))))) (s.links x y)
 
 module _ {W : Type 0} {d : Domain W} (l : IsLawful W d) (steps : List BaseStep) (old new : Cells W) (before after : List Item)
     (wm : (e : Entry) (n : ℕ) → d.IsMeant (weight_at d old e n)) (lm : (c p : Entry) → d.IsMeant (link_at d old c p)) where
   module _ (e : Entry) (n : ℕ) (w : W) (mw : d.IsMeant w) (r : IsRisen d old new before after e n w) where
     -- the weight stays, or the place waits
     pub weight_same : (x : Entry) (m : ℕ) → Has after (At x m) ⊎ (weight_at d new x m ≡ weight_at d old x m)
-    weight_same x m = by (paid_moved r.paid) (spot_or _ (spot_of x m) (spot_of e n) refl)
+    weight_same x m = by (paid_moved r.paid) (spot_or (spot_of x m) (spot_of e n))
       where
         by : Has after (At e n) ⊎ (new ≡ old) → (spot_of x m ≡ spot_of e n) ⊎ (spot_of x m ≡ spot_of e n → ⊥) → Has after (At x m) ⊎ (weight_at d new x m ≡ weight_at d old x m)
         by (inr q) b = inr (ap (λ (t : Cells W). weight_at d t x m) q)
-        by (inl h) (inl q) = inl (subst (λ (z : Spot). Has after (At z.entry z.node)) (sym q) h)
-        by (inl h) (inr q) = inr (r.raised.others x m (λ a b. q (λ i. record { entry = a i; node = b i })))
+        by (inl h) (inl q) = inl (subst (λ (z : Entry × ℕ). Has after (At z.0 z.1)) (sym q) h)
+        by (inl h) (inr q) = inr (r.raised.others x m (λ a b. q (λ i. (a i, b i))))
 
     pub reached : Leq d w (weight_at d new e n)
     reached = subst (λ (z : W). Leq d w z) (sym r.raised.here) (leq_right l (weight_at d old e n) w (wm e n) mw)
 
     pub grown : (x : Entry) (m : ℕ) → Leq d (weight_at d old x m) (weight_at d new x m)
-    grown x m = by (spot_or _ (spot_of x m) (spot_of e n) refl)
+    grown x m = by (spot_or (spot_of x m) (spot_of e n))
       where
         by : (spot_of x m ≡ spot_of e n) ⊎ (spot_of x m ≡ spot_of e n → ⊥) → Leq d (weight_at d old x m) (weight_at d new x m)
-        by (inl q) = subst (λ (z : Spot). Leq d (weight_at d old z.entry z.node) (weight_at d new z.entry z.node)) (sym q)
+        by (inl q) = subst (λ (z : Entry × ℕ). Leq d (weight_at d old z.0 z.1) (weight_at d new z.0 z.1)) (sym q)
             (subst (λ (z : W). Leq d (weight_at d old e n) z) (sym r.raised.here) (leq_left l (weight_at d old e n) w (wm e n) mw))
-        by (inr q) = subst (λ (z : W). Leq d (weight_at d old x m) z) (sym (r.raised.others x m (λ a b. q (λ i. record { entry = a i; node = b i })))) (leq_self l _ (wm x m))
+        by (inr q) = subst (λ (z : W). Leq d (weight_at d old x m) z) (sym (r.raised.others x m (λ a b. q (λ i. (a i, b i))))) (leq_self l _ (wm x m))
 
     pub nm : (x : Entry) (m : ℕ) → d.IsMeant (weight_at d new x m)
-    nm x m = by (spot_or _ (spot_of x m) (spot_of e n) refl)
+    nm x m = by (spot_or (spot_of x m) (spot_of e n))
       where
         by : (spot_of x m ≡ spot_of e n) ⊎ (spot_of x m ≡ spot_of e n → ⊥) → d.IsMeant (weight_at d new x m)
-        by (inl q) = subst (λ (z : Spot). d.IsMeant (weight_at d new z.entry z.node)) (sym q) (subst (λ (z : W). d.IsMeant z) (sym r.raised.here) (l.combine_meant _ _ (wm e n) mw))
-        by (inr q) = subst (λ (z : W). d.IsMeant z) (sym (r.raised.others x m (λ a b. q (λ i. record { entry = a i; node = b i })))) (wm x m)
+        by (inl q) = subst (λ (z : Entry × ℕ). d.IsMeant (weight_at d new z.0 z.1)) (sym q) (subst (λ (z : W). d.IsMeant z) (sym r.raised.here) (l.combine_meant _ _ (wm e n) mw))
+        by (inr q) = subst (λ (z : W). d.IsMeant z) (sym (r.raised.others x m (λ a b. q (λ i. (a i, b i))))) (wm x m)
 
     -- a weight below the old one at a place is below the new one
     up : (x : Entry) (m : ℕ) (a : W) → d.IsMeant a → Leq d a (weight_at d old x m) → Leq d a (weight_at d new x m)
@@ -126,30 +124,30 @@ module _ {W : Type 0} {d : Domain W} (l : IsLawful W d) (steps : List BaseStep) 
   module _ (c p : Entry) (w : W) (mw : d.IsMeant w) (r : IsRisenLink d old new before after c p w) where
     -- the link's weight stays, or the link waits
     pub link_same : (x y : Entry) → Has after (Between x y) ⊎ (link_at d new x y ≡ link_at d old x y)
-    link_same x y = by (paid_moved r.paid) (link_or _ (link_of x y) (link_of c p) refl)
+    link_same x y = by (paid_moved r.paid) (link_or (link_of x y) (link_of c p))
       where
         by : Has after (Between c p) ⊎ (new ≡ old) → (link_of x y ≡ link_of c p) ⊎ (link_of x y ≡ link_of c p → ⊥) → Has after (Between x y) ⊎ (link_at d new x y ≡ link_at d old x y)
         by (inr q) b = inr (ap (λ (t : Cells W). link_at d t x y) q)
-        by (inl h) (inl q) = inl (subst (λ (z : Link). Has after (Between z.child z.parent)) (sym q) h)
-        by (inl h) (inr q) = inr (r.raised.others x y (λ a b. q (λ i. record { child = a i; parent = b i })))
+        by (inl h) (inl q) = inl (subst (λ (z : Entry × Entry). Has after (Between z.0 z.1)) (sym q) h)
+        by (inl h) (inr q) = inr (r.raised.others x y (λ a b. q (λ i. (a i, b i))))
 
     pub link_reached : Leq d w (link_at d new c p)
     link_reached = subst (λ (z : W). Leq d w z) (sym r.raised.here) (leq_right l (link_at d old c p) w (lm c p) mw)
 
     pub link_grown : (x y : Entry) → Leq d (link_at d old x y) (link_at d new x y)
-    link_grown x y = by (link_or _ (link_of x y) (link_of c p) refl)
+    link_grown x y = by (link_or (link_of x y) (link_of c p))
       where
         by : (link_of x y ≡ link_of c p) ⊎ (link_of x y ≡ link_of c p → ⊥) → Leq d (link_at d old x y) (link_at d new x y)
-        by (inl q) = subst (λ (z : Link). Leq d (link_at d old z.child z.parent) (link_at d new z.child z.parent)) (sym q)
+        by (inl q) = subst (λ (z : Entry × Entry). Leq d (link_at d old z.0 z.1) (link_at d new z.0 z.1)) (sym q)
             (subst (λ (z : W). Leq d (link_at d old c p) z) (sym r.raised.here) (leq_left l (link_at d old c p) w (lm c p) mw))
-        by (inr q) = subst (λ (z : W). Leq d (link_at d old x y) z) (sym (r.raised.others x y (λ a b. q (λ i. record { child = a i; parent = b i })))) (leq_self l _ (lm x y))
+        by (inr q) = subst (λ (z : W). Leq d (link_at d old x y) z) (sym (r.raised.others x y (λ a b. q (λ i. (a i, b i))))) (leq_self l _ (lm x y))
 
     pub link_meant_new : (x y : Entry) → d.IsMeant (link_at d new x y)
-    link_meant_new x y = by (link_or _ (link_of x y) (link_of c p) refl)
+    link_meant_new x y = by (link_or (link_of x y) (link_of c p))
       where
         by : (link_of x y ≡ link_of c p) ⊎ (link_of x y ≡ link_of c p → ⊥) → d.IsMeant (link_at d new x y)
-        by (inl q) = subst (λ (z : Link). d.IsMeant (link_at d new z.child z.parent)) (sym q) (subst (λ (z : W). d.IsMeant z) (sym r.raised.here) (l.combine_meant _ _ (lm c p) mw))
-        by (inr q) = subst (λ (z : W). d.IsMeant z) (sym (r.raised.others x y (λ a b. q (λ i. record { child = a i; parent = b i })))) (lm x y)
+        by (inl q) = subst (λ (z : Entry × Entry). d.IsMeant (link_at d new z.0 z.1)) (sym q) (subst (λ (z : W). d.IsMeant z) (sym r.raised.here) (l.combine_meant _ _ (lm c p) mw))
+        by (inr q) = subst (λ (z : W). d.IsMeant z) (sym (r.raised.others x y (λ a b. q (λ i. (a i, b i))))) (lm x y)
 
     same : (x : Entry) (m : ℕ) → weight_at d new x m ≡ weight_at d old x m
     same x m = r.raised.weights x m

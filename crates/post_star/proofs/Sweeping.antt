@@ -1,9 +1,7 @@
 -- The sums of the readings of a node with any word.
-use Rattle.std.proofs.Common.{◌≡◌, ◌⊎◌, inl, inr, ◌∙◌, ℕ, ◌+◌, ◌<◌, ◌≤◌, List, [], ◌∷◌, ◌++◌, map, length, slice_get, Some, Bool, true, false, refl, sym, ap, subst, arith}
+use Rattle.std.proofs.Common.{◌≡◌, ◌⊎◌, inl, inr, ◌∙◌, ℕ, ◌+◌, ◌<◌, ◌≤◌, List, [], ◌∷◌, ◌++◌, length, slice_get, Some, Bool, true, false, refl, sym, ap, subst, arith}
 use Rattle.auto_table.specs.declared.entry.Entry.{Entry}
 use Rattle.auto_table.specs.declared.entry.Entry.TheVariants.{Pushed}
-use Rattle.auto_table.specs.declared.entry.Link.{Link}
-use Rattle.auto_table.specs.declared.entry.Spot.{Spot}
 use Rattle.auto_table.specs.declared.row.Linked.{Linked}
 use Rattle.auto_table.specs.contracts.entry.EntryPartialEq.TheImpl as entry
 use Rattle.auto_table.specs.Lists.{Has}
@@ -11,6 +9,7 @@ use Rattle.auto_table.specs.Cells.{Cells, weight_at, link_at, IsUsed, by_weight,
 use Rattle.auto_table.proofs.Places.{slice_get-below, slice_get-pushed}
 use Rattle.auto_table.proofs.Raises.{meant_blank, meant_raised}
 use Rattle.auto_table.proofs.Same.{same_entry, self_entry}
+use Rattle.auto_table.proofs.Weighed.{link_cell, weight_cell}
 use Rattle.post_star.specs.declared.rise.Item.{Item}
 use Rattle.post_star.specs.declared.rise.Item.TheVariants.{At, Between}
 use Rattle.post_star.specs.Derivations.{Combines, none, one, both}
@@ -20,7 +19,7 @@ use Rattle.post_star.specs.Works.{IsPaid, rose, stayed, IsRisen}
 use Rattle.post_star.proofs.Applies.{below_or_last}
 use Rattle.post_star.proofs.Combinations.{combines_meant, combines_left}
 use Rattle.post_star.proofs.Rises.{paid_stays, weight_same, reached, grown}
-use Rattle.post_star.proofs.Scopes.{has_left, has_right, has_map, has_link, has_weight, has_parent, within_popped, within_first, last_first, first_last}
+use Rattle.post_star.proofs.Scopes.{has_left, has_right, has_parent, within_popped, within_first, last_first, first_last}
 use Rattle.post_star.proofs.Spends.{risen_spent}
 use Rattle.weight_laws.specs.Law.{Domain, IsLawful, Leq}
 use Rattle.weight_laws.proofs.Orders.{leq_trans, zero_leq}
@@ -79,12 +78,9 @@ module _ {W : Type 0} {d : Domain W} (l : IsLawful W d) (t : Cells W) (mt : AreM
 
   -- an entry with a weight is in the scope
   pub used_within : (e : Entry) → IsUsed d t e → Has (used_scope t node).entries e
-  used_within e (by_weight n h) = let q = has_weight d t e n h in
-      has_left (map (λ q. q.0.entry) t.weights) _ e (subst (λ (x : Entry). Has (map (λ (r : Spot × W). r.0.entry) t.weights) x) (ap (λ (s : Spot). s.entry) q.2) (has_map (λ (r : Spot × W). r.0.entry) t.weights q.0 q.1))
-  used_within e (by_child p h) = let q = has_link d t e p h in
-      has_right (map (λ q. q.0.entry) t.weights) _ e (has_left (map (λ q. q.0.child) t.links) _ e
-      (subst (λ (x : Entry). Has (map (λ (r : Link × W). r.0.child) t.links) x) (ap (λ (s : Link). s.child) q.2) (has_map (λ (r : Link × W). r.0.child) t.links q.0 q.1)))
-  used_within e (by_parent c h) = has_right (map (λ q. q.0.entry) t.weights) _ e (has_right (map (λ q. q.0.child) t.links) _ e (has_parent d t c e h))
+  used_within e (by_weight n h) = let q = weight_cell d t e n h in has_left t.names _ e (q.0, q.1)
+  used_within e (by_child p h) = let q = link_cell d t e p h in has_left t.names _ e (q.0, q.1)
+  used_within e (by_parent c h) = has_right t.names _ e (has_parent d t c e h)
 
   -- before the first rise
   pub sweep_begins : (sums : Cells W) (items : List Item) → IsBlank d sums → items ≡ [] → IsSweeping d t node sums items

@@ -7,3 +7,4 @@ pub mod Readings
 pub mod Sweeps
 pub mod Works
 pub mod Systems
+pub mod Spreads

@@ -5,7 +5,8 @@ use Rattle.auto_table.specs.declared.entry.Entry.TheVariants.{Base, Pushed}
 use Rattle.auto_table.specs.declared.rule.Rule.{Rule}
 use Rattle.auto_table.specs.declared.rule.Rule.TheVariants.{Flow, Push, Pop}
 use Rattle.auto_table.specs.Lists.{Has}
-use Rattle.auto_table.specs.Cells.{Cells, weight_at, link_at}
+use Rattle.auto_table.specs.declared.row.Linked.{Linked}
+use Rattle.auto_table.specs.Cells.{Cells, weight_at, link_at, parent_of}
 use Rattle.post_star.specs.declared.bases.BaseStep.{BaseStep}
 use Rattle.post_star.specs.declared.rise.Item.{Item}
 use Rattle.post_star.specs.declared.rise.Item.TheVariants.{At, Between}
@@ -60,9 +61,14 @@ to_of (Flow from to weight) = to
 to_of (Push from to mark weight) = to
 to_of (Pop from mark to weight) = to
 
+-- the parents in the rows
+abbrev pub parents_in : {W : Type 0} → List (List (Linked W)) → List Entry
+parents_in [] = []
+parents_in (row ∷ rows) = map parent_of row ++ parents_in rows
+
 -- the entries that rules, steps, links and items name, and the nodes that rules lead to
 abbrev pub scope_of : {W : Type 0} → List (Rule W) → List BaseStep → Cells W → List Item → Scope
 scope_of rules steps t items = record {
-  entries = pushed_by rules ++ (map (λ (s : BaseStep). Base s.below) steps ++ (map (λ q. q.0.parent) t.links ++ map entry_of items));
+  entries = pushed_by rules ++ (map (λ (s : BaseStep). Base s.below) steps ++ (parents_in t.parents ++ map entry_of items));
   nodes = map to_of rules;
 }

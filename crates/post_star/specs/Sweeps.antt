@@ -1,5 +1,5 @@
 -- The readings of a node with any word, gathered from the node's entries up to the bases.
-use Rattle.std.specs.Prelude.{◌≡◌, ◌⊎◌, ℕ, List, [], ◌∷◌, ◌++◌, map}
+use Rattle.std.specs.Prelude.{◌≡◌, ◌⊎◌, ℕ, List, [], ◌∷◌, ◌++◌}
 use Rattle.auto_table.specs.declared.entry.Entry.{Entry}
 use Rattle.auto_table.specs.declared.entry.Entry.TheVariants.{Base, Pushed}
 use Rattle.auto_table.specs.Lists.{Has}
@@ -7,7 +7,7 @@ use Rattle.auto_table.specs.Cells.{Cells, weight_at, link_at, AreMeant}
 use Rattle.post_star.specs.declared.rise.Item.{Item}
 use Rattle.post_star.specs.declared.rise.Item.TheVariants.{At}
 use Rattle.post_star.specs.Derivations.{Combines, IsSumOf}
-use Rattle.post_star.specs.Measures.{Scope, IsWithin}
+use Rattle.post_star.specs.Measures.{Scope, IsWithin, parents_in}
 use Rattle.weight_laws.specs.Law.{Domain, Leq}
 
 -- the first entries of a reading of the node, up to the entry; with the product so far
@@ -15,10 +15,10 @@ pub data Climbs {W : Type 0} (d : Domain W) (t : Cells W) (node : ℕ) : Entry �
   from_node : {e : Entry} → Climbs d t node e (weight_at d t e node)
   to_parent : {n mark : ℕ} {parent : Entry} {x : W} → Climbs d t node (Pushed n mark) x → Climbs d t node parent (d.extend (link_at d t (Pushed n mark) parent) x)
 
--- the entries of the table, and the node
+-- the entries that have a number or are parents, and the node
 abbrev pub used_scope : {W : Type 0} → Cells W → ℕ → Scope
 used_scope t node = record {
-  entries = map (λ q. q.0.entry) t.weights ++ (map (λ q. q.0.child) t.links ++ map (λ q. q.0.parent) t.links);
+  entries = t.names ++ parents_in t.parents;
   nodes = node ∷ [];
 }
 

@@ -1,10 +1,11 @@
+//! Elements by their keys, which come one by one.
 ghost use Rattle.std.specs.Prelude.{◌≡◌, [], OnOk};
 ghost use Rattle.post_star.specs.declared.key.Key.{Key as AKey};
 ghost use Rattle.post_star.specs.Groups.{found_at, IsAdded};
 
 use super::key::Key;
 use auto_table::NoMemory;
-use indexmap::IndexMap;
+use lists::Numbered;
 use std::alloc::Global;
 use std::marker::Model;
 
@@ -12,7 +13,7 @@ use std::marker::Model;
 #[derive(Drop)]
 pub struct ByKey<T: Copy> {
     alloc: Global,
-    numbers: IndexMap<Key, usize>,
+    keys: Numbered<Key>,
     groups: Vec<Vec<T>>,
 }
 
@@ -22,9 +23,9 @@ impl<T: Copy> Model for ByKey<T> {
 
     ghost Value = { Groups T };
 
-    ghost view = { λ x. record { numbers = x.numbers.entries; groups = map (λ v. v.items) x.groups.items } };
+    ghost view = { λ x. record { keys = x.keys.keys; lists = map (λ v. v.items) x.groups.items } };
 
-    ghost invariant = { λ x. IsGrouped (record { numbers = x.numbers.entries; groups = map (λ v. v.items) x.groups.items }) };
+    ghost invariant = { λ x. IsGrouped {X = T} (record { keys = x.keys.keys; lists = map (λ v. v.items) x.groups.items }) };
 }
 
 impl<T: Copy> ByKey<T> {
@@ -34,7 +35,7 @@ impl<T: Copy> ByKey<T> {
     {
         ByKey {
             alloc,
-            numbers: IndexMap::new(alloc),
+            keys: Numbered::new(alloc),
             groups: Vec::new(alloc),
         }
     }
@@ -43,8 +44,8 @@ impl<T: Copy> ByKey<T> {
     pub fn at(&self, key: Key) -> &[T]
         ensures { result.now ≡ found_at self.now key }
     {
-        match self.numbers.get(&key) {
-            Some(&number) => self.groups[number].as_slice(),
+        match self.keys.find(key) {
+            Some(number) => self.groups[number as usize].as_slice(),
             None => &[],
         }
     }
@@ -53,16 +54,15 @@ impl<T: Copy> ByKey<T> {
     pub fn add(&mut self, key: Key, element: T) -> Result<(), NoMemory>
         ensures { OnOk result (IsAdded self.old self.new key element) }
     {
-        if let Some(&number) = self.numbers.get(&key) {
-            self.groups[number].push(element)?;
+        if let Some(number) = self.keys.find(key) {
+            self.groups[number as usize].push(element)?;
             return Ok(());
         }
-        self.numbers.reserve(1)?;
-        let number = self.groups.len();
+        self.keys.room()?;
         let mut group = Vec::new(self.alloc);
         group.push(element)?;
         self.groups.push(group)?;
-        self.numbers.insert(key, number)?;
+        let _ = self.keys.put(key);
         Ok(())
     }
 }

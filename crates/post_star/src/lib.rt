@@ -25,6 +25,3 @@ pub use over_words::any_value;
 pub use reading::value;
 pub use saturation::saturate;
 pub use work::Work;
-
-#[cfg(test)]
-mod tests;

@@ -6,28 +6,22 @@ ghost use Rattle.post_star.specs.Measures.{work_left};
 ghost use Rattle.post_star.specs.Readings.{IsTableAny};
 ghost use Rattle.post_star.specs.Sweeps.{IsSweeping, AreBegun, IsSumAtBases, used_scope};
 
-use super::rise::{Item, rise};
+use super::rise::{Item, Rising};
 use auto_table::{Entry, NoMemory, Table};
 use std::alloc::Global;
-use std::collections::VecDeque;
 use weight_laws::Weight;
 
 /// The weights with which the entries have the node: each begins a reading of it.
-fn begin<W: Weight>(
-    table: &Table<W>,
-    sums: &mut Table<W>,
-    items: &mut VecDeque<Item>,
-    node: u32,
-) -> Result<(), NoMemory>
-    requires blank { IsBlank W.domain sums.old }
-    requires empty { items.old.items ≡ [] }
+fn begin<W: Weight>(table: &Table<W>, sums: &mut Rising<W>, node: u32) -> Result<(), NoMemory>
+    requires blank { IsBlank W.domain sums.old.table }
+    requires empty { sums.old.items.items ≡ [] }
     ensures meant { OnOk result (AreMeant W.domain table.now) }
-    ensures sweeping { OnOk result (IsSweeping W.domain table.now node sums.new items.new.items) }
-    ensures begun { OnOk result (AreBegun W.domain table.now node sums.new) }
+    ensures sweeping { OnOk result (IsSweeping W.domain table.now node sums.new.table sums.new.items.items) }
+    ensures begun { OnOk result (AreBegun W.domain table.now node sums.new.table) }
 {
     let entries = table.entries();
     for entry in entries {
-        rise(sums, items, *entry, node, table.at(*entry, node))?;
+        sums.rise(*entry, node, table.at(*entry, node))?;
     }
     Ok(())
 }
@@ -35,29 +29,22 @@ fn begin<W: Weight>(
 /// Takes the sum of a pushed entry on to its parents.
 fn climb<W: Weight>(
     table: &Table<W>,
-    sums: &mut Table<W>,
-    items: &mut VecDeque<Item>,
+    sums: &mut Rising<W>,
     node: u32,
     pushed: u32,
     mark: u32,
 ) -> Result<(), NoMemory>
-    requires sweeping { IsSweeping W.domain table.now node sums.old (items.old.items ++ At (Pushed pushed mark) node ∷ []) }
-    requires begun { AreBegun W.domain table.now node sums.old }
-    ensures sweeping { OnOk result (IsSweeping W.domain table.now node sums.new items.new.items) }
-    ensures begun { OnOk result (AreBegun W.domain table.now node sums.new) }
-    ensures spent { OnOk result (work_left W.domain (used_scope table.now node) sums.new items.new.items ≤ work_left W.domain (used_scope table.now node) sums.old items.old.items) }
+    requires sweeping { IsSweeping W.domain table.now node sums.old.table (sums.old.items.items ++ At (Pushed pushed mark) node ∷ []) }
+    requires begun { AreBegun W.domain table.now node sums.old.table }
+    ensures sweeping { OnOk result (IsSweeping W.domain table.now node sums.new.table sums.new.items.items) }
+    ensures begun { OnOk result (AreBegun W.domain table.now node sums.new.table) }
+    ensures spent { OnOk result (work_left W.domain (used_scope table.now node) sums.new.table sums.new.items.items ≤ work_left W.domain (used_scope table.now node) sums.old.table sums.old.items.items) }
 {
     let entry = Entry::Pushed { node: pushed, mark };
-    let so_far = sums.at(entry, node);
+    let so_far = sums.table.at(entry, node);
     let parents = table.parents(entry);
     for linked in parents {
-        rise(
-            sums,
-            items,
-            linked.parent,
-            node,
-            linked.weight.extend(so_far),
-        )?;
+        sums.rise(linked.parent, node, linked.weight.extend(so_far))?;
     }
     Ok(())
 }
@@ -65,21 +52,20 @@ fn climb<W: Weight>(
 /// Works on one item, which has left the list before. A base ends its readings: no link of it is followed.
 fn go_on<W: Weight>(
     table: &Table<W>,
-    sums: &mut Table<W>,
-    items: &mut VecDeque<Item>,
+    sums: &mut Rising<W>,
     node: u32,
     item: Item,
 ) -> Result<(), NoMemory>
-    requires sweeping { IsSweeping W.domain table.now node sums.old (items.old.items ++ item ∷ []) }
-    requires begun { AreBegun W.domain table.now node sums.old }
-    ensures sweeping { OnOk result (IsSweeping W.domain table.now node sums.new items.new.items) }
-    ensures begun { OnOk result (AreBegun W.domain table.now node sums.new) }
-    ensures spent { OnOk result (work_left W.domain (used_scope table.now node) sums.new items.new.items ≤ work_left W.domain (used_scope table.now node) sums.old items.old.items) }
+    requires sweeping { IsSweeping W.domain table.now node sums.old.table (sums.old.items.items ++ item ∷ []) }
+    requires begun { AreBegun W.domain table.now node sums.old.table }
+    ensures sweeping { OnOk result (IsSweeping W.domain table.now node sums.new.table sums.new.items.items) }
+    ensures begun { OnOk result (AreBegun W.domain table.now node sums.new.table) }
+    ensures spent { OnOk result (work_left W.domain (used_scope table.now node) sums.new.table sums.new.items.items ≤ work_left W.domain (used_scope table.now node) sums.old.table sums.old.items.items) }
 {
     match item {
         Item::At { entry, node: _ } => match entry {
             Entry::Base(_) => Ok(()),
-            Entry::Pushed { node: pushed, mark } => climb(table, sums, items, node, pushed, mark),
+            Entry::Pushed { node: pushed, mark } => climb(table, sums, node, pushed, mark),
         },
         Item::Between { .. } => Ok(()),
     }
@@ -108,22 +94,17 @@ fn sum_at_bases<W: Weight>(sums: &Table<W>, node: u32) -> W
     sum
 }
 
-/// Takes the weights of the node up to the bases: the sums of all entries, in a table that was blank.
-fn sum_up<W: Weight>(
-    alloc: Global,
-    table: &Table<W>,
-    sums: &mut Table<W>,
-    node: u32,
-) -> Result<(), NoMemory>
-    requires { IsBlank W.domain sums.old }
+/// Takes the weights of the node up to the bases: the sums of all entries, where nothing rose before.
+fn sum_up<W: Weight>(table: &Table<W>, sums: &mut Rising<W>, node: u32) -> Result<(), NoMemory>
+    requires blank { IsBlank W.domain sums.old.table }
+    requires empty { sums.old.items.items ≡ [] }
     ensures meant { OnOk result (AreMeant W.domain table.now) }
-    ensures sweeping { OnOk result (IsSweeping W.domain table.now node sums.new []) }
-    ensures begun { OnOk result (AreBegun W.domain table.now node sums.new) }
+    ensures sweeping { OnOk result (IsSweeping W.domain table.now node sums.new.table []) }
+    ensures begun { OnOk result (AreBegun W.domain table.now node sums.new.table) }
 {
-    let mut items = VecDeque::new(alloc);
-    begin(table, sums, &mut items, node)?;
-    while let Some(item) = items.pop_front() {
-        go_on(table, sums, &mut items, node, item)?;
+    begin(table, sums, node)?;
+    while let Some(item) = sums.items.pop_front() {
+        go_on(table, sums, node, item)?;
     }
     Ok(())
 }
@@ -133,7 +114,7 @@ fn sum_up<W: Weight>(
 pub fn any_value<W: Weight>(alloc: Global, table: &Table<W>, node: u32) -> Result<W, NoMemory>
     ensures { IfOk result (λ v. IsTableAny W.domain table.now node v) }
 {
-    let mut sums = Table::new(alloc);
-    sum_up(alloc, table, &mut sums, node)?;
-    Ok(sum_at_bases(&sums, node))
+    let mut sums = Rising::new(alloc);
+    sum_up(table, &mut sums, node)?;
+    Ok(sum_at_bases(&sums.table, node))
 }

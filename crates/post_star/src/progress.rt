@@ -3,6 +3,7 @@ ghost use Rattle.auto_table.specs.Cells.{IsBlank};
 ghost use Rattle.post_star.specs.Index.{IsIndex};
 
 use super::index::Index;
+use super::rise::Rising;
 use auto_table::Table;
 use std::alloc::Global;
 use weight_laws::Weight;
@@ -12,33 +13,36 @@ use weight_laws::Weight;
 pub struct Progress<W: Weight> {
     /// Where the rules of its own that are done are looked for.
     pub index: Index<W>,
-    pub table: Table<W>,
+    pub rising: Rising<W>,
     /// How many rules the index has. They are done in the table.
     pub taken: usize,
     /// How many starts are in the table.
     pub begun: usize,
+    /// How many items were worked on.
+    pub worked: u64,
 }
 
 impl<W: Weight> Progress<W> {
     /// Nothing is done. It takes no memory.
     pub fn new(alloc: Global) -> Self
         ensures index { IsIndex {W = W} [] [] result.index }
-        ensures table { IsBlank W.domain result.table }
+        ensures table { IsBlank W.domain result.rising.table }
         ensures taken { result.taken ≡ 0 }
         ensures begun { result.begun ≡ 0 }
     {
         Progress {
             index: Index::new(alloc),
-            table: Table::new(alloc),
+            rising: Rising::new(alloc),
             taken: 0,
             begun: 0,
+            worked: 0,
         }
     }
 
     /// Gives up all that was done, with its memory.
     pub fn give_up(&mut self, alloc: Global)
         ensures index { IsIndex {W = W} [] [] self.new.index }
-        ensures table { IsBlank W.domain self.new.table }
+        ensures table { IsBlank W.domain self.new.rising.table }
         ensures taken { self.new.taken ≡ 0 }
         ensures begun { self.new.begun ≡ 0 }
     {
@@ -47,8 +51,8 @@ impl<W: Weight> Progress<W> {
 
     /// The table, taken out.
     pub fn into_table(self) -> Table<W>
-        ensures { result ≡ self.table }
+        ensures { result ≡ self.rising.table }
     {
-        self.table
+        self.rising.into_table()
     }
 }

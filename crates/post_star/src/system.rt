@@ -12,13 +12,18 @@ pub struct Asked<'a, W: Weight> {
     pub starts: &'a [Start<W>],
 }
 
-/// What is saturated: the common rules and the steps between bases with their index, rules of its own with theirs, and starts.
+/// Rules, and where they are looked for.
+#[derive(Clone, Copy)]
+pub struct Part<'a, W: Copy> {
+    pub rules: &'a [Rule<W>],
+    pub index: &'a Index<W>,
+}
+
+/// What is saturated: the common rules, whose index has the steps between bases too, rules of its own, and starts.
 #[derive(Clone, Copy)]
 pub struct System<'a, W: Copy> {
-    pub rules: &'a [Rule<W>],
+    pub common: Part<'a, W>,
+    pub own: Part<'a, W>,
     pub steps: &'a [BaseStep],
-    pub index: &'a Index<W>,
-    pub own: &'a [Rule<W>],
-    pub own_index: &'a Index<W>,
     pub starts: &'a [Start<W>],
 }

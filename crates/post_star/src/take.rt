@@ -9,7 +9,7 @@ ghost use Rattle.post_star.specs.Systems.{rules_of};
 ghost use Rattle.post_star.specs.Works.{IsTold, IsBegun, IsSettling, AreTaken};
 
 use super::index::from_node;
-use super::rise::{Item, rise};
+use super::rise::{Item, Rising};
 use super::system::System;
 use auto_table::{Entry, NoMemory, Rule, Table};
 use indexmap::IndexSet;
@@ -76,27 +76,18 @@ pub fn take_rules<W: Weight>(
     Ok(items)
 }
 
-/// Takes the starts from a number on in.
-pub fn take_starts<W: Weight>(
-    system: &System<'_, W>,
-    table: &mut Table<W>,
-    items: &mut VecDeque<Item>,
-    begun: usize,
-) -> Result<(), NoMemory>
-    requires told { IsTold W.domain (rules_of system.now) system.now.starts.now }
-    requires begun { IsBegun W.domain (rules_of system.now) system.now.starts.now system.now.steps.now table.old items.old.items begun }
-    ensures { OnOk result (IsSettling W.domain (rules_of system.now) system.now.starts.now system.now.steps.now table.new items.new.items) }
-{
-    let starts = system.starts;
-    for i in begun..starts.len() {
-        let start = starts[i];
-        rise(
-            table,
-            items,
-            Entry::Base(start.base),
-            start.node,
-            start.weight,
-        )?;
+impl<W: Weight> Rising<W> {
+    /// Takes the starts from a number on in.
+    pub fn take_starts(&mut self, system: &System<'_, W>, begun: usize) -> Result<(), NoMemory>
+        requires told { IsTold W.domain (rules_of system.now) system.now.starts.now }
+        requires begun { IsBegun W.domain (rules_of system.now) system.now.starts.now system.now.steps.now self.old.table self.old.items.items begun }
+        ensures { OnOk result (IsSettling W.domain (rules_of system.now) system.now.starts.now system.now.steps.now self.new.table self.new.items.items) }
+    {
+        let starts = system.starts;
+        for i in begun..starts.len() {
+            let start = starts[i];
+            self.rise(Entry::Base(start.base), start.node, start.weight)?;
+        }
+        Ok(())
     }
-    Ok(())
 }

@@ -8,66 +8,65 @@ ghost use Rattle.post_star.specs.Works.{IsTold, IsSound, IsClosed, IsClosedTo};
 use super::bases::{BaseStep, Bases, Start};
 use super::common::{Common, tell_rule};
 use super::progress::Progress;
-use super::system::{Asked, System};
-use super::take::{take_rules, take_starts};
-use super::turn::{Unwatched, Watch, run};
+use super::rise::Rising;
+use super::system::{Asked, Part, System};
+use super::take::take_rules;
 use auto_table::{NoMemory, Rule, Table};
 use std::alloc::Global;
 use std::marker::Model;
-use std::rc::Rc;
+use std::sync::Arc;
 use weight_laws::Weight;
 
-/// Brings a table to the end, in which the first rules are done and the first starts are in.
-fn finish<W: Weight, V: Watch>(
-    alloc: Global,
+/// Brings a table to the end, in which the first rules are done and the first starts are in. Tells how many items that took.
+fn finish<W: Weight>(
     system: &System<'_, W>,
-    table: &mut Table<W>,
+    rising: &mut Rising<W>,
     taken: usize,
     begun: usize,
-    watch: &mut V,
-) -> Result<(), NoMemory>
+) -> Result<u64, NoMemory>
     requires told { IsTold W.domain (rules_of system.now) system.now.starts.now }
     requires index { IsIndexed system.now }
-    requires sound { IsSound W.domain (rules_of system.now) system.now.starts.now system.now.steps.now table.old }
-    requires closed { IsClosedTo W.domain (rules_of system.now) (length system.now.rules.now + taken) system.now.starts.now begun system.now.steps.now table.old }
-    ensures sound { OnOk result (IsSound W.domain (rules_of system.now) system.now.starts.now system.now.steps.now table.new) }
-    ensures closed { OnOk result (IsClosed W.domain (rules_of system.now) system.now.starts.now system.now.steps.now table.new) }
+    requires sound { IsSound W.domain (rules_of system.now) system.now.starts.now system.now.steps.now rising.old.table }
+    requires closed { IsClosedTo W.domain (rules_of system.now) (length system.now.common.rules.now + taken) system.now.starts.now begun system.now.steps.now rising.old.table }
+    ensures sound { OnOk result (IsSound W.domain (rules_of system.now) system.now.starts.now system.now.steps.now rising.new.table) }
+    ensures closed { OnOk result (IsClosed W.domain (rules_of system.now) system.now.starts.now system.now.steps.now rising.new.table) }
 {
-    let mut items = take_rules(alloc, system.own, table, taken)?;
-    take_starts(system, table, &mut items, begun)?;
-    run(alloc, system, table, &mut items, watch)
+    let items = take_rules(rising.alloc, system.own.rules, &rising.table, taken)?;
+    rising.items = items;
+    rising.take_starts(system, begun)?;
+    rising.run(system)
 }
 
 /// Goes on to the end for all rules and starts.
-fn advance<W: Weight, V: Watch>(
-    alloc: Global,
-    asked: &Asked<'_, W>,
-    progress: &mut Progress<W>,
-    watch: &mut V,
-) -> Result<(), NoMemory>
+fn advance<W: Weight>(asked: &Asked<'_, W>, progress: &mut Progress<W>) -> Result<(), NoMemory>
     requires told { IsTold W.domain (asked.now.common.now.rules ++ asked.now.own.now) asked.now.starts.now }
     requires index { IsIndex (take progress.old.taken asked.now.own.now) [] progress.old.index }
-    requires sound { IsSound W.domain (asked.now.common.now.rules ++ asked.now.own.now) asked.now.starts.now asked.now.common.now.steps progress.old.table }
-    requires closed { IsClosedTo W.domain (asked.now.common.now.rules ++ asked.now.own.now) (length asked.now.common.now.rules + progress.old.taken) asked.now.starts.now progress.old.begun asked.now.common.now.steps progress.old.table }
+    requires sound { IsSound W.domain (asked.now.common.now.rules ++ asked.now.own.now) asked.now.starts.now asked.now.common.now.steps progress.old.rising.table }
+    requires closed { IsClosedTo W.domain (asked.now.common.now.rules ++ asked.now.own.now) (length asked.now.common.now.rules + progress.old.taken) asked.now.starts.now progress.old.begun asked.now.common.now.steps progress.old.rising.table }
     ensures index { OnOk result (IsIndex asked.now.own.now [] progress.new.index) }
-    ensures sound { OnOk result (IsSound W.domain (asked.now.common.now.rules ++ asked.now.own.now) asked.now.starts.now asked.now.common.now.steps progress.new.table) }
-    ensures closed { OnOk result (IsClosed W.domain (asked.now.common.now.rules ++ asked.now.own.now) asked.now.starts.now asked.now.common.now.steps progress.new.table) }
+    ensures sound { OnOk result (IsSound W.domain (asked.now.common.now.rules ++ asked.now.own.now) asked.now.starts.now asked.now.common.now.steps progress.new.rising.table) }
+    ensures closed { OnOk result (IsClosed W.domain (asked.now.common.now.rules ++ asked.now.own.now) asked.now.starts.now asked.now.common.now.steps progress.new.rising.table) }
     ensures taken { OnOk result (progress.new.taken ≡ length asked.now.own.now) }
     ensures begun { OnOk result (progress.new.begun ≡ length asked.now.starts.now) }
 {
     progress.index.add_rules(asked.own, progress.taken)?;
     let system = System {
-        rules: asked.common.rules(),
+        common: Part {
+            rules: asked.common.rules(),
+            index: asked.common.index(),
+        },
+        own: Part {
+            rules: asked.own,
+            index: &progress.index,
+        },
         steps: asked.common.bases().steps,
-        index: asked.common.index(),
-        own: asked.own,
-        own_index: &progress.index,
         starts: asked.starts,
     };
     let (taken, begun) = (progress.taken, progress.begun);
-    finish(alloc, &system, &mut progress.table, taken, begun, watch)?;
+    let items = finish(&system, &mut progress.rising, taken, begun)?;
     progress.taken = asked.own.len();
     progress.begun = asked.starts.len();
+    progress.worked = progress.worked.saturating_add(items);
     Ok(())
 }
 
@@ -76,7 +75,7 @@ fn advance<W: Weight, V: Watch>(
 #[derive(Drop)]
 pub struct Work<W: Weight> {
     alloc: Global,
-    common: Rc<Common<W>>,
+    common: Arc<Common<W>>,
     /// The rules that it has of its own.
     own: Vec<Rule<W>>,
     starts: Vec<Start<W>>,
@@ -93,12 +92,12 @@ impl<W: Weight> Model for Work<W> {
 
     ghost view = { λ w. record { steps = w.common.value.steps; last = w.common.value.last; rules = w.common.value.rules ++ w.own.items; starts = w.starts.items; settled = all_taken w.own.items w.starts.items w.progress.taken w.progress.begun } };
 
-    ghost invariant = { λ w. IsWork W.domain w.common.value w.own.items w.progress.index w.starts.items w.progress.table w.progress.taken w.progress.begun };
+    ghost invariant = { λ w. IsWork W.domain w.common.value w.own.items w.progress.index w.starts.items w.progress.rising.table w.progress.taken w.progress.begun };
 }
 
 impl<W: Weight> Work<W> {
     /// A work over what it has in common with others, without rules of its own and starts. It takes no memory, and is settled.
-    pub fn new(alloc: Global, common: Rc<Common<W>>) -> Self
+    pub fn new(alloc: Global, common: Arc<Common<W>>) -> Self
         ensures { result ≡ record { steps = common.value.steps; last = common.value.last; rules = common.value.rules; starts = []; settled = true } }
     {
         let _rules = common.rules();
@@ -120,7 +119,7 @@ impl<W: Weight> Work<W> {
         ensures { IfOk result (λ w. w ≡ record { steps = bases.items; last = last; rules = []; starts = []; settled = true }) }
     {
         let common = Common::new(alloc, Vec::new(alloc), bases, last)?;
-        Ok(Work::new(alloc, Rc::new(alloc, common)?))
+        Ok(Work::new(alloc, Arc::new(alloc, common)?))
     }
 
     /// Puts the rule last. The work is then unsettled; after want of memory it is as before.
@@ -154,14 +153,6 @@ impl<W: Weight> Work<W> {
         ensures ok { OnOk result (self.new ≡ record self.old { settled = true }) }
         ensures err { OnErr result (self.new ≡ record self.old { settled = false }) }
     {
-        self.settle_watched(&mut Unwatched)
-    }
-
-    /// As `settle`, and tells each item that is worked on.
-    pub(crate) fn settle_watched<V: Watch>(&mut self, watch: &mut V) -> Result<(), NoMemory>
-        ensures ok { OnOk result (self.new ≡ record self.old { settled = true }) }
-        ensures err { OnErr result (self.new ≡ record self.old { settled = false }) }
-    {
         if self.settled() {
             return Ok(());
         }
@@ -170,7 +161,7 @@ impl<W: Weight> Work<W> {
             own: &self.own,
             starts: &self.starts,
         };
-        match advance(self.alloc, &asked, &mut self.progress, watch) {
+        match advance(&asked, &mut self.progress) {
             Ok(()) => Ok(()),
             Err(no_memory) => {
                 self.progress.give_up(self.alloc);
@@ -186,6 +177,11 @@ impl<W: Weight> Work<W> {
         self.progress.taken == self.own.len() && self.progress.begun == self.starts.len()
     }
 
+    /// How many rises of weights were worked on since there is a table. No contract says how many: it is for tests and benchmarks.
+    pub fn worked(&self) -> u64 {
+        self.progress.worked
+    }
+
     /// The base steps and the last base.
     pub fn bases(&self) -> Bases<'_>
         ensures steps { result.steps.now ≡ self.now.steps }
@@ -199,7 +195,7 @@ impl<W: Weight> Work<W> {
         requires { self.now.settled ≡ true }
         ensures { IsSaturated W.domain self.now.rules self.now.starts self.now.steps self.now.last result.now }
     {
-        &self.progress.table
+        &self.progress.rising.table
     }
 
     /// The table of a settled work, taken out of it.

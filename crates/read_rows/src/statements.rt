@@ -133,21 +133,9 @@ fn put_expr(text: &mut String, expr: &Expr) -> Result<(), NoMemory> {
     }
 }
 
-fn put_stmt(text: &mut String, stmt: &Stmt) -> Result<(), NoMemory> {
+// An assignment to a local, a field or a cell.
+fn put_assignment(text: &mut String, stmt: &Stmt) -> Result<(), NoMemory> {
     match stmt {
-        Stmt::This(local) => {
-            text.push_str("This")?;
-            put_number(text, local.0)
-        }
-        Stmt::Param(local, number) => {
-            text.push_str("Param")?;
-            put_number(text, local.0)?;
-            put_number(text, *number)
-        }
-        Stmt::Caught(local) => {
-            text.push_str("Caught")?;
-            put_number(text, local.0)
-        }
         Stmt::Assign(local, expr) => {
             text.push_str("Assign")?;
             put_number(text, local.0)?;
@@ -168,6 +156,28 @@ fn put_stmt(text: &mut String, stmt: &Stmt) -> Result<(), NoMemory> {
             text.push_str("PutCell")?;
             put_number(text, local.0)?;
             put_imm(text, *imm)
+        }
+        _ => Ok(()),
+    }
+}
+
+fn put_stmt(text: &mut String, stmt: &Stmt) -> Result<(), NoMemory> {
+    match stmt {
+        Stmt::This(local) => {
+            text.push_str("This")?;
+            put_number(text, local.0)
+        }
+        Stmt::Param(local, number) => {
+            text.push_str("Param")?;
+            put_number(text, local.0)?;
+            put_number(text, *number)
+        }
+        Stmt::Caught(local) => {
+            text.push_str("Caught")?;
+            put_number(text, local.0)
+        }
+        Stmt::Assign(..) | Stmt::PutField(..) | Stmt::PutStatic(..) | Stmt::PutCell(..) => {
+            put_assignment(text, stmt)
         }
         Stmt::Call(call) => {
             text.push_str("Call")?;

@@ -1,4 +1,5 @@
 pub mod Carrying
+pub mod Celling
 pub mod Contracting
 pub mod Entering
 pub mod Extending

@@ -77,6 +77,7 @@ module _ {W : Type 0} (d : Domain W) (cells : List (Cell W)) where
       → AreHeadsTo d cells count heads own → HaveNumbersTo d cells own count numbers → AreNumbered d cells heads numbers
   numbered count heads own numbers many flat are have = record {
     many = have.many ∙ sym many;
+    few = let few = are.few in omega (arith, few, many);
     each = λ n number at. are.each (head_at d cells n) number (have.each n number at) (flat n);
     are_heads = λ number head at. (are.are_heads number head at).0;
     apart = are.apart;

@@ -44,6 +44,7 @@ AnyDerivationsAreRenamed {W} d = (number old_number : ℕ → ℕ) (rules few : 
 -- each head has one number, without gaps; and each of so many nodes has that of its head
 pub record AreNumbered {W : Type 0} (d : Domain W) (cells : List (Cell W)) (heads numbers : List ℕ) : Type 0 where
   pub many : length numbers ≡ length cells
+  pub few : length heads ≤ length cells
   pub each : (n number : ℕ) → slice_get numbers n ≡ Some number → slice_get heads number ≡ Some (head_at d cells n)
   pub are_heads : (number head : ℕ) → slice_get heads number ≡ Some head → head_at d cells head ≡ head
   pub apart : IsApart heads

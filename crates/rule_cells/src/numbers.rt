@@ -89,7 +89,7 @@ pub fn number_heads<W: Weight>(
 }
 
 /// The number of a node; one that the list doesn't have keeps its own.
-fn number_of(numbers: &[u32], node: u32) -> u32
+pub fn number_of(numbers: &[u32], node: u32) -> u32
     ensures { result ≡ number_in numbers.now node }
 {
     match numbers.get(node as usize) {

@@ -1,5 +1,6 @@
 //! The system with split marks, by lists of numbers.
 ghost use Rattle.std.specs.Prelude.{◌≡◌, ◌⊎◌, ◌*◌, ◌<◌, ◌^◌, ◌++◌, ◌∷◌, [], ℕ, true, false, length, slice_index_or, IfOk, OnOk};
+ghost use Rattle.auto_table.specs.declared.rule.Rule.TheVariants.{Push, Pop};
 ghost use Rattle.auto_table.specs.Lists.{Has};
 ghost use Rattle.rule_marks.specs.Making.{AreAdded, AreSplitRules, AreSplitSteps, WritesOne, WritesStep, splits};
 
@@ -77,6 +78,30 @@ fn put_both<W: Weight>(
     if first { put(rules, common) } else { Ok(()) }
 }
 
+/// The push of the common mark, from the entry of a node to the node.
+fn push_common<W: Weight>(common: u32, entry: u32, node: u32) -> Rule<W>
+    ensures { result ≡ Push entry node common W.domain.one }
+{
+    Rule::Push {
+        from: entry,
+        to: node,
+        mark: common,
+        weight: W::one(),
+    }
+}
+
+/// The pop of the common mark, from a node to the exit of the node.
+fn pop_common<W: Weight>(common: u32, node: u32, exit: u32) -> Rule<W>
+    ensures { result ≡ Pop node common exit W.domain.one }
+{
+    Rule::Pop {
+        from: node,
+        mark: common,
+        to: exit,
+        weight: W::one(),
+    }
+}
+
 /// Writes what stands for a rule in the split system. A push into a split room pushes its mark at the entry of its node, and the first time the common mark
 /// from there; a pop from one pops its mark at the exit of its node, and the first time the common mark to there.
 fn write<W: Weight>(
@@ -107,12 +132,7 @@ fn write<W: Weight>(
                     mark,
                     weight,
                 };
-                let common = Rule::Push {
-                    from: entry,
-                    to,
-                    mark: rooms.common,
-                    weight: W::one(),
-                };
+                let common = push_common(rooms.common, entry, to);
                 put_both(rules, entries, to, own, common)
             } else {
                 put(rules, *rule)
@@ -133,12 +153,7 @@ fn write<W: Weight>(
                     to,
                     weight,
                 };
-                let common = Rule::Pop {
-                    from,
-                    mark: rooms.common,
-                    to: exit,
-                    weight: W::one(),
-                };
+                let common = pop_common(rooms.common, from, exit);
                 put_both(rules, exits, from, own, common)
             } else {
                 put(rules, *rule)

@@ -40,11 +40,27 @@ pub const THREE_CELLS: &str = "class N { N next; }
 class Main { static void main(java.lang.String[]) { N a, b, c, x, y, z; a = new N; b = new N; b.<N: N next> = a; c = new N; c.<N: N next> = b;
 x = c; y = x.<N: N next>; z = y.<N: N next>; return; } }";
 
-/// 0 `id`, 1 `main`, with calls of `id` at 2 and 3.
-pub const TWO_CALLS: &str = "class A { }
-class Main { static java.lang.Object id(java.lang.Object) { java.lang.Object p; p := @parameter0: java.lang.Object; return p; }
-static void main(java.lang.String[]) { java.lang.Object a, b, x, y; a = new A; b = new A;
-x = staticinvoke <Main: java.lang.Object id(java.lang.Object)>(a); y = staticinvoke <Main: java.lang.Object id(java.lang.Object)>(b); return; } }";
+/// 0 `set`, 1 `mid`, which calls `set` at 2, and 2 `main`, with calls of `mid` at 3 and 5. The second one puts into the second box what came out of the
+/// first one.
+pub const PASSED_ON: &str = "class A { }
+class Box { java.lang.Object v; }
+class Main {
+static void set(Box, java.lang.Object) { Box r; java.lang.Object p; r := @parameter0: Box; p := @parameter1: java.lang.Object;
+r.<Box: java.lang.Object v> = p; return; }
+static void mid(Box, java.lang.Object) { Box r; java.lang.Object p; r := @parameter0: Box; p := @parameter1: java.lang.Object;
+staticinvoke <Main: void set(Box,java.lang.Object)>(r, p); return; }
+static void main(java.lang.String[]) { Box a, b; java.lang.Object o, x, y;
+a = new Box;
+b = new Box;
+o = new A;
+staticinvoke <Main: void mid(Box,java.lang.Object)>(a, o);
+x = a.<Box: java.lang.Object v>;
+staticinvoke <Main: void mid(Box,java.lang.Object)>(b, x);
+y = b.<Box: java.lang.Object v>;
+return;
+}
+}
+";
 
 /// 0 `main`, which copies one object from local to local.
 pub const COPIES: &str = "class A { }

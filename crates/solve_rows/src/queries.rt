@@ -5,17 +5,17 @@ ghost use Rattle.link_rules.specs.WellLinked.{IsWellLinked};
 ghost use Rattle.spds_rules.specs.Demand.{Asked};
 ghost use Rattle.spds_rules.specs.Nodes.{IsNode};
 
-use super::programs::{COPIES, THREE_CELLS, TWO_BOXES};
+use super::programs::{COPIES, PASSED_ON, THREE_CELLS, TWO_BOXES};
 use demand_set::{Demand, DemandError, Reach, demand};
 use jim_ast::NoMemory;
 use link_program::Linked;
 use link_sites::{Place, Site};
 use linked_text::linked_of;
 use linked_text::spots::{Origin, Spot, before, node, site};
-use spds_cells::contract;
 use spds_nodes::is_node;
 use spds_rules::{Node, Var};
 use spds_solve::{Met, Solved, solve};
+use spds_tables::Parts;
 use std::alloc::{AllocError, Global};
 use std::test::Fail;
 
@@ -32,7 +32,7 @@ enum Row {
     Meets(&'static [Meeting]),
     // Another node, and the one site that it and the target may both hold under one call string, if there is one.
     Shares(Spot, Option<Origin>),
-    // So many nodes are demanded, and all share one cell. No contract says so.
+    // So many nodes are demanded, and all share one cell in each kind of system. No contract says so.
     OneCell(usize),
 }
 
@@ -81,7 +81,32 @@ const OF_THREE_CELLS: [Row; 1] = [Row::Meets(&[
     },
 ])];
 
-const CASES: [Case; 3] = [
+// `o` comes to the second box only when what is in the first one is known. Until then no call string of `set` has both, though all go through `mid`. A call
+// system keeps no fields, so the first box itself may be what comes out of it, and goes the same way.
+const OF_PASSED_ON: [Row; 1] = [Row::Meets(&[
+    Meeting {
+        object: Origin::Made(2, 2),
+        base: Origin::Made(2, 0),
+        string: &[(1, 2), (2, 3), (3, 3)],
+    },
+    Meeting {
+        object: Origin::Made(2, 2),
+        base: Origin::Made(2, 1),
+        string: &[(1, 2), (2, 5), (3, 3)],
+    },
+    Meeting {
+        object: Origin::Made(2, 0),
+        base: Origin::Made(2, 1),
+        string: &[(1, 2), (2, 5), (3, 3)],
+    },
+    Meeting {
+        object: Origin::Made(2, 0),
+        base: Origin::Made(2, 0),
+        string: &[(1, 2), (2, 5), (3, 3)],
+    },
+])];
+
+const CASES: [Case; 4] = [
     // Behind the last call of `main`.
     Case {
         name: "two boxes",
@@ -94,6 +119,13 @@ const CASES: [Case; 3] = [
         text: THREE_CELLS,
         target: Spot::Before(0, 8, Var::Local(5)),
         rows: &OF_THREE_CELLS,
+    },
+    // Before the return of `main`.
+    Case {
+        name: "passed on",
+        text: PASSED_ON,
+        target: Spot::Before(2, 7, Var::Local(4)),
+        rows: &OF_PASSED_ON,
     },
     // The object, as it is made, and its copy in each of four locals.
     Case {
@@ -118,9 +150,10 @@ fn is_meeting(sites: &[Site], met: &Met, meeting: &Meeting) -> bool {
         && string_is(met.string.as_slice(), meeting.string)
 }
 
-// Whether the meet is told as one, and isn't with its object and its base reversed.
+// Whether the meet is told as one, and isn't with its object and its base reversed, if these are two.
 fn is_told(solved: &Solved, met: &Met) -> bool {
-    solved.meet(met.object, met.base, met.store) && !solved.meet(met.base, met.object, met.store)
+    solved.meet(met.object, met.base, met.store)
+        && (met.object == met.base || !solved.meet(met.base, met.object, met.store))
 }
 
 // Whether the meets are these, in any order.
@@ -163,24 +196,40 @@ fn are_shared(
     Ok(true)
 }
 
-// Whether all nodes of the demand share one cell, so many of them, and no edge is left between cells.
-fn is_one_cell(alloc: Global, found: &Demand, nodes: usize) -> Result<bool, NoMemory> {
-    let contracted = contract(alloc, found)?;
-    let cells = contracted.cells.as_slice();
+fn are_one(cells: &[u32], nodes: usize) -> bool {
+    cells.len() == nodes && cells.iter().all(|cell| Some(cell) == cells.first())
+}
+
+// Whether all nodes of the demand share one cell in each kind of system, so many of them, and no rule is left between cells.
+fn is_one_cell(
+    alloc: Global,
+    linked: &Linked,
+    found: &Demand,
+    nodes: usize,
+) -> Result<bool, NoMemory>
+    requires well { IsWellLinked linked.now }
+    requires demanded { (q : Asked) × IsDemandOf linked.now q found.now }
+{
+    let parts = Parts::new(alloc, linked, found)?;
     Ok(
-        cells.len() == nodes
-            && cells.iter().all(|cell| Some(cell) == cells.first())
-            && contracted.edges.is_empty(),
+        are_one(&parts.field_cells, nodes)
+            && are_one(&parts.call_cells, nodes)
+            && parts.fields.rules().is_empty()
+            && parts.calls.rules().is_empty(),
     )
 }
 
 fn is_found(
     alloc: Global,
+    linked: &Linked,
     found: &Demand,
     solved: &Solved,
     target: Node,
     row: &Row,
-) -> Result<bool, NoMemory> {
+) -> Result<bool, NoMemory>
+    requires well { IsWellLinked linked.now }
+    requires demanded { (q : Asked) × IsDemandOf linked.now q found.now }
+{
     match row {
         Row::Meets(meetings) => Ok(are_these(found.sites(), solved, meetings)),
         Row::Shares(spot, shared) => {
@@ -192,19 +241,23 @@ fn is_found(
             };
             are_shared(alloc, found.sites(), solved, (first, second), *shared)
         }
-        Row::OneCell(nodes) => is_one_cell(alloc, found, *nodes),
+        Row::OneCell(nodes) => is_one_cell(alloc, linked, found, *nodes),
     }
 }
 
 fn are_found(
     alloc: Global,
+    linked: &Linked,
     found: &Demand,
     solved: &Solved,
     target: Node,
     rows: &[Row],
-) -> Result<bool, NoMemory> {
+) -> Result<bool, NoMemory>
+    requires well { IsWellLinked linked.now }
+    requires demanded { (q : Asked) × IsDemandOf linked.now q found.now }
+{
     for row in rows {
-        if !is_found(alloc, found, solved, target, row)? {
+        if !is_found(alloc, linked, found, solved, target, row)? {
             return Ok(false);
         }
     }
@@ -223,7 +276,7 @@ fn is_solved(
     requires demanded { (q : Asked) × IsDemandOf linked.now q found.now }
 {
     match solve(alloc, linked, found) {
-        Ok(solved) => are_found(alloc, found, &solved, target, rows),
+        Ok(solved) => are_found(alloc, linked, found, &solved, target, rows),
         Err(error) => Err(error),
     }
 }

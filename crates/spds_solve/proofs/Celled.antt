@@ -1,12 +1,11 @@
--- The cell that a look-up finds, and the call strings that its system spells.
-use Rattle.std.proofs.Common.{◌≡◌, ℕ, ◌↔◌, List, Some, length, slice_get, subst, sym, arith}
-use Rattle.jim_ast.proofs.Places.{slice_get-below, slice_get-there}
-use Rattle.spds_cells.specs.Cells.{IsCellOf}
+-- The call strings that the call system of a site spells at the cells of nodes.
+use Rattle.std.proofs.Common.{◌≡◌, ℕ, ◌↔◌, Bool, true, false, true≢false, IsTrue, List, Some, slice_get, sym, ◌∙◌}
 use Rattle.demand_set.specs.Demands.{DemandParts}
 use Rattle.link_rules.specs.Linked.{LinkedProgram}
 use Rattle.link_sites.specs.declared.place.Place.{Place}
 use Rattle.link_sites.specs.declared.site.Site.{Site}
 use Rattle.post_star.specs.Jobs.{Job}
+use Rattle.rule_cells.specs.Renamed.{number_in}
 use Rattle.spds_rules.specs.declared.node.Node.{Node}
 use Rattle.spds_rules.specs.Demand.{Asked}
 use Rattle.spds_rules.specs.Systems.{Calls}
@@ -14,18 +13,11 @@ use Rattle.spds_solve.specs.Solved.{SolvedParts, SpellsCalls}
 use Rattle.spds_tables.specs.Systems.{Reaches}
 use Rattle.weight_laws.specs.declared.reach.Reach.{Reach}
 
--- what is the cell of a number, where there is one, is that of its node
-pub cell_there : (nodes : List Node) (cells : List ℕ) → length cells ≡ length nodes → (number : ℕ) (n : Node) → slice_get nodes number ≡ Some n → (result : ℕ)
-    → ((cell : ℕ) → slice_get cells number ≡ Some cell → result ≡ cell) → IsCellOf nodes cells n result
-cell_there nodes cells count number n there result is =
-    let below = slice_get-below nodes number n there in
-    let at = slice_get-there cells number (omega arith) in
-    record { number = number; node_is = there; cell_is = subst (λ (c : ℕ). slice_get cells number ≡ Some c) (sym (is at.0 at.1)) at.1 }
-
--- the call system gives one word at two cells exactly where their nodes have a common string
+-- it gives one word at two cells exactly where their nodes have a common string
 pub strings_shared : (p : LinkedProgram) (q : Asked) (d : DemandParts) (s : SolvedParts) (o : Site) (job : Job Reach) → SpellsCalls p q d s o job → (a b : ℕ) (n m : Node)
-    → IsCellOf d.nodes s.cells n a → IsCellOf d.nodes s.cells m b
-    → ((word : List ℕ) × Reaches job a word × Reaches job b word) ↔ ((string : List Place) × Calls p q o n string × Calls p q o m string)
+    → slice_get d.nodes a ≡ Some n → slice_get d.nodes b ≡ Some m
+    → ((word : List ℕ) × Reaches job (number_in s.call_cells a) word × Reaches job (number_in s.call_cells b) word)
+    ↔ ((string : List Place) × Calls p q o n string × Calls p q o m string)
 strings_shared p q d s o job words a b n m at_a at_b = (
   (λ h.
       let string = words.spelt a h.0 h.1 in
@@ -34,3 +26,11 @@ strings_shared p q d s o job words a b n m at_a at_b = (
       let word = words.marked n h.0 h.1 in
       (word.0, (words.strings a n word.0 h.0 at_a word.1).1 h.1, (words.strings b m word.0 h.0 at_b word.1).1 h.2)),
 )
+
+-- an answer is both there and reached
+module _ {There Arrived Leads : Type 0} (a : Bool) (told : IsTrue a ↔ There) (arrived : There ↔ Arrived) where
+  pub answered_then : (b : Bool) → a ≡ true → (IsTrue b ↔ Leads) → IsTrue b ↔ (Leads × Arrived)
+  answered_then b is leads = ((λ h. (leads.0 h, arrived.0 (told.0 is))), (λ both. leads.1 both.0))
+
+  pub answered_else : a ≡ false → IsTrue a ↔ (Leads × Arrived)
+  answered_else isnt = ((λ h. absurd (true≢false (sym h ∙ isnt))), (λ both. told.1 (arrived.1 both.1)))

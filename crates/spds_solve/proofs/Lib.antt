@@ -6,6 +6,10 @@ pub mod Resting
 pub mod Opening
 pub mod Composing
 pub mod Whole
+pub mod Still
+pub mod Ending
+pub mod Posting
+pub mod Noting
+pub mod Looking
 pub mod Turns
-pub mod Answering
-pub mod Heading
+pub mod Arriving

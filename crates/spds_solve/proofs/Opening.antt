@@ -12,7 +12,7 @@ use Rattle.spds_solve.specs.Mets.{numbers, numbers_of}
 use Rattle.spds_solve.specs.Searches.{AllSettled, AreFoundBy, IsFound}
 use Rattle.std.proofs.lemmas.List.{map-append}
 use Rattle.spds_tables.proofs.Built.{opens_more}
-use Rattle.spds_cells.proofs.Lists.{Has-left}
+use Rattle.spds_tables.proofs.Lists.{Has-left, Has-right}
 use Rattle.spds_tables.proofs.Questions.{has_one}
 use Rattle.spds_tables.specs.declared.numbered.Met.{Met}
 use Rattle.spds_tables.specs.declared.numbered.StartAt.{StartAt}
@@ -95,7 +95,7 @@ module _ (parts : Parts) where
     pub job : Job Reach
     pub is : IsCallJob parts begun job
     pub opened : (s : StartAt) → Has begun s → Opens parts m.object mets s
-    pub arrives : ArrivesAt job (store_at parts m.store).arg
+    pub arrives : ArrivesAt job (store_at parts m.store).arg.calls
 
   -- each meet of a list over those before it
   abbrev pub AreBrought : List Met → Type 0
@@ -163,6 +163,14 @@ module _ (parts : Parts) where
   brought_open mets all site m has e s among =
       subst (λ (n : ℕ). Opens parts n mets s) e (brought_opens mets m has (brought_whole mets all m has) s among)
 
+  -- that of the next meet opens over those up to it
+  brought_next : (mets : List Met) → AreBrought mets → (i : ℕ) (m : Met) → slice_get mets i ≡ Some m → AreOpenFor parts m.object (m ∷ []) (take i mets ++ m ∷ [])
+  brought_next mets all i m there x has e s among =
+      let cut = cut_at mets i m there in
+      let front = take i mets ++ m ∷ [] in
+      let b = brought_more (take i mets) front m (λ y h. Has-left (take i mets) (m ∷ []) y h) (all (take i mets) m cut.0 cut.1) in
+      brought_opens front m (Has-right (take i mets) (m ∷ []) m (0, refl)) b s (subst (λ (y : Met). Has (starts_at parts y.base) s) (has_one m x has) among)
+
   module _ (p : LinkedProgram) (sites : List Site) where
     -- the object of what was found over settled tables comes to its store
     candidate_brought : (first : List Met) (tables : List SiteTables) → AllSettled parts first tables → (m : Stored) → IsFound p sites parts tables m
@@ -202,6 +210,10 @@ module _ (parts : Parts) where
         let at = at_map numbers grown.behind has.0 x has.1 in
         subst (λ (y : Met). IsBrought (numbers_of first) y) (sym at.2)
         (candidate_brought (numbers_of first) tables settled at.0 (grown.each at.0 (has.0, at.1)))) before m rest (sym joined ∙ e)
+
+    pub found_next : (mets : List Stored) → AreFoundBy p sites parts mets → (i : ℕ) (m : Met) → slice_get (numbers_of mets) i ≡ Some m
+        → AreOpenFor parts m.object (m ∷ []) (take i (numbers_of mets) ++ m ∷ [])
+    found_next mets found = brought_next (numbers_of mets) (found_brought found)
 
     pub found_open : (mets : List Stored) → AreFoundBy p sites parts mets → (site : ℕ) → AreOpenFor parts site (numbers_of mets) (numbers_of mets)
     found_open mets found = brought_open (numbers_of mets) (found_brought found)

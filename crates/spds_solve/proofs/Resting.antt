@@ -16,12 +16,12 @@ use Rattle.spds_rules.specs.Systems.{InCalls, MayStore, StoresUnder}
 use Rattle.spds_solve.specs.declared.met.Met.{Met}
 use Rattle.spds_solve.specs.Mets.{numbers, numbers_of, string_of}
 use Rattle.spds_solve.proofs.Numbering.{numbered_within, string_of-marks}
-use Rattle.spds_tables.proofs.CallSystems.{calls_exact, derived_marks}
-use Rattle.spds_tables.proofs.Exact.{Begins, begins_stay, calls_given, system}
+use Rattle.spds_tables.proofs.Exact.{strings_are, words_spelt}
 use Rattle.spds_tables.specs.declared.numbered.Met.{Met as Numbers}
 use Rattle.spds_tables.specs.declared.parts.Parts.{Parts}
 use Rattle.spds_tables.specs.declared.tables.SiteTables.{SiteTables}
-use Rattle.spds_tables.specs.Names.{AreNames, HasCell, Names}
+use Rattle.spds_tables.specs.Names.{AreNames, Names}
+use Rattle.spds_tables.specs.Parts.{call_cell}
 use Rattle.spds_tables.specs.PartsOf.{AreParts}
 use Rattle.spds_tables.specs.Systems.{Reaches}
 use Rattle.spds_tables.specs.Tables.{AreSettled}
@@ -30,16 +30,12 @@ use Rattle.spds_tables.specs.Triples.{IsInRange, MetIn, triple_of, triples_of}
 -- a word that the tables of a site derive has the marks of a string of the site
 pub calls_spelt : (p : LinkedProgram) (q : Asked) (names : Names) → (are : AreNames p q names) → (parts : Parts) → (of : AreParts p q names parts) → (site : ℕ) (o : Site)
     → (here : slice_get names.sites site ≡ Some o) → (mets : List Numbers) → (inside : (m : Numbers) → Has mets m → IsInRange names m) → (t : SiteTables)
-    → (settled : AreSettled parts site mets t) → (cell : ℕ) (n : Node) (word : List ℕ) → HasCell names n cell → Reaches t.calls cell word
-    → InCalls p q (MetIn names mets) o n (string_of names.calls word)
-calls_spelt p q names are parts of site o here mets inside t settled cell n word at reaches =
-    let begins = Begins p q names are parts of site o here mets inside t settled in
-    let is = system p q names are parts of site o here mets inside t settled in
-    let stay = begins_stay p q names are parts of site o here mets inside t settled in
-    let string = derived_marks p q names are begins stay t.calls is cell word reaches in
-    let given = (calls_exact p q names are begins stay t.calls is cell n word string.0 at string.1).0 reaches in
+    → (settled : AreSettled parts site mets t) → (number : ℕ) (n : Node) (word : List ℕ) → slice_get names.nodes number ≡ Some n
+    → Reaches t.calls (call_cell parts number) word → InCalls p q (MetIn names mets) o n (string_of names.calls word)
+calls_spelt p q names are parts of site o here mets inside t settled number n word there reaches =
+    let string = words_spelt p q names are parts of site o here mets inside t settled number word reaches in
     subst (InCalls p q (MetIn names mets) o n) (sym (string_of-marks names.calls word string.0 string.1))
-    ((calls_given p q names are parts of site o here mets inside t settled n string.0).1 given)
+    ((strings_are p q names are parts of site o here mets inside t settled number n word string.0 there string.1).0 reaches)
 
 -- what stands in the front of a list
 pub slice_get-front : {X : Type 0} (n : ℕ) (xs : List X) (i : ℕ) (x : X) → i < n → slice_get xs i ≡ Some x → slice_get (take n xs) i ≡ Some x

@@ -10,7 +10,7 @@ use Rattle.spds_solve.specs.declared.met.Met.{Met}
 use Rattle.spds_solve.specs.Mets.{numbers, numbers_of}
 use Rattle.spds_solve.specs.Searches.{HaveShared, IsBaseOf, IsFound, IsGrown}
 use Rattle.spds_solve.proofs.Numbering.{has_numbers, numbered_within}
-use Rattle.spds_cells.proofs.Lists.{Has-append, Has-left, Has-right}
+use Rattle.spds_tables.proofs.Lists.{Has-append, Has-left, Has-right}
 use Rattle.spds_tables.specs.declared.numbered.Met.{Met as Numbers}
 use Rattle.spds_tables.specs.declared.parts.Parts.{Parts}
 use Rattle.spds_tables.specs.declared.tables.SiteTables.{SiteTables}
@@ -57,17 +57,17 @@ below_more i n low below last = elim (cases_lt n i) [ inl less ↦ below less | 
 -- what tables say of a base and of a store, as they are read
 module _ (p : LinkedProgram) (sites : List Site) (parts : Parts) (tables : List SiteTables) (base store : ℕ) (table : SiteTables)
     (table_is : slice_get tables base ≡ Some table) where
-  pub base_then : (site : Site) → slice_get sites base ≡ Some site → (a b : Bool) → a ≡ true → (IsTrue a ↔ Reaches table.fields (store_at parts store).base [])
+  pub base_then : (site : Site) → slice_get sites base ≡ Some site → (a b : Bool) → a ≡ true → (IsTrue a ↔ Reaches table.fields (store_at parts store).base.fields [])
       → (IsTrue b ↔ HasField p site (store_at parts store).field) → IsTrue b ↔ IsBaseOf p sites parts tables base store
   base_then site site_is a b first fields has = (
     (λ h. record { table = table; table_is = table_is; site = site; site_is = site_is; itself = fields.0 first; has = has.0 h }),
     (λ h. has.1 (let same : h.site ≡ site = cc (h.site_is, site_is) in subst (λ (x : Site). HasField p x (store_at parts store).field) same h.has)),
   )
 
-  pub base_else : (a : Bool) → a ≡ false → (IsTrue a ↔ Reaches table.fields (store_at parts store).base []) → IsTrue a ↔ IsBaseOf p sites parts tables base store
+  pub base_else : (a : Bool) → a ≡ false → (IsTrue a ↔ Reaches table.fields (store_at parts store).base.fields []) → IsTrue a ↔ IsBaseOf p sites parts tables base store
   base_else a first fields = (
     (λ h. absurd (true≢false (sym h ∙ first))),
-    (λ h. fields.1 (let same : h.table ≡ table = cc (h.table_is, table_is) in subst (λ (x : SiteTables). Reaches x.fields (store_at parts store).base []) same h.itself)),
+    (λ h. fields.1 (let same : h.table ≡ table = cc (h.table_is, table_is) in subst (λ (x : SiteTables). Reaches x.fields (store_at parts store).base.fields []) same h.itself)),
   )
 
 -- a base by numbers that are the same
@@ -79,11 +79,11 @@ base_moved p sites parts tables b base s store x y h =
 module _ (parts : Parts) (tables : List SiteTables) (m : Numbers) (one two : SiteTables) (one_is : slice_get tables m.object ≡ Some one)
     (two_is : slice_get tables m.base ≡ Some two) where
   -- where no word is common, no string is
-  pub none_shared : ((word : List ℕ) → Reaches one.calls (store_at parts m.store).arg word → Reaches two.calls (store_at parts m.store).base word → ⊥)
+  pub none_shared : ((word : List ℕ) → Reaches one.calls (store_at parts m.store).arg.calls word → Reaches two.calls (store_at parts m.store).base.calls word → ⊥)
       → HaveShared parts tables m → ⊥
   none_shared none h =
       let s = h.1 in
       let x : s.object ≡ one = cc (s.object_is, one_is) in
       let y : s.base ≡ two = cc (s.base_is, two_is) in
-      none s.word (subst (λ (z : SiteTables). Reaches z.calls (store_at parts m.store).arg s.word) x s.at_arg)
-      (subst (λ (z : SiteTables). Reaches z.calls (store_at parts m.store).base s.word) y s.at_base)
+      none s.word (subst (λ (z : SiteTables). Reaches z.calls (store_at parts m.store).arg.calls s.word) x s.at_arg)
+      (subst (λ (z : SiteTables). Reaches z.calls (store_at parts m.store).base.calls s.word) y s.at_base)

@@ -1,56 +1,24 @@
 -- The turns of the search.
-use Rattle.std.proofs.Common.{◌≡◌, ℕ, zero, suc, ◌+◌, ◌<◌, ◌≤◌, ◌++◌, All, List, [], ◌∷◌, length, map, take, Some, slice_get, slice_set, sym, ap, ◌∙◌, subst, inl, inr, length-append, arith}
+use Rattle.std.proofs.Common.{◌≡◌, ℕ, zero, suc, ◌<◌, ◌≤◌, ◌++◌, All, List, [], ◌∷◌, length, map, take, Some, sym, ap, ◌∙◌, subst, inl, inr, length-append, arith}
 use Rattle.std.specs.List.{flat_map}
 use Rattle.std.proofs.lemmas.Bool.{cases_eq}
 use Rattle.std.proofs.Math.Seq.{take-append_seam}
-use Rattle.std.proofs.lemmas.List.{append-nil, length-map, length-set, map-append, take-append-le}
+use Rattle.std.proofs.lemmas.List.{append-nil, length-map, map-append, take-append-le}
 use Rattle.demand_walk.proofs.Counts.{length-IsApart}
 use Rattle.jim_ast.specs.Lists.{Has, IsApart}
-use Rattle.jim_ast.proofs.Places.{slice_get-below, slice_get-set_other, slice_get-set_same}
 use Rattle.link_laws.proofs.Lists.{all_at, at_all, map_at}
 use Rattle.link_rules.specs.Linked.{LinkedProgram}
 use Rattle.link_sites.specs.declared.site.Site.{Site}
 use Rattle.spds_solve.specs.declared.met.Met.{Met}
 use Rattle.spds_solve.specs.Mets.{numbers, numbers_of}
-use Rattle.spds_solve.specs.Searches.{AllBuilt, AllSettled, AreFoundBy, AreRefreshed, IsCandidate, IsComplete, IsGrown}
+use Rattle.spds_solve.specs.Searches.{AllSettled, AreFoundBy, IsCandidate, IsComplete, IsGrown}
 use Rattle.spds_solve.proofs.Numbering.{has_numbers, numbered}
 use Rattle.spds_solve.proofs.Whole.{found_inside}
-use Rattle.spds_cells.proofs.Lists.{Has-append, Has-flat_map}
+use Rattle.spds_tables.proofs.Lists.{Has-append, Has-flat_map}
 use Rattle.spds_tables.specs.declared.numbered.Met.{Met as Numbers}
 use Rattle.spds_tables.specs.declared.parts.Parts.{Parts}
 use Rattle.spds_tables.specs.declared.tables.SiteTables.{SiteTables}
 use Rattle.spds_tables.specs.Parts.{IsInParts}
-use Rattle.spds_tables.specs.Tables.{AreSettled}
-
-module _ (parts : Parts) (old mets : List Numbers) where
-  -- no table is refreshed yet
-  pub refreshed_none : (tables : List SiteTables) → AllBuilt parts old tables → AreRefreshed parts old mets 0 tables
-  refreshed_none tables built = record { count = built.count; settled = λ site t low there. absurd (omega arith); waiting = λ site t low there. built.each site t there }
-
-  -- one more is
-  pub refreshed_more : (tables : List SiteTables) (site : ℕ) (t : SiteTables) → site < length tables → AreRefreshed parts old mets site tables → AreSettled parts site mets t
-      → AreRefreshed parts old mets (site + 1) (slice_set tables site t)
-  refreshed_more tables site t low was now = record {
-    count = length-set tables site t ∙ was.count;
-    settled = λ k x below there. elim (cases_eq k site) [
-      | inl e ↦
-          let same : x ≡ t = (let a = slice_get-set_same tables site t low in let b : slice_get (slice_set tables site t) site ≡ Some x = subst (λ (n : ℕ). slice_get (slice_set tables site t) n ≡ Some x) e there in cc) in
-          subst (λ (y : SiteTables). AreSettled parts k mets y) (sym same) (subst (λ (n : ℕ). AreSettled parts n mets t) (sym e) now)
-      | inr n ↦ was.settled k x (omega arith) (sym (slice_get-set_other tables site k t n) ∙ there)
-    ];
-    waiting = λ k x low2 there. was.waiting k x (omega arith) (sym (slice_get-set_other tables site k t (λ e. absurd (omega arith))) ∙ there);
-  }
-
-  -- all are
-  pub refreshed_all : (tables : List SiteTables) (done : ℕ) → length tables ≤ done → AreRefreshed parts old mets done tables → AllSettled parts mets tables
-  refreshed_all tables done all was = record {
-    count = was.count;
-    each = λ site t there. was.settled site t (let below = slice_get-below tables site t there in omega arith) there;
-  }
-
--- settled tables are built
-pub settled_built : (parts : Parts) (mets : List Numbers) (tables : List SiteTables) → AllSettled parts mets tables → AllBuilt parts mets tables
-settled_built parts mets tables s = record { count = s.count; each = λ site t there. (s.each site t there).built }
 
 module _ (p : LinkedProgram) (sites : List Site) (parts : Parts) (old new : List Met) (tables : List SiteTables) (settled : AllSettled parts (numbers_of old) tables)
     (grown : IsGrown p sites parts tables old new) where

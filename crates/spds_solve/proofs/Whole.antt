@@ -18,33 +18,29 @@ use Rattle.spds_laws.proofs.More.{calls_more, fields_more, may_store_more, store
 use Rattle.spds_laws.proofs.Rounds.{meets_stored}
 use Rattle.spds_laws.proofs.Within.{may_store_within}
 use Rattle.spds_laws.specs.Found.{IsClosed, Triple}
-use Rattle.spds_laws.specs.Starts.{FromStarts}
 use Rattle.spds_rules.specs.declared.node.Node.{Node}
 use Rattle.spds_rules.specs.declared.store.StoreAt.{StoreAt}
-use Rattle.spds_rules.specs.Answers.{IsAnswered}
 use Rattle.spds_rules.specs.Demand.{Asked, StartIn}
-use Rattle.spds_rules.specs.Systems.{Calls, InCalls, IsString, MayStore, Meets, StoresUnder}
-use Rattle.spds_solve.specs.declared.answers.Held.{Held}
+use Rattle.spds_rules.specs.Systems.{Calls, Fields, InCalls, IsString, MayStore, Meets, StoresUnder}
+use Rattle.spds_solve.specs.declared.arrivals.Arrival.{Arrival}
 use Rattle.spds_solve.specs.declared.met.Met.{Met}
 use Rattle.spds_solve.specs.Composing.{AreJoined, IsReady, joined}
 use Rattle.spds_solve.specs.Mets.{numbers, numbers_of, string_of}
-use Rattle.spds_solve.specs.Searches.{AllSettled, AreFoundBy, IsCandidate, IsComplete, IsFound, IsHeldOf}
+use Rattle.spds_solve.specs.Searches.{AllSettled, AreFoundBy, IsCandidate, IsComplete, IsFound}
 use Rattle.spds_solve.specs.Solved.{AreMeets, IsListed, IsSolved, StandsForMeet}
 use Rattle.spds_solve.proofs.Numbering.{has_numbers, numbered}
 use Rattle.spds_solve.proofs.Resting.{AreStored, StoresOver, calls_spelt, front_kept, listed_within, old_front, stored_found, stores_within}
-use Rattle.spds_tables.proofs.CallSystems.{calls_exact, derived_marks, given_marks}
-use Rattle.spds_tables.proofs.Exact.{Begins, base_is, begins_stay, calls_arrive, calls_given, fields_are, listed_met, met_listed, may_store_exact, object_is, store_is, system}
-use Rattle.spds_cells.specs.Cells.{IsCarried}
-use Rattle.spds_cells.proofs.Lists.{Has-append}
+use Rattle.spds_tables.proofs.Exact.{base_is, calls_arrive, fields_are, listed_met, met_listed, may_store_exact, object_is, store_is, strings_are, strings_marked, words_spelt}
+use Rattle.spds_tables.proofs.Lists.{Has-append}
 use Rattle.spds_tables.proofs.Made.{demand_names}
 use Rattle.spds_tables.specs.declared.numbered.Met.{Met as Numbers}
 use Rattle.spds_tables.specs.declared.parts.Parts.{Parts}
 use Rattle.spds_tables.specs.declared.tables.SiteTables.{SiteTables}
-use Rattle.spds_tables.specs.Names.{AreNames, HasCell, Names}
-use Rattle.spds_tables.specs.Parts.{IsInParts, store_at}
+use Rattle.spds_tables.specs.Names.{AreNames, Names}
+use Rattle.spds_tables.specs.Parts.{IsInParts, call_cell, field_cell, store_at, store_nodes_at}
 use Rattle.spds_tables.specs.PartsOf.{AreParts, ArePartsOf, names_of}
-use Rattle.spds_tables.specs.Systems.{IsCallSystem, Reaches}
-use Rattle.spds_tables.specs.Tables.{AreSettled}
+use Rattle.spds_tables.specs.Systems.{Reaches}
+use Rattle.spds_tables.specs.Tables.{AreSettled, ArrivesAt}
 use Rattle.spds_tables.specs.Triples.{IsInRange, MetIn, no_site, no_store_at, triple_of, triples_of}
 
 module _ (p : LinkedProgram) (sites : List Site) (parts : Parts) where
@@ -131,13 +127,13 @@ module _ (p : LinkedProgram) (q : Asked) (names : Names) (are : AreNames p q nam
         record {
           store = are.stores.each t.store (m.store, there);
           at_arg = subst (InCalls p q (MetIn names mets) t.object t.store.arg) spelt
-              (calls_spelt p q names are parts of m.object t.object object mets inside shared.object one (store_at parts m.store).arg t.store.arg shared.word
+              (calls_spelt p q names are parts of m.object t.object object mets inside shared.object one (store_nodes_at parts m.store).arg t.store.arg shared.word
               stored.arg_is shared.at_arg);
           at_base = subst (InCalls p q (MetIn names mets) t.base t.store.base) spelt
-              (calls_spelt p q names are parts of m.base t.base base mets inside shared.base two (store_at parts m.store).base t.store.base shared.word
+              (calls_spelt p q names are parts of m.base t.base base mets inside shared.base two (store_nodes_at parts m.store).base t.store.base shared.word
               stored.base_is shared.at_base);
-          is_base = (fields_are p q names are parts of m.base t.base base mets inside shared.base two (store_at parts m.store).base t.store.base [] stored.base_is).0
-              (subst (λ (x : SiteTables). Reaches x.fields (store_at parts m.store).base []) table found.base.itself);
+          is_base = (fields_are p q names are parts of m.base t.base base mets inside shared.base two (store_nodes_at parts m.store).base t.store.base [] stored.base_is).0
+              (subst (λ (x : SiteTables). Reaches x.fields (store_at parts m.store).base.fields []) table found.base.itself);
           has = subst (HasField p t.base) stored.field_is (subst (λ (x : Site). HasField p x (store_at parts m.store).field) site found.base.has);
         }
 
@@ -310,49 +306,41 @@ module _ (p : LinkedProgram) (q : Asked) (names : Names) (are : AreNames p q nam
       settled_at : AreSettled parts site all t
       settled_at = complete.settled.each site t at
 
-      -- the answers
-      pub held_are : (cell : ℕ) (n : Node) → HasCell names n cell → IsHeldOf t cell ↔ IsAnswered p q n o
-      held_are cell n here =
-          let fields = fields_are p q names are parts of site o there all inside t settled_at cell n [] here in
-          let calls = calls_arrive p q names are parts of site o there all inside t settled_at cell n here in (
-            (λ h. let c = calls.0 h.1 in (fields_more p q (MetIn names all) (Meets p q) met_in o (fields.0 h.0), (c.0, calls_more p q (MetIn names all) (Meets p q) met_in o c.1))),
-            (λ h. (fields.1 (fields_more p q (Meets p q) (MetIn names all) in_met o h.0), calls.1 (h.1.0, calls_more p q (Meets p q) (MetIn names all) in_met o h.1.1))),
+      -- both systems of the tables are those over all meets
+      pub fields_whole : (number : ℕ) (n : Node) (word : List ℕ) → slice_get names.nodes number ≡ Some n
+          → Reaches t.fields (field_cell parts number) word ↔ Fields p q o n word
+      fields_whole number n word here =
+          let same = fields_are p q names are parts of site o there all inside t settled_at number n word here in (
+            (λ h. fields_more p q (MetIn names all) (Meets p q) met_in o (same.0 h)),
+            (λ h. same.1 (fields_more p q (Meets p q) (MetIn names all) in_met o h)),
           )
 
-      -- the words of the call system are the strings
-      begins : Node → Type 0
-      begins = Begins p q names are parts of site o there all inside t settled_at
-
-      stay : (a b : Node) → begins b → IsCarried p q a b → ⊥
-      unfolding begins
-      stay = begins_stay p q names are parts of site o there all inside t settled_at
-
-      is_system : IsCallSystem p q names begins t.calls
-      unfolding begins
-      is_system = system p q names are parts of site o there all inside t settled_at
-
-      given : (n : Node) (string : List Place) → InCalls p q (MetIn names all) o n string ↔ FromStarts p q begins n string
-      unfolding begins
-      given = calls_given p q names are parts of site o there all inside t settled_at
-
-      pub strings_are : (cell : ℕ) (n : Node) (word : List ℕ) (string : List Place) → HasCell names n cell → AreMarks names.calls word string
-          → Reaches t.calls cell word ↔ Calls p q o n string
-      strings_are cell n word string at marks =
-          let exact = calls_exact p q names are begins stay t.calls is_system cell n word string at marks in (
-            (λ h. calls_more p q (MetIn names all) (Meets p q) met_in o ((given n string).1 (exact.0 h))),
-            (λ h. exact.1 ((given n string).0 (calls_more p q (Meets p q) (MetIn names all) in_met o h))),
+      pub arrived_whole : (number : ℕ) (n : Node) → slice_get names.nodes number ≡ Some n
+          → ArrivesAt t.calls (call_cell parts number) ↔ ((string : List Place) × Calls p q o n string)
+      arrived_whole number n here =
+          let same = calls_arrive p q names are parts of site o there all inside t settled_at number n here in (
+            (λ h. let c = same.0 h in (c.0, calls_more p q (MetIn names all) (Meets p q) met_in o c.1)),
+            (λ h. same.1 (h.0, calls_more p q (Meets p q) (MetIn names all) in_met o h.1)),
           )
 
-      pub strings_marked : (n : Node) (string : List Place) → Calls p q o n string → (word : List ℕ) × AreMarks names.calls word string
-      strings_marked n string h =
-          given_marks p q names are begins stay t.calls is_system n string ((given n string).0 (calls_more p q (Meets p q) (MetIn names all) in_met o h))
+      pub strings_whole : (number : ℕ) (n : Node) (word : List ℕ) (string : List Place) → slice_get names.nodes number ≡ Some n → AreMarks names.calls word string
+          → Reaches t.calls (call_cell parts number) word ↔ Calls p q o n string
+      strings_whole number n word string here marks =
+          let same = strings_are p q names are parts of site o there all inside t settled_at number n word string here marks in (
+            (λ h. calls_more p q (MetIn names all) (Meets p q) met_in o (same.0 h)),
+            (λ h. same.1 (calls_more p q (Meets p q) (MetIn names all) in_met o h)),
+          )
 
-      pub words_spelt : (cell : ℕ) (word : List ℕ) → Reaches t.calls cell word → (string : List Place) × AreMarks names.calls word string
-      words_spelt cell word h = derived_marks p q names are begins stay t.calls is_system cell word h
+      pub marked_whole : (n : Node) (string : List Place) → Calls p q o n string → (word : List ℕ) × AreMarks names.calls word string
+      marked_whole n string h =
+          strings_marked p q names are parts of site o there all inside t settled_at n string (calls_more p q (Meets p q) (MetIn names all) in_met o h)
 
-module _ (p : LinkedProgram) (q : Asked) (d : DemandParts) (cells : List ℕ) (calls : List Place) where
+      pub spelt_whole : (number : ℕ) (word : List ℕ) → Reaches t.calls (call_cell parts number) word → (string : List Place) × AreMarks names.calls word string
+      spelt_whole number word h = words_spelt p q names are parts of site o there all inside t settled_at number word h
+
+module _ (p : LinkedProgram) (q : Asked) (d : DemandParts) (calls : List Place) where
   abbrev names : Names
-  names = names_of d cells calls
+  names = names_of d calls
 
   -- a meet in range stands for its triple
   stands_in : (met : Met) → IsInRange names (numbers met)
@@ -405,43 +393,61 @@ module _ (p : LinkedProgram) (q : Asked) (d : DemandParts) (cells : List ℕ) (c
 
 -- all of it
 pub solved_whole : (p : LinkedProgram) (q : Asked) (d : DemandParts) → IsDemandOf p q d → (parts : Parts) → ArePartsOf p q d parts → (tables : List SiteTables) (mets : List Met)
-    → IsComplete p d.sites parts tables mets → IsApart (numbers_of mets) → (held : List Held)
-    → ((h : Held) → Has held h ↔ ((t : SiteTables) × (slice_get tables h.site ≡ Some t) × IsHeldOf t h.cell))
-    → IsSolved p q d (record { cells = parts.cells.items; places = parts.places; calls = map (λ t. t.calls) tables; mets = mets; held = held })
-solved_whole p q d is parts of tables mets complete once held answers =
-    let cells = parts.cells.items in
-    let names = names_of d cells of.calls in
-    let are = demand_names p q d is cells of.are_cells of.calls of.are_calls in
+    → IsComplete p d.sites parts tables mets → IsApart (numbers_of mets) → (arrivals : List Arrival)
+    → ((a : Arrival) → Has arrivals a ↔ ((t : SiteTables) × (slice_get tables a.site ≡ Some t) × ArrivesAt t.calls a.cell))
+    → IsSolved p q d (record {
+      field_cells = parts.field_cells.items;
+      call_cells = parts.call_cells.items;
+      places = parts.places;
+      fields = map (λ t. t.fields) tables;
+      calls = map (λ t. t.calls) tables;
+      mets = mets;
+      arrivals = arrivals;
+    })
+solved_whole p q d is parts of tables mets complete once arrivals arrived =
+    let names = names_of d of.calls in
+    let are = demand_names p q d is of.calls of.are_calls in
     record {
-      cells = of.are_cells;
-      mets = meets_listed p q d cells of.calls are parts of.are_parts tables mets complete once;
+      mets = meets_listed p q d of.calls are parts of.are_parts tables mets complete once;
       numbered = mets_are p q names are parts of.are_parts tables mets complete;
-      held = λ h o n site cell.
-          let low = slice_get-below d.sites h.site o site in
-          let count = complete.settled.count in
-          let starts = of.are_parts.start_count in
-          let t = slice_get-there tables h.site (omega arith) in
-          let same = held_are p q names are parts of.are_parts tables mets complete h.site o site t.0 t.1 h.cell n cell in (
-            (λ has. let a = (answers h).0 has in let one : a.0 ≡ t.0 = cc (a.1, t.1) in same.0 (subst (λ (x : SiteTables). IsHeldOf x h.cell) one a.2)),
-            (λ answered. (answers h).1 (t.0, t.1, same.1 answered)),
+      fields = λ site o there.
+          let t = table site o there in (
+            t.0.fields,
+            map_at (λ (x : SiteTables). x.fields) tables site t.0 t.1,
+            fields_whole p q names are parts of.are_parts tables mets complete site o there t.0 t.1,
           );
       calls = λ site o there.
-          let low = slice_get-below d.sites site o there in
-          let count = complete.settled.count in
-          let starts = of.are_parts.start_count in
-          let t = slice_get-there tables site (omega arith) in
+          let t = table site o there in
           let same = of.are_parts.places in (
             t.0.calls,
             map_at (λ (x : SiteTables). x.calls) tables site t.0 t.1,
             record {
-              strings = λ cell n word string at marks.
-                  strings_are p q names are parts of.are_parts tables mets complete site o there t.0 t.1 cell n word string at (subst (λ (calls : List Place). AreMarks calls word string) same marks);
+              strings = λ number n word string at marks.
+                  strings_whole p q names are parts of.are_parts tables mets complete site o there t.0 t.1 number n word string at
+                  (subst (λ (calls : List Place). AreMarks calls word string) same marks);
               marked = λ n string h.
-                  let m = strings_marked p q names are parts of.are_parts tables mets complete site o there t.0 t.1 n string h in
+                  let m = marked_whole p q names are parts of.are_parts tables mets complete site o there t.0 t.1 n string h in
                   (m.0, subst (λ (calls : List Place). AreMarks calls m.0 string) (sym same) m.1);
-              spelt = λ cell word h.
-                  let m = words_spelt p q names are parts of.are_parts tables mets complete site o there t.0 t.1 cell word h in
+              spelt = λ number word h.
+                  let m = spelt_whole p q names are parts of.are_parts tables mets complete site o there t.0 t.1 number word h in
                   (m.0, subst (λ (calls : List Place). AreMarks calls word m.0) (sym same) m.1);
             },
           );
+      arrived = λ a o number n site at cell.
+          let t = table a.site o site in
+          let same = arrived_whole p q names are parts of.are_parts tables mets complete a.site o site t.0 t.1 number n at in (
+            (λ has.
+                let h = (arrived a).0 has in
+                let one : h.0 ≡ t.0 = cc (h.1, t.1) in
+                same.0 (subst (λ (c : ℕ). ArrivesAt t.0.calls c) cell (subst (λ (x : SiteTables). ArrivesAt x.calls a.cell) one h.2))),
+            (λ h. (arrived a).1 (t.0, t.1, subst (λ (c : ℕ). ArrivesAt t.0.calls c) (sym cell) (same.1 h))),
+          );
     }
+  where
+    -- each site has tables
+    table : (site : ℕ) (o : Site) → slice_get d.sites site ≡ Some o → (t : SiteTables) × (slice_get tables site ≡ Some t)
+    table site o there =
+        let low = slice_get-below d.sites site o there in
+        let count = complete.settled.count in
+        let starts = of.are_parts.start_count in
+        slice_get-there tables site (omega arith)

@@ -2,4 +2,8 @@ pub mod Solved
 pub mod Searches
 pub mod Mets
 pub mod Composing
+pub mod Ends
 pub mod Heads
+pub mod Posts
+pub mod Known
+pub mod Looks

@@ -1,11 +1,12 @@
 -- The search for meets, over settled tables.
-use Rattle.std.specs.Prelude.{◌≡◌, ◌<◌, ◌≤◌, ◌++◌, ℕ, List, [], Some, length, slice_get}
+use Rattle.std.specs.Prelude.{◌≡◌, ◌<◌, ◌++◌, ℕ, List, [], Some, false, length, slice_get}
 use Rattle.jim_ast.specs.Lists.{Has}
 use Rattle.link_rules.specs.Linked.{LinkedProgram}
 use Rattle.link_sites.specs.declared.place.Place.{Place}
 use Rattle.link_sites.specs.declared.site.Site.{Site}
 use Rattle.link_sites.specs.Sites.{HasField}
 use Rattle.spds_solve.specs.declared.met.Met.{Met}
+use Rattle.spds_solve.specs.declared.refresh.Tables.{Tables}
 use Rattle.spds_solve.specs.Composing.{AreJoined}
 use Rattle.spds_solve.specs.Mets.{numbers, numbers_of, string_of}
 use Rattle.spds_tables.specs.declared.numbered.Met.{Met as Numbers}
@@ -13,7 +14,7 @@ use Rattle.spds_tables.specs.declared.parts.Parts.{Parts}
 use Rattle.spds_tables.specs.declared.tables.SiteTables.{SiteTables}
 use Rattle.spds_tables.specs.Parts.{store_at}
 use Rattle.spds_tables.specs.Systems.{Reaches}
-use Rattle.spds_tables.specs.Tables.{AreBuilt, AreSettled, ArrivesAt}
+use Rattle.spds_tables.specs.Tables.{AreBuilt, AreSettled}
 
 -- the base's own object is at the base of the store, and has the field
 pub record IsBaseOf (p : LinkedProgram) (sites : List Site) (parts : Parts) (tables : List SiteTables) (base store : ℕ) : Type 0 where
@@ -21,7 +22,7 @@ pub record IsBaseOf (p : LinkedProgram) (sites : List Site) (parts : Parts) (tab
   pub table_is : slice_get tables base ≡ Some table
   pub site : Site
   pub site_is : slice_get sites base ≡ Some site
-  pub itself : Reaches table.fields (store_at parts store).base []
+  pub itself : Reaches table.fields (store_at parts store).base.fields []
   pub has : HasField p site (store_at parts store).field
 
 -- the call string is at the argument and at the base
@@ -31,8 +32,8 @@ pub record IsShared (parts : Parts) (tables : List SiteTables) (m : Numbers) (st
   pub base : SiteTables
   pub base_is : slice_get tables m.base ≡ Some base
   pub word : List ℕ
-  pub at_arg : Reaches object.calls (store_at parts m.store).arg word
-  pub at_base : Reaches base.calls (store_at parts m.store).base word
+  pub at_arg : Reaches object.calls (store_at parts m.store).arg.calls word
+  pub at_base : Reaches base.calls (store_at parts m.store).base.calls word
   pub string_is : string ≡ string_of parts.places word
 
 -- one call string is
@@ -65,11 +66,25 @@ pub record AllSettled (parts : Parts) (mets : List Numbers) (tables : List SiteT
   pub count : length tables ≡ length parts.starts.items
   pub each : (site : ℕ) (t : SiteTables) → slice_get tables site ≡ Some t → AreSettled parts site mets t
 
--- the tables of the sites before one are settled over the meets, the others have some of these
-pub record AreRefreshed (parts : Parts) (old mets : List Numbers) (done : ℕ) (tables : List SiteTables) : Type 0 where
-  pub count : length tables ≡ length parts.starts.items
-  pub settled : (site : ℕ) (t : SiteTables) → site < done → slice_get tables site ≡ Some t → AreSettled parts site mets t
-  pub waiting : (site : ℕ) (t : SiteTables) → done ≤ site → slice_get tables site ≡ Some t → AreBuilt parts site old t
+-- the tables of a site are as they were when they were looked at
+abbrev pub IsStill : Tables → ℕ → Type 0
+IsStill t site = slice_get t.changed.items site ≡ Some false
+
+-- the tables of all sites over these meets; those of sites that are still have come to the end
+pub record AreTaken (parts : Parts) (mets : List Numbers) (t : Tables) : Type 0 where
+  pub count : length t.each.items ≡ length parts.starts.items
+  pub flags : length t.changed.items ≡ length parts.starts.items
+  pub built : (site : ℕ) (x : SiteTables) → slice_get t.each.items site ≡ Some x → AreBuilt parts site mets x
+  pub still : (site : ℕ) (x : SiteTables) → slice_get t.each.items site ≡ Some x → IsStill t site → AreSettled parts site mets x
+
+-- those of the sites before one have come to the end too
+pub record AreSettledBelow (parts : Parts) (mets : List Numbers) (done : ℕ) (t : Tables) : Type 0 where
+  pub taken : AreTaken parts mets t
+  pub settled : (site : ℕ) (x : SiteTables) → site < done → slice_get t.each.items site ≡ Some x → AreSettled parts site mets x
+
+-- each site that is still was so, and has the tables that it had
+pub record AreStill (old new : Tables) : Type 0 where
+  pub each : (site : ℕ) → IsStill new site → IsStill old site × (slice_get new.each.items site ≡ slice_get old.each.items site)
 
 -- meets that were found in turns: those of a turn over tables that are settled over those before, and those that others give
 pub data AreFoundBy (p : LinkedProgram) (sites : List Site) (parts : Parts) : List Met → Type 0 where
@@ -83,7 +98,3 @@ pub record IsComplete (p : LinkedProgram) (sites : List Site) (parts : Parts) (t
   pub settled : AllSettled parts (numbers_of mets) tables
   pub found : AreFoundBy p sites parts mets
   pub closed : (m : Numbers) → m.store < length parts.stores.items → IsCandidate p sites parts tables m → Has (numbers_of mets) m
-
--- the tables say that the nodes of the cell may hold an object of their site
-abbrev pub IsHeldOf : SiteTables → ℕ → Type 0
-IsHeldOf t node = Reaches t.fields node [] × ArrivesAt t.calls node

@@ -1,11 +1,15 @@
 //! The solver: the meets of a demand, and the two systems of its sites over them (Späth, Ali and Bodden 2019).
 #![tactic(auto)]
 
-mod answers;
+mod arrivals;
 mod compose;
+mod ends;
 mod heads;
+mod known;
+mod looks;
 mod met;
 mod mets;
+mod posts;
 mod refresh;
 mod scan;
 mod solved;

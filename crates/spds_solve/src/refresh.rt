@@ -1,15 +1,24 @@
-//! The tables of all sites.
-ghost use Rattle.std.specs.Prelude.{◌≡◌, ◌<◌, ◌≤◌, ℕ, All, [], length, drop, take, IfOk, OnOk};
-ghost use Rattle.spds_solve.specs.Searches.{AllBuilt, AllSettled};
+//! The tables of all sites, and which of them changed.
+ghost use Rattle.std.specs.Prelude.{◌≡◌, ◌+◌, ◌<◌, ◌≤◌, ◌++◌, ◌∷◌, ℕ, All, List, Some, [], length, slice_get, take, IfOk, OnOk};
+ghost use Rattle.spds_solve.specs.Searches.{AllBuilt, AllSettled, AreSettledBelow, AreStill, AreTaken, IsStill};
+ghost use Rattle.spds_tables.specs.declared.numbered.Met.{Met as AMet};
 ghost use Rattle.spds_tables.specs.Parts.{AreLedIn, IsInParts};
-ghost use Rattle.spds_tables.specs.Tables.{AreBuilt, AreOpenFor, AreSettled};
+ghost use Rattle.spds_tables.specs.Tables.{AreOpenFor};
 
 use auto_table::NoMemory;
 use spds_tables::{Met, Parts, SiteTables};
 use std::alloc::Global;
 
-/// The tables of all sites, without meets.
-pub fn all_tables(alloc: Global, parts: &Parts, count: u32) -> Result<Vec<SiteTables>, NoMemory>
+/// The tables of all sites.
+#[derive(Drop)]
+pub struct Tables {
+    pub each: Vec<SiteTables>,
+    /// Of each site whether its tables changed since they were looked at.
+    pub changed: Vec<bool>,
+}
+
+/// Tables without meets, of so many sites.
+fn all_tables(alloc: Global, parts: &Parts, count: u32) -> Result<Vec<SiteTables>, NoMemory>
     requires led { AreLedIn parts.now }
     requires count { count ≡ length parts.now.starts.items }
     ensures { IfOk result (λ tables. AllBuilt parts.now [] tables.items) }
@@ -21,47 +30,108 @@ pub fn all_tables(alloc: Global, parts: &Parts, count: u32) -> Result<Vec<SiteTa
     Ok(all)
 }
 
-/// Brings the tables of a site to the end, with further meets.
-fn bring(
-    alloc: Global,
-    parts: &Parts,
-    tables: &mut SiteTables,
-    site: u32,
-    taken: usize,
-    mets: &[Met],
-) -> Result<(), NoMemory>
-    requires led { AreLedIn parts.now }
-    requires mets { All (IsInParts parts.now) mets.now }
-    requires taken { taken ≤ length mets.now }
-    requires opens { AreOpenFor parts.now site mets.now mets.now }
-    requires built { AreBuilt parts.now site (take taken mets.now) tables.old }
-    ensures { OnOk result (AreSettled parts.now site mets.now tables.new) }
-{
-    tables.catch_up(parts, site, &mets[taken..])?;
-    tables.complete(alloc, parts)?;
-    Ok(())
-}
-
-/// Brings the tables of all sites to the end, with further meets.
-pub fn refresh(
-    alloc: Global,
-    parts: &Parts,
-    tables: &mut [SiteTables],
-    count: u32,
-    taken: usize,
-    mets: &[Met],
-) -> Result<(), NoMemory>
-    requires led { AreLedIn parts.now }
-    requires mets { All (IsInParts parts.now) mets.now }
-    requires count { count ≡ length tables.old }
-    requires taken { taken ≤ length mets.now }
-    requires opens { (site : ℕ) → AreOpenFor parts.now site mets.now mets.now }
-    requires built { AllBuilt parts.now (take taken mets.now) tables.old }
-    ensures { OnOk result (AllSettled parts.now mets.now tables.new) }
-{
-    for site in 0..count {
-        let table = &mut tables[site as usize];
-        bring(alloc, parts, table, site, taken, mets)?;
+impl Tables {
+    /// The tables of so many sites, without meets. None was looked at.
+    pub fn new(alloc: Global, parts: &Parts, count: u32) -> Result<Self, NoMemory>
+        requires led { AreLedIn parts.now }
+        requires count { count ≡ length parts.now.starts.items }
+        ensures taken { IfOk result (λ tables. AreTaken parts.now [] tables) }
+        ensures none { IfOk result (λ tables. (site : ℕ) → IsStill tables site → ⊥) }
+    {
+        let each = all_tables(alloc, parts, count)?;
+        let changed = vec![in alloc; true; count as usize]?;
+        Ok(Tables { each, changed })
     }
-    Ok(())
+
+    /// Takes a meet in. It goes to the site of its object alone, since meets of other objects ask nothing of a site.
+    fn take(&mut self, parts: &Parts, met: Met) -> Result<(), NoMemory>
+        requires led { AreLedIn parts.now }
+        requires met { IsInParts parts.now met }
+        requires taken { (mets : List AMet) × AreTaken parts.now mets self.old }
+        ensures still { OnOk result (AreStill self.old self.new) }
+        ensures taken { OnOk result ((mets : List AMet) → AreTaken parts.now mets self.old
+            → AreOpenFor parts.now met.object (met ∷ []) (mets ++ met ∷ []) → AreTaken parts.now (mets ++ met ∷ []) self.new) }
+    {
+        let site = met.object;
+        self.changed[site as usize] = true;
+        self.each[site as usize].catch_up(parts, site, &[met])?;
+        Ok(())
+    }
+
+    /// Takes all meets in but those that were taken before.
+    fn take_all(&mut self, parts: &Parts, taken: usize, mets: &[Met]) -> Result<(), NoMemory>
+        requires led { AreLedIn parts.now }
+        requires mets { All (IsInParts parts.now) mets.now }
+        requires low { taken ≤ length mets.now }
+        requires opens { (i : ℕ) (m : AMet) → slice_get mets.now i ≡ Some m → AreOpenFor parts.now m.object (m ∷ []) (take i mets.now ++ m ∷ []) }
+        requires taken { AreTaken parts.now (take taken mets.now) self.old }
+        ensures still { OnOk result (AreStill self.old self.new) }
+        ensures taken { OnOk result (AreTaken parts.now mets.now self.new) }
+    {
+        for at in taken..mets.len() {
+            self.take(parts, mets[at])?;
+        }
+        Ok(())
+    }
+
+    /// Brings the tables of a site to the end, if they changed.
+    fn complete(&mut self, alloc: Global, parts: &Parts, site: usize) -> Result<(), NoMemory>
+        requires led { AreLedIn parts.now }
+        requires site { site < length self.old.each.items }
+        requires taken { (mets : List AMet) × AreTaken parts.now mets self.old }
+        ensures still { OnOk result (AreStill self.old self.new) }
+        ensures settled { OnOk result ((mets : List AMet) → AreSettledBelow parts.now mets site self.old → AreSettledBelow parts.now mets (site + 1) self.new) }
+    {
+        if !self.changed[site] {
+            return Ok(());
+        }
+        self.each[site].complete(alloc, parts)?;
+        Ok(())
+    }
+
+    /// Brings the tables of all sites that changed to the end.
+    fn complete_all(&mut self, alloc: Global, parts: &Parts) -> Result<(), NoMemory>
+        requires led { AreLedIn parts.now }
+        requires taken { (mets : List AMet) × AreTaken parts.now mets self.old }
+        ensures still { OnOk result (AreStill self.old self.new) }
+        ensures settled { OnOk result ((mets : List AMet) → AreTaken parts.now mets self.old → AreTaken parts.now mets self.new × AllSettled parts.now mets self.new.each.items) }
+    {
+        for site in 0..self.each.len() {
+            self.complete(alloc, parts, site)?;
+        }
+        Ok(())
+    }
+
+    /// Takes all meets in but those that were taken before, and brings the tables that changed to the end.
+    pub fn bring(
+        &mut self,
+        alloc: Global,
+        parts: &Parts,
+        taken: usize,
+        mets: &[Met],
+    ) -> Result<(), NoMemory>
+        requires led { AreLedIn parts.now }
+        requires mets { All (IsInParts parts.now) mets.now }
+        requires low { taken ≤ length mets.now }
+        requires opens { (i : ℕ) (m : AMet) → slice_get mets.now i ≡ Some m → AreOpenFor parts.now m.object (m ∷ []) (take i mets.now ++ m ∷ []) }
+        requires taken { AreTaken parts.now (take taken mets.now) self.old }
+        ensures still { OnOk result (AreStill self.old self.new) }
+        ensures taken { OnOk result (AreTaken parts.now mets.now self.new) }
+        ensures settled { OnOk result (AllSettled parts.now mets.now self.new.each.items) }
+    {
+        self.take_all(parts, taken, mets)?;
+        self.complete_all(alloc, parts)?;
+        Ok(())
+    }
+
+    /// All sites were looked at.
+    pub fn rest(&mut self)
+        ensures each { self.new.each ≡ self.old.each }
+        ensures count { length self.new.changed.items ≡ length self.old.changed.items }
+        ensures still { (site : ℕ) → site < length self.old.changed.items → IsStill self.new site }
+    {
+        for site in 0..self.changed.len() {
+            self.changed[site] = false;
+        }
+    }
 }

@@ -11,7 +11,7 @@ ghost use Rattle.spds_rules.specs.Demand.{Asked};
 ghost use Rattle.spds_rules.specs.Systems.{Calls, Meets};
 ghost use Rattle.spds_solve.specs.Solved.{AreMeets, AreOfBases, IsSolved};
 
-use super::answers::{Answers, Held};
+use super::arrivals::{Arrival, Arrivals};
 use super::met::Met;
 use super::mets::Mets;
 use auto_table::NoMemory;
@@ -25,7 +25,7 @@ pub struct Solved {
     parts: Parts,
     tables: Vec<SiteTables>,
     mets: Mets,
-    answers: Answers,
+    arrivals: Arrivals,
     size: Size,
 }
 
@@ -38,11 +38,13 @@ impl Model for Solved {
     ghost use Rattle.spds_solve.specs.Solved.{AreOfBases};
 
     ghost view = { λ s. record {
-      cells = s.parts.cells.items;
+      field_cells = s.parts.field_cells.items;
+      call_cells = s.parts.call_cells.items;
       places = s.parts.places;
+      fields = map (λ t. t.fields) s.tables.items;
       calls = map (λ t. t.calls) s.tables.items;
       mets = s.mets;
-      held = s.answers;
+      arrivals = s.arrivals;
     } };
 
     ghost invariant = { λ s. AreOfBases s.parts.bases s.tables.items };
@@ -54,17 +56,17 @@ impl Solved {
         parts: Parts,
         tables: Vec<SiteTables>,
         mets: Mets,
-        answers: Answers,
+        arrivals: Arrivals,
         size: Size,
     ) -> Self
         requires { AreOfBases parts.bases tables.items }
-        ensures { result ≡ record { cells = parts.cells.items; places = parts.places; calls = map (λ t. t.calls) tables.items; mets = mets; held = answers } }
+        ensures { result ≡ record { field_cells = parts.field_cells.items; call_cells = parts.call_cells.items; places = parts.places; fields = map (λ t. t.fields) tables.items; calls = map (λ t. t.calls) tables.items; mets = mets; arrivals = arrivals } }
     {
         Solved {
             parts,
             tables,
             mets,
-            answers,
+            arrivals,
             size,
         }
     }
@@ -74,8 +76,14 @@ impl Solved {
         ensures { (p : LinkedProgram) (q : Asked) (d : DemandParts) (o : Site) (n : Node) → IsSolved p q d self.now
             → slice_get d.sites site ≡ Some o → slice_get d.nodes node ≡ Some n → IsTrue result ↔ IsAnswered p q n o }
     {
-        let cell = self.parts.cell_of(node);
-        self.answers.contains(Held { site, cell })
+        match self.tables.get(site as usize) {
+            Some(tables) => {
+                let cell = self.parts.call_cell(node);
+                let is_there = self.arrivals.contains(Arrival { site, cell });
+                is_there && tables.has_fields(self.parts.field_cell(node))
+            }
+            None => false,
+        }
     }
 
     /// Whether an object of the one site may be stored into one of the other by the store. Takes no memory.
@@ -110,7 +118,7 @@ impl Solved {
     {
         match self.tables.get(site as usize) {
             Some(tables) => {
-                let (a, b) = (self.parts.cell_of(a), self.parts.cell_of(b));
+                let (a, b) = (self.parts.call_cell(a), self.parts.call_cell(b));
                 let shared = share(alloc, &self.parts.bases, tables, a, tables, b)?;
                 Ok(shared)
             }

@@ -4,19 +4,25 @@ ghost use Rattle.demand_set.specs.Demands.{IsDemandOf};
 ghost use Rattle.jim_ast.specs.Lists.{Has, IsApart};
 ghost use Rattle.link_rules.specs.WellLinked.{IsWellLinked};
 ghost use Rattle.spds_rules.specs.Demand.{Asked};
-ghost use Rattle.spds_solve.specs.declared.answers.Held.{Held as AHeld};
+ghost use Rattle.spds_solve.specs.declared.arrivals.Arrival.{Arrival as AnArrival};
+ghost use Rattle.spds_solve.specs.Ends.{AreEnds};
+ghost use Rattle.spds_solve.specs.Looks.{AreLooked};
 ghost use Rattle.spds_solve.specs.Mets.{numbers_of};
-ghost use Rattle.spds_solve.specs.Searches.{AllBuilt, AllSettled, AreFoundBy, IsComplete, IsHeldOf};
+ghost use Rattle.spds_solve.specs.Searches.{AreFoundBy, AreTaken, IsComplete, IsStill};
 ghost use Rattle.spds_solve.specs.Solved.{IsSolved};
 ghost use Rattle.spds_solve.specs.declared.met.Met.{Met as AMet};
 ghost use Rattle.spds_tables.specs.declared.tables.SiteTables.{SiteTables as ATables};
 ghost use Rattle.spds_tables.specs.Parts.{AreLedIn, IsInParts};
+ghost use Rattle.spds_tables.specs.Tables.{ArrivesAt};
 
-use super::answers::{Answers, Held};
+use super::arrivals::{Arrival, Arrivals};
 use super::compose::{Ways, compose};
+use super::ends::Ends;
+use super::known::Known;
+use super::looks::look;
 use super::mets::Mets;
-use super::refresh::{all_tables, refresh};
-use super::scan::{View, try_stores};
+use super::refresh::Tables;
+use super::scan::View;
 use super::solved::Solved;
 use auto_table::NoMemory;
 use demand_set::Demand;
@@ -25,41 +31,50 @@ use link_sites::Site;
 use spds_tables::{Parts, SiteTables, Size, count_of};
 use std::alloc::Global;
 
+/// What stays as it is from turn to turn.
+#[derive(Clone, Copy)]
+struct Given<'a> {
+    linked: &'a Linked,
+    sites: &'a [Site],
+    parts: &'a Parts,
+    ends: &'a Ends,
+}
+
 /// Brings the tables to the end for all meets but those taken before, and looks for further meets; `false` says that there are none.
 fn turn(
     alloc: Global,
-    linked: &Linked,
-    sites: &[Site],
-    parts: &Parts,
-    tables: &mut Vec<SiteTables>,
+    given: &Given<'_>,
+    tables: &mut Tables,
+    known: &mut Known,
     mets: &mut Mets,
     taken: usize,
 ) -> Result<bool, NoMemory>
-    requires led { AreLedIn parts.now }
-    requires mets { All (IsInParts parts.now) (numbers_of mets.old) }
+    requires led { AreLedIn given.now.parts.now }
+    requires mets { All (IsInParts given.now.parts.now) (numbers_of mets.old) }
     requires taken { taken ≤ length mets.old }
-    requires sites { length sites.now ≡ length parts.now.starts.items }
-    requires found { AreFoundBy linked.now sites.now parts.now mets.old }
-    requires built { AllBuilt parts.now (take taken (numbers_of mets.old)) tables.old.items }
-    ensures settled { OnOk result (AllSettled parts.now (numbers_of mets.old) tables.new.items) }
-    ensures mets { OnOk result (All (IsInParts parts.now) (numbers_of mets.new)) }
+    requires sites { length given.now.sites.now ≡ length given.now.parts.now.starts.items }
+    requires ends { AreEnds given.now.parts.now given.now.ends.now }
+    requires found { AreFoundBy given.now.linked.now given.now.sites.now given.now.parts.now mets.old }
+    requires looked { AreLooked given.now.linked.now given.now.sites.now given.now.parts.now (take taken (numbers_of mets.old)) mets.old tables.old known.old }
+    ensures mets { OnOk result (All (IsInParts given.now.parts.now) (numbers_of mets.new)) }
     ensures apart { OnOk result (IsApart (numbers_of mets.new)) }
     ensures behind { OnOk result ((behind : List AMet) × (mets.new ≡ mets.old ++ behind)) }
-    ensures found { OnOk result (AreFoundBy linked.now sites.now parts.now mets.new) }
+    ensures found { OnOk result (AreFoundBy given.now.linked.now given.now.sites.now given.now.parts.now mets.new) }
+    ensures looked { OnOk result (AreLooked given.now.linked.now given.now.sites.now given.now.parts.now (numbers_of mets.old) mets.new tables.new known.new) }
     ensures more { result ≡ Ok true → length mets.old < length mets.new }
-    ensures done { result ≡ Ok false → IsComplete linked.now sites.now parts.now tables.new.items mets.new }
+    ensures done { result ≡ Ok false → IsComplete given.now.linked.now given.now.sites.now given.now.parts.now tables.new.each.items mets.new }
 {
-    let count = count_of(tables.len())?;
-    let stores = count_of(parts.stores.len())?;
     let before = mets.as_slice().len();
-    refresh(alloc, parts, tables, count, taken, mets.numbers())?;
+    tables.bring(alloc, given.parts, taken, mets.numbers())?;
     let view = View {
-        linked,
-        sites,
-        parts,
-        tables: tables.as_slice(),
+        linked: given.linked,
+        sites: given.sites,
+        parts: given.parts,
+        ends: given.ends,
+        tables: &*tables,
     };
-    try_stores(alloc, &view, count, stores, mets)?;
+    look(alloc, &view, known, mets)?;
+    tables.rest();
     Ok(mets.as_slice().len() > before)
 }
 
@@ -69,56 +84,68 @@ fn search(
     linked: &Linked,
     sites: &[Site],
     parts: &Parts,
-    tables: &mut Vec<SiteTables>,
+    tables: &mut Tables,
     mets: &mut Mets,
 ) -> Result<(), NoMemory>
     requires led { AreLedIn parts.now }
     requires sites { length sites.now ≡ length parts.now.starts.items }
-    requires built { AllBuilt parts.now [] tables.old.items }
+    requires taken { AreTaken parts.now [] tables.old }
+    requires changed { (site : ℕ) → IsStill tables.old site → ⊥ }
     requires none { mets.old ≡ [] }
-    ensures complete { OnOk result (IsComplete linked.now sites.now parts.now tables.new.items mets.new) }
+    ensures complete { OnOk result (IsComplete linked.now sites.now parts.now tables.new.each.items mets.new) }
     ensures apart { OnOk result (IsApart (numbers_of mets.new)) }
 {
-    let mut taken = 0;
+    let ends = Ends::of(alloc, parts)?;
+    let given = Given {
+        linked,
+        sites,
+        parts,
+        ends: &ends,
+    };
+    let mut known = Known::new(alloc);
     let mut ways = Ways::new(alloc);
+    let mut taken = 0;
     let mut goes_on = true;
     while goes_on {
         compose(alloc, &mut ways, mets)?;
         let before = mets.as_slice().len();
-        goes_on = turn(alloc, linked, sites, parts, tables, mets, taken)?;
+        goes_on = turn(alloc, &given, tables, &mut known, mets, taken)?;
         taken = before;
     }
     Ok(())
 }
 
-/// Puts in what a site answers.
-fn answer_site(
+/// Puts in the cells at which some call string of an object of the site is.
+fn add_arrivals(
     alloc: Global,
     tables: &SiteTables,
     site: u32,
-    answers: &mut Answers,
+    arrivals: &mut Arrivals,
 ) -> Result<(), NoMemory>
-    requires fields { tables.now.fields.settled ≡ true }
-    requires last { tables.now.fields.last ≡ 0 }
-    requires calls { tables.now.calls.settled ≡ true }
-    ensures { OnOk result ((h : AHeld) → Has answers.new h ↔ (Has answers.old h ⊎ ((h.site ≡ site) × IsHeldOf tables.now h.cell))) }
+    requires { tables.now.calls.settled ≡ true }
+    ensures { OnOk result ((a : AnArrival) → Has arrivals.new a ↔ (Has arrivals.old a ⊎ ((a.site ≡ site) × ArrivesAt tables.now.calls a.cell))) }
 {
-    let cells = tables.held(alloc)?;
-    for cell in &cells {
-        answers.add(Held { site, cell: *cell })?;
+    let arrived = tables.arrivals(alloc)?;
+    let cells = arrived.as_slice();
+    for cell in cells {
+        arrivals.add(Arrival { site, cell: *cell })?;
     }
     Ok(())
 }
 
-/// The answers of all sites.
-fn all_answers(alloc: Global, tables: &[SiteTables], answers: &mut Answers) -> Result<(), NoMemory>
-    requires fields { (t : ATables) → Has tables.now t → (t.fields.settled ≡ true) × (t.fields.last ≡ 0) × (t.calls.settled ≡ true) }
-    requires none { answers.old ≡ [] }
-    ensures { OnOk result ((h : AHeld) → Has answers.new h ↔ ((t : ATables) × (slice_get tables.now h.site ≡ Some t) × IsHeldOf t h.cell)) }
+/// Puts in those of all sites.
+fn all_arrivals(
+    alloc: Global,
+    tables: &[SiteTables],
+    arrivals: &mut Arrivals,
+) -> Result<(), NoMemory>
+    requires calls { (t : ATables) → Has tables.now t → t.calls.settled ≡ true }
+    requires none { arrivals.old ≡ [] }
+    ensures { OnOk result ((a : AnArrival) → Has arrivals.new a ↔ ((t : ATables) × (slice_get tables.now a.site ≡ Some t) × ArrivesAt t.calls a.cell)) }
 {
     let count = count_of(tables.len())?;
     for site in 0..count {
-        answer_site(alloc, &tables[site as usize], site, answers)?;
+        add_arrivals(alloc, &tables[site as usize], site, arrivals)?;
     }
     Ok(())
 }
@@ -141,7 +168,7 @@ pub fn solve(alloc: Global, linked: &Linked, demand: &Demand) -> Result<Solved, 
     ensures { IfOk result (λ solved. (q : Asked) → IsDemandOf linked.now q demand.now → IsSolved linked.now q demand.now solved) }
 {
     let parts = Parts::new(alloc, linked, demand)?;
-    let mut tables = all_tables(alloc, &parts, count_of(parts.starts.len())?)?;
+    let mut tables = Tables::new(alloc, &parts, count_of(parts.starts.len())?)?;
     let mut mets = Mets::new(alloc);
     search(
         alloc,
@@ -151,8 +178,9 @@ pub fn solve(alloc: Global, linked: &Linked, demand: &Demand) -> Result<Solved, 
         &mut tables,
         &mut mets,
     )?;
-    let mut answers = Answers::new(alloc);
-    all_answers(alloc, &tables, &mut answers)?;
+    let Tables { each: tables, .. } = tables;
+    let mut arrivals = Arrivals::new(alloc);
+    all_arrivals(alloc, &tables, &mut arrivals)?;
     let size = whole_size(&tables);
-    Ok(Solved::of(parts, tables, mets, answers, size))
+    Ok(Solved::of(parts, tables, mets, arrivals, size))
 }

@@ -21,11 +21,9 @@ use Rattle.post_star.specs.declared.bases.Start.{Start}
 use Rattle.post_star.specs.Derivations.{any_word, Derives, DerivesAny}
 use Rattle.post_star.specs.Readings.{any_base, any_entry, any_link, IsSaturated, ReadsAny, ReadsAnyAt}
 use Rattle.spds_tables.specs.Arrivals.{AreLive, GoesDown, IsLive, IsReadAt}
-use Rattle.post_star.specs.Jobs.{Job}
-use Rattle.spds_cells.specs.Gathered.{AreGathered}
-use Rattle.spds_tables.specs.Tables.{AreArrivals, ArrivesAt}
+use Rattle.spds_tables.specs.Gathered.{AreGathered}
 use Rattle.post_star.proofs.Loops.{EachBefore, each_all, each_more}
-use Rattle.spds_cells.proofs.Lists.{Has-take_more}
+use Rattle.spds_tables.proofs.Lists.{Has-take_more}
 use Rattle.spds_tables.proofs.Truth.{any_derives, of_bool, some_true, sum_true, true_sum}
 use Rattle.weight_laws.specs.declared.reach.Reach.{Reach}
 use Rattle.weight_laws.specs.Reach.{reach_domain}
@@ -230,11 +228,3 @@ parent_found t n m keys parents are i d b low e true_is =
 pub parents_none : (t : Cells Reach) (n m : ℕ) (keys : List Entry) (parents : List (Linked Reach)) → AreParents reach_domain t (Pushed n m) parents → (i : ℕ) → length parents ≤ i
     → EachBefore (λ (x : Linked Reach). Has keys x.parent → ⊥) parents i → GoesDown t keys (Pushed n m) → ⊥
 parents_none t n m keys parents are i all was = none_down t n m parents are keys (each_all (λ (x : Linked Reach). Has keys x.parent → ⊥) parents i all was)
-
--- a node that a call string is at came in
-pub held_more : (job : Job Reach) (keys old new : List ℕ) (node : ℕ) → AreArrivals job keys → ((n : ℕ) → Has new n ↔ (Has old n ⊎ ((n ≡ node) × Has keys n)))
-    → (n : ℕ) → Has new n ↔ (Has old n ⊎ ((n ≡ node) × ArrivesAt job n))
-held_more job keys old new node arrived now n = (
-  (λ h. elim ((now n).0 h) [ inl a ↦ inl a | inr b ↦ inr (b.0, (arrived n).0 b.1) ]),
-  (λ h. elim h [ inl a ↦ (now n).1 (inl a) | inr b ↦ (now n).1 (inr (b.0, (arrived n).1 b.1)) ]),
-)

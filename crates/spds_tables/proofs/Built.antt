@@ -18,7 +18,7 @@ use Rattle.spds_tables.specs.declared.parts.Parts.{Parts}
 use Rattle.spds_tables.specs.declared.tables.SiteTables.{SiteTables}
 use Rattle.spds_tables.specs.Parts.{AreLedIn, call_start, candidates, field_start, pushes_for, pushes_of, pushes_over, start_rows, starts_at}
 use Rattle.spds_tables.specs.Tables.{AreAdded, AreBuilt, AreBuiltWithin, AreOpenFor, AreSettled, IsAskedOf, IsCallJob, IsFieldJob, IsStoredTo, Opens, settled_of, settled_tables}
-use Rattle.spds_cells.proofs.Lists.{Has-left, Has-right, has-read}
+use Rattle.spds_tables.proofs.Lists.{Has-left, Has-right, has-read}
 use Rattle.spds_tables.proofs.Questions.{has_one}
 use Rattle.auto_table.proofs.Keys.{Has-list_any}
 use Rattle.spds_tables.specs.contracts.numbered.StartAtPartialEq.TheImpl.{eq-value}
@@ -38,17 +38,17 @@ has_row (r ∷ rows) (suc i) s has = Has-right r (flat_map (λ starts. starts) r
 module _ (parts : Parts) (site : ℕ) where
   -- a field system with no meets
   pub fields_filled : AreLedIn parts → (old new : Job Reach) → old ≡ blank_job parts.fields.value.rules parts.fields.value.steps parts.fields.value.last
-      → AreAdded [] (map field_start (starts_at parts site)) old new → IsFieldJob parts site [] new
+      → AreAdded [] (map (field_start parts.field_cells.items) (starts_at parts site)) old new → IsFieldJob parts site [] new
   fields_filled led old new e a = record {
     steps = a.steps ∙ ap (λ (j : Job Reach). j.steps) e ∙ led.field_steps;
     last = a.last ∙ ap (λ (j : Job Reach). j.last) e ∙ led.field_last;
     rules = a.rules_are ∙ append-nil old.rules ∙ ap (λ (j : Job Reach). j.rules) e ∙ sym (append-nil parts.fields.value.rules);
-    starts = a.starts_are ∙ ap (λ (j : Job Reach). j.starts ++ map field_start (starts_at parts site)) e;
+    starts = a.starts_are ∙ ap (λ (j : Job Reach). j.starts ++ map (field_start parts.field_cells.items) (starts_at parts site)) e;
   }
 
   -- a call system from the start nodes of the site
   pub calls_filled : AreLedIn parts → (old new : Job Reach) (begun : List StartAt) → old ≡ blank_job parts.calls.value.rules parts.calls.value.steps parts.calls.value.last
-      → new.steps ≡ old.steps → new.last ≡ old.last → new.rules ≡ old.rules → new.starts ≡ map call_start begun → IsCallJob parts begun new
+      → new.steps ≡ old.steps → new.last ≡ old.last → new.rules ≡ old.rules → new.starts ≡ map (call_start parts.call_cells.items) begun → IsCallJob parts begun new
   calls_filled led old new begun e steps last rules starts = record {
     steps = steps ∙ ap (λ (j : Job Reach). j.steps) e ∙ led.call_steps;
     last = last ∙ ap (λ (j : Job Reach). j.last) e ∙ led.call_last;
@@ -259,7 +259,7 @@ module _ (parts : Parts) (site : ℕ) where
 
   -- further start nodes
   pub begun_built : (mets all : List Met) (t : SiteTables) (job : Job Reach) (begun starts : List StartAt) → job.steps ≡ t.calls.steps → job.last ≡ t.calls.last
-      → job.rules ≡ t.calls.rules → job.starts ≡ map call_start begun → ((s : StartAt) → Has begun s ↔ (Has t.begun s ⊎ Has starts s))
+      → job.rules ≡ t.calls.rules → job.starts ≡ map (call_start parts.call_cells.items) begun → ((s : StartAt) → Has begun s ↔ (Has t.begun s ⊎ Has starts s))
       → (IsApart t.begun → IsApart begun) → AreBuiltWithin parts site mets all t → ((s : StartAt) → Has starts s → Opens parts site all s)
       → AreBuiltWithin parts site mets all (record t { calls = job; begun = begun; done = false })
   begun_built mets all t job begun starts steps last rules tied now apart b opens = record {

@@ -1,6 +1,5 @@
 -- The call system of start nodes derives exactly the call strings that edges give from them, as words of the numbers of their calls.
-use Rattle.std.proofs.Common.{◌≡◌, ◌↔◌, ℕ, List, [], ◌∷◌, Some, slice_get, refl, sym, ap, subst, inl, inr}
-use Rattle.std.proofs.lemmas.Bool.Decides.{eqb_tells}
+use Rattle.std.proofs.Common.{◌≡◌, ◌↔◌, ℕ, List, [], ◌∷◌, Some, slice_get, refl, ap, subst}
 use Rattle.jim_ast.specs.Lists.{Has}
 use Rattle.auto_table.specs.declared.rule.Rule.TheVariants as rule
 use Rattle.call_side.specs.Bases.{AreMarks}
@@ -13,8 +12,6 @@ use Rattle.link_sites.specs.Places.{before}
 use Rattle.post_star.specs.declared.bases.Start.{Start}
 use Rattle.post_star.specs.Derivations.{Derives, Leads}
 use Rattle.post_star.specs.Jobs.{Job}
-use Rattle.spds_cells.specs.Cells.{IsCarried}
-use Rattle.spds_cells.proofs.Carried.{cell_node, given_carried, has_cell, own_cell}
 use Rattle.spds_laws.proofs.Crossings.{call_leads}
 use Rattle.spds_laws.specs.Starts.{FromStarts}
 use Rattle.spds_rules.specs.declared.edge.EdgeKind.{EdgeKind}
@@ -22,7 +19,7 @@ use Rattle.spds_rules.specs.declared.edge.EdgeKind.TheVariants.{Call, Return}
 use Rattle.spds_rules.specs.declared.node.Node.{Node}
 use Rattle.spds_rules.specs.Demand.{Asked, Demanded, EdgeIn}
 use Rattle.spds_rules.specs.Systems.{IsString, KeepsCalls}
-use Rattle.spds_tables.specs.Names.{AreNames, HasCell, Names}
+use Rattle.spds_tables.specs.Names.{AreNames, Names}
 use Rattle.spds_tables.specs.Systems.{IsCallStart, IsCallSystem, IsCrossed, IsKept, Reaches}
 use Rattle.weight_laws.specs.declared.reach.Reach.{Reach}
 use Rattle.weight_laws.specs.Reach.{reach_domain}
@@ -68,8 +65,8 @@ module _ (p : LinkedProgram) (q : Asked) (names : Names) (are : AreNames p q nam
       let same : x ≡ y = ordered_once names.calls x y c are.calls.ordered a.0 b.0 in
       cc
 
-  module _ (Begins : Node → Type 0) (stays : (a b : Node) → Begins b → IsCarried p q a b → ⊥) (job : Job Reach) (is : IsCallSystem p q names Begins job) where
-    -- a word of a cell that is derived, and a string of the node from which all comes to it
+  module _ (Begins : Node → Type 0) (job : Job Reach) (is : IsCallSystem p q names Begins job) where
+    -- a word that is derived, and a string of the node with the number
     record IsIn (number : ℕ) (word : List ℕ) : Type 0 where
       pub node : Node
       pub string : List Place
@@ -77,19 +74,9 @@ module _ (p : LinkedProgram) (q : Asked) (names : Names) (are : AreNames p q nam
       pub marks : AreMarks names.calls word string
       pub given : FromStarts p q Begins node string
 
-    -- the nodes of a cell have the strings of the cell
-    in_node : (cell : ℕ) (n m : Node) (string : List Place) → HasCell names n cell → slice_get names.nodes cell ≡ Some m → FromStarts p q Begins m string
-        → FromStarts p q Begins n string
-    in_node cell n m string at here given =
-        let from = cell_node p q names.nodes names.cells are.cells at in
-        let same : m ≡ from.0 = (let there = from.1 in cc) in
-        (given_carried p q Begins stays from.2).0 (subst (λ (x : Node). FromStarts p q Begins x string) same given)
-
-    of_node : (cell : ℕ) (n : Node) (word : List ℕ) (string : List Place) → HasCell names n cell → AreMarks names.calls word string → FromStarts p q Begins n string
-        → IsIn cell word
-    of_node cell n word string at marks given =
-        let from = cell_node p q names.nodes names.cells are.cells at in
-        record { node = from.0; string = string; there = from.1; marks = marks; given = (given_carried p q Begins stays from.2).1 given }
+    in_node : (number : ℕ) (n m : Node) (string : List Place) → slice_get names.nodes number ≡ Some n → slice_get names.nodes number ≡ Some m
+        → FromStarts p q Begins m string → FromStarts p q Begins n string
+    in_node number n m string there here given = let same : m ≡ n = cc in subst (λ (x : Node). FromStarts p q Begins x string) same given
 
     start_in : (s : Start Reach) (word : List ℕ) → IsCallStart names Begins s → Leads job.steps s.base word job.last → IsIn s.node word
     start_in s word st leads =
@@ -103,22 +90,36 @@ module _ (p : LinkedProgram) (q : Asked) (names : Names) (are : AreNames p q nam
         }
 
     keep_in : (from to : ℕ) (word : List ℕ) → IsKept p q names KeepsCalls from to → IsIn from word → IsIn to word
-    keep_in from to word k h =
-        of_node to k.target word h.string k.to_is h.marks (FromStarts.keep k.edge k.keeps (in_node from k.source h.node h.string k.from_is h.there h.given))
+    keep_in from to word k h = record {
+      node = k.target;
+      string = h.string;
+      there = k.to_is;
+      marks = h.marks;
+      given = FromStarts.keep k.edge k.keeps (in_node from k.source h.node h.string k.from_is h.there h.given);
+    }
 
     push_in : (from mark to : ℕ) (word : List ℕ) → IsCrossed p q names Call from mark to → IsIn from word → IsIn to (mark ∷ word)
-    push_in from mark to word k h =
-        of_node to k.target (mark ∷ word) (k.call ∷ h.string) k.to_is (k.mark_is, h.marks)
-        (FromStarts.push k.edge (in_node from k.source h.node h.string k.from_is h.there h.given))
+    push_in from mark to word k h = record {
+      node = k.target;
+      string = k.call ∷ h.string;
+      there = k.to_is;
+      marks = (k.mark_is, h.marks);
+      given = FromStarts.push k.edge (in_node from k.source h.node h.string k.from_is h.there h.given);
+    }
 
     pop_from : (from mark to : ℕ) (word : List ℕ) (node : Node) (string : List Place) → IsCrossed p q names Return from mark to → slice_get names.nodes from ≡ Some node
         → AreMarks names.calls (mark ∷ word) string → FromStarts p q Begins node string → IsIn to word
     pop_from from mark to word node [] k there marks given = absurd marks
     pop_from from mark to word node (call ∷ string) k there marks given =
         let over : call ≡ k.call = cc (marks.0, k.mark_is) in
-        of_node to k.target word string k.to_is marks.1
-        (FromStarts.pop k.edge (subst (λ (c : Place). FromStarts p q Begins k.source (c ∷ string)) over
-        (in_node from k.source node (call ∷ string) k.from_is there given)))
+        let source = in_node from k.source node (call ∷ string) k.from_is there given in
+        record {
+          node = k.target;
+          string = string;
+          there = k.to_is;
+          marks = marks.1;
+          given = FromStarts.pop k.edge (subst (λ (c : Place). FromStarts p q Begins k.source (c ∷ string)) over source);
+        }
 
     -- what is derived is given
     derived_in : {number : ℕ} {word : List ℕ} {x : Reach} → Derives reach_domain job.rules job.starts job.steps job.last number word x → IsIn number word
@@ -130,22 +131,14 @@ module _ (p : LinkedProgram) (q : Asked) (names : Names) (are : AreNames p q nam
         let h = derived_in d in
         pop_from from mark to word h.node h.string ((is.rules (rule.Pop from mark to weight)).0 has).1 h.there h.marks h.given
 
-    -- a word of the string is derived at the cell of the node
+    -- a word of the string is derived at the node
     record IsReached (n : Node) (string : List Place) : Type 0 where
       pub word : List ℕ
       pub marks : AreMarks names.calls word string
-      pub reached : (cell : ℕ) → HasCell names n cell → Reaches job cell word
+      pub reached : (number : ℕ) → slice_get names.nodes number ≡ Some n → Reaches job number word
 
-    source_cell : (a b : Node) (kind : EdgeKind) → EdgeIn p q a kind b → (cell : ℕ) × HasCell names a cell
-    source_cell a b kind e =
-        let has = are.nodes.all a (Demanded.source e.0 e.1) in
-        has_cell p q names.nodes names.cells are.cells a has.0 has.1
-
-    -- the cell of a start node has its own number
-    start_number : (n : Node) (cell : ℕ) → Begins n → HasCell names n cell → slice_get names.nodes cell ≡ Some n
-    start_number n cell st at =
-        let same = own_cell p q names.nodes names.cells are.cells are.nodes.apart at.number cell at.node_is (λ c. stays c n st) at in
-        subst (λ (k : ℕ). slice_get names.nodes k ≡ Some n) (sym same) at.node_is
+    source_there : (a b : Node) (kind : EdgeKind) → EdgeIn p q a kind b → Has names.nodes a
+    source_there a b kind e = are.nodes.all a (Demanded.source e.0 e.1)
 
     start_reached : (n : Node) (string : List Place) → Begins n → IsString p n.place.method string → IsReached n string
     start_reached n string st is_string =
@@ -153,10 +146,9 @@ module _ (p : LinkedProgram) (q : Asked) (names : Names) (are : AreNames p q nam
         record {
           word = spelt.0;
           marks = spelt.1;
-          reached = λ cell at.
-              let s : Start Reach = record { base = n.place.method; node = cell; weight = reach_domain.one } in
-              let has : Has job.starts s =
-              (is.starts s).1 (record { node = n; start = st; base_is = refl; node_is = start_number n cell st at; weight_is = refl }) in
+          reached = λ number there.
+              let s : Start Reach = record { base = n.place.method; node = number; weight = reach_domain.one } in
+              let has : Has job.starts s = (is.starts s).1 (record { node = n; start = st; base_is = refl; node_is = there; weight_is = refl }) in
               let leads : Leads job.steps n.place.method spelt.0 job.last =
               (is.steps job.last n.place.method spelt.0 is.last).1 (record { string = string; is_string = is_string; marks = spelt.1 }) in
               Derives.starts_at has leads;
@@ -164,48 +156,44 @@ module _ (p : LinkedProgram) (q : Asked) (names : Names) (are : AreNames p q nam
 
     keep_reached : (a b : Node) (kind : EdgeKind) (string : List Place) → EdgeIn p q a kind b → KeepsCalls kind → IsReached a string → IsReached b string
     keep_reached a b kind string e k h =
-        let from = source_cell a b kind e in
+        let from = source_there a b kind e in
         record {
           word = h.word;
           marks = h.marks;
-          reached = λ cell at.
-              elim (eqb_tells from.0 cell) [
-                | inl same ↦ subst (λ (c : ℕ). Reaches job c h.word) same.1 (h.reached from.0 from.1)
-                | inr other ↦
-                    let has : Has job.rules (rule.Flow from.0 cell reach_domain.one) =
-                    (is.rules (rule.Flow from.0 cell reach_domain.one)).1
-                    (refl, record { source = a; target = b; kind = kind; edge = e; keeps = k; from_is = from.1; to_is = at; joins = λ _. other.1 }) in
-                    Derives.flows has (h.reached from.0 from.1)
-              ];
+          reached = λ number there.
+              let has : Has job.rules (rule.Flow from.0 number reach_domain.one) =
+              (is.rules (rule.Flow from.0 number reach_domain.one)).1
+              (refl, record { source = a; target = b; kind = kind; edge = e; keeps = k; from_is = from.1; to_is = there }) in
+              Derives.flows has (h.reached from.0 from.1);
         }
 
     push_reached : (a b : Node) (call : Place) (string : List Place) → EdgeIn p q a (Call call) b → IsReached a string → IsReached b (call ∷ string)
     push_reached a b call string e h =
-        let from = source_cell a b (Call call) e in
+        let from = source_there a b (Call call) e in
         let over = call_leads p a b call e.0 in
         let mark = target_numbered call b.place.method over.is_before over.target in
         record {
           word = mark.0 ∷ h.word;
           marks = (mark.1, h.marks);
-          reached = λ cell at.
-              let has : Has job.rules (rule.Push from.0 cell mark.0 reach_domain.one) =
-              (is.rules (rule.Push from.0 cell mark.0 reach_domain.one)).1
-              (refl, record { source = a; target = b; call = call; edge = e; mark_is = mark.1; from_is = from.1; to_is = at }) in
+          reached = λ number there.
+              let has : Has job.rules (rule.Push from.0 number mark.0 reach_domain.one) =
+              (is.rules (rule.Push from.0 number mark.0 reach_domain.one)).1
+              (refl, record { source = a; target = b; call = call; edge = e; mark_is = mark.1; from_is = from.1; to_is = there }) in
               Derives.pushes has (h.reached from.0 from.1);
         }
 
     pop_reached : (a b : Node) (call : Place) (string : List Place) (word : List ℕ) → EdgeIn p q a (Return call) b → AreMarks names.calls word (call ∷ string)
-        → ((cell : ℕ) → HasCell names a cell → Reaches job cell word) → IsReached b string
+        → ((number : ℕ) → slice_get names.nodes number ≡ Some a → Reaches job number word) → IsReached b string
     pop_reached a b call string [] e marks reached = absurd marks
     pop_reached a b call string (mark ∷ word) e marks reached =
-        let from = source_cell a b (Return call) e in
+        let from = source_there a b (Return call) e in
         record {
           word = word;
           marks = marks.1;
-          reached = λ cell at.
-              let has : Has job.rules (rule.Pop from.0 mark cell reach_domain.one) =
-              (is.rules (rule.Pop from.0 mark cell reach_domain.one)).1
-              (refl, record { source = a; target = b; call = call; edge = e; mark_is = marks.0; from_is = from.1; to_is = at }) in
+          reached = λ number there.
+              let has : Has job.rules (rule.Pop from.0 mark number reach_domain.one) =
+              (is.rules (rule.Pop from.0 mark number reach_domain.one)).1
+              (refl, record { source = a; target = b; call = call; edge = e; mark_is = marks.0; from_is = from.1; to_is = there }) in
               Derives.pops has (reached from.0 from.1);
         }
 
@@ -221,18 +209,18 @@ module _ (p : LinkedProgram) (q : Asked) (names : Names) (are : AreNames p q nam
     pub given_marks : (n : Node) (string : List Place) → FromStarts p q Begins n string → (word : List ℕ) × AreMarks names.calls word string
     given_marks n string c = let h = given_reached c in (h.word, h.marks)
 
-    -- the system derives the marks of a string at the cell of a node exactly where edges give it at the node from the start nodes
-    pub calls_exact : (cell : ℕ) (n : Node) (word : List ℕ) (string : List Place) → HasCell names n cell → AreMarks names.calls word string
-        → Reaches job cell word ↔ FromStarts p q Begins n string
-    calls_exact cell n word string at marks = (
+    -- the system derives the marks of a string at a node exactly where edges give it there from the start nodes
+    pub calls_exact : (number : ℕ) (n : Node) (word : List ℕ) (string : List Place) → slice_get names.nodes number ≡ Some n → AreMarks names.calls word string
+        → Reaches job number word ↔ FromStarts p q Begins n string
+    calls_exact number n word string there marks = (
       (λ d.
           let h = derived_in d in
           let spelt : h.string ≡ string = same_string word h.string string h.marks marks in
-          subst (FromStarts p q Begins n) spelt (in_node cell n h.node h.string at h.there h.given)),
+          subst (FromStarts p q Begins n) spelt (in_node number n h.node h.string there h.there h.given)),
       (λ c.
           let h = given_reached c in
           let spelt : h.word ≡ word = same_word string h.word word h.marks marks in
-          subst (Reaches job cell) spelt (h.reached cell at)),
+          subst (Reaches job number) spelt (h.reached number there)),
     )
 
     -- it derives only words of strings
@@ -240,22 +228,9 @@ module _ (p : LinkedProgram) (q : Asked) (names : Names) (are : AreNames p q nam
     derived_marks number word d = let h = derived_in d in (h.string, h.marks)
 
     -- some word is derived exactly where some string is given
-    pub calls_some : (cell : ℕ) (n : Node) → HasCell names n cell
-        → ((word : List ℕ) × Reaches job cell word) ↔ ((string : List Place) × FromStarts p q Begins n string)
-    calls_some cell n at = (
-      (λ w. let s = derived_marks cell w.0 w.1 in (s.0, (calls_exact cell n w.0 s.0 at s.1).0 w.1)),
-      (λ s. let h = given_reached s.1 in (h.word, h.reached cell at)),
+    pub calls_some : (number : ℕ) (n : Node) → slice_get names.nodes number ≡ Some n
+        → ((word : List ℕ) × Reaches job number word) ↔ ((string : List Place) × FromStarts p q Begins n string)
+    calls_some number n there = (
+      (λ w. let s = derived_marks number w.0 w.1 in (s.0, (calls_exact number n w.0 s.0 there s.1).0 w.1)),
+      (λ s. let h = given_reached s.1 in (h.word, h.reached number there)),
     )
-
-  -- two systems derive a common word exactly where a common string is given
-  pub calls_common : (First Second : Node → Type 0) → ((a b : Node) → First b → IsCarried p q a b → ⊥) → ((a b : Node) → Second b → IsCarried p q a b → ⊥)
-      → (one two : Job Reach) → IsCallSystem p q names First one → IsCallSystem p q names Second two → (a b : ℕ) (n m : Node) → HasCell names n a → HasCell names m b
-      → ((word : List ℕ) × Reaches one a word × Reaches two b word) ↔ ((string : List Place) × FromStarts p q First n string × FromStarts p q Second m string)
-  calls_common First Second stays stays2 one two is is2 a b n m at at2 = (
-    (λ w.
-        let s = derived_marks First stays one is a w.0 w.1 in
-        (s.0, (calls_exact First stays one is a n w.0 s.0 at s.1).0 w.1, (calls_exact Second stays2 two is2 b m w.0 s.0 at2 s.1).0 w.2)),
-    (λ s.
-        let h = given_reached First stays one is s.1 in
-        (h.word, h.reached a at, (calls_exact Second stays2 two is2 b m h.word s.0 at2 h.marks).1 s.2)),
-  )

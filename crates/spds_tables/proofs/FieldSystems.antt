@@ -1,6 +1,5 @@
 -- The field system of a site derives exactly what is in it.
-use Rattle.std.proofs.Common.{◌≡◌, ◌↔◌, ℕ, List, [], ◌∷◌, Some, slice_get, refl, sym, subst, inl, inr}
-use Rattle.std.proofs.lemmas.Bool.Decides.{eqb_tells}
+use Rattle.std.proofs.Common.{◌≡◌, ◌↔◌, ℕ, List, [], ◌∷◌, Some, slice_get, refl, sym, subst}
 use Rattle.jim_ast.specs.Lists.{Has}
 use Rattle.auto_table.specs.declared.rule.Rule.TheVariants as rule
 use Rattle.link_rules.specs.Linked.{LinkedProgram}
@@ -15,9 +14,8 @@ use Rattle.spds_rules.specs.declared.node.Node.{Node}
 use Rattle.spds_rules.specs.declared.store.StoreAt.{StoreAt}
 use Rattle.spds_rules.specs.Demand.{Asked, Demanded, EdgeIn, StartIn}
 use Rattle.spds_rules.specs.Systems.{InFields, KeepsFields}
-use Rattle.spds_cells.proofs.Carried.{cell_node, fields_carried, has_cell, own_cell, start_stays}
 use Rattle.spds_laws.proofs.Within.{fields_within}
-use Rattle.spds_tables.specs.Names.{AreNames, HasCell, Names}
+use Rattle.spds_tables.specs.Names.{AreNames, Names}
 use Rattle.spds_tables.specs.Systems.{IsFieldStart, IsFieldSystem, IsKept, IsLoaded, IsStored, Reaches}
 use Rattle.weight_laws.specs.declared.reach.Reach.{Reach}
 use Rattle.weight_laws.specs.Reach.{reach_domain}
@@ -29,20 +27,12 @@ leads_none b (mark ∷ word) last h = cc h.1.1
 
 module _ (p : LinkedProgram) (q : Asked) (names : Names) (are : AreNames p q names) (Meet : Site → Site → StoreAt → Type 0) (o : Site)
     (job : Job Reach) (is : IsFieldSystem p q names Meet o job) where
-  -- a word of a cell that is derived: one of the node from which all comes to it
+  -- a word that is derived is one of the node with the number
   abbrev IsIn : ℕ → List ℕ → Type 0
   IsIn number word = (n : Node) × (slice_get names.nodes number ≡ Some n) × InFields p q Meet o n word
 
-  -- the nodes of a cell have the words of the cell
-  in_node : (cell : ℕ) (n : Node) (word : List ℕ) → HasCell names n cell → IsIn cell word → InFields p q Meet o n word
-  in_node cell n word at h =
-      let m = cell_node p q names.nodes names.cells are.cells at in
-      let same : h.0 ≡ m.0 = (let there = m.1 in let here = h.1 in cc) in
-      (fields_carried p q Meet o m.2).0 (subst (λ (x : Node). InFields p q Meet o x word) same h.2)
-
-  of_node : (cell : ℕ) (n : Node) (word : List ℕ) → HasCell names n cell → InFields p q Meet o n word → IsIn cell word
-  of_node cell n word at h =
-      let m = cell_node p q names.nodes names.cells are.cells at in (m.0, m.1, (fields_carried p q Meet o m.2).1 h)
+  in_node : (number : ℕ) (n : Node) (word : List ℕ) → slice_get names.nodes number ≡ Some n → IsIn number word → InFields p q Meet o n word
+  in_node number n word there h = let same : h.0 ≡ n = (let here = h.1 in cc) in subst (λ (x : Node). InFields p q Meet o x word) same h.2
 
   start_in : (s : Start Reach) (word : List ℕ) → IsFieldStart p q names o s → Leads job.steps s.base word job.last → IsIn s.node word
   start_in s word st leads =
@@ -50,10 +40,10 @@ module _ (p : LinkedProgram) (q : Asked) (names : Names) (are : AreNames p q nam
       (st.node, st.node_is, subst (InFields p q Meet o st.node) (sym none) (InFields.start st.start))
 
   keep_in : (from to : ℕ) (word : List ℕ) → IsKept p q names KeepsFields from to → IsIn from word → IsIn to word
-  keep_in from to word k h = of_node to k.target word k.to_is (InFields.keep k.edge k.keeps (in_node from k.source word k.from_is h))
+  keep_in from to word k h = (k.target, k.to_is, InFields.keep k.edge k.keeps (in_node from k.source word k.from_is h))
 
   load_in : (from field to : ℕ) (word : List ℕ) → IsLoaded p q names from field to → IsIn from (field ∷ word) → IsIn to word
-  load_in from field to word k h = of_node to k.target word k.to_is (InFields.load k.edge (in_node from k.source (field ∷ word) k.from_is h))
+  load_in from field to word k h = (k.target, k.to_is, InFields.load k.edge (in_node from k.source (field ∷ word) k.from_is h))
 
   store_in : (from field to : ℕ) (word : List ℕ) → IsStored p q names Meet o from field to → IsIn from word → IsIn to (field ∷ word)
   store_in from field to word k h = (
@@ -71,58 +61,41 @@ module _ (p : LinkedProgram) (q : Asked) (names : Names) (are : AreNames p q nam
   derived_in (Derives.pops {from} {mark} {to} {word} {x} {weight} has d) =
       load_in from mark to word ((is.rules (rule.Pop from mark to weight)).0 has).1 (derived_in d)
 
-  -- it derives the word at the cell of the node
+  -- it derives the word at the node
   abbrev IsReached : Node → List ℕ → Type 0
-  IsReached n word = (cell : ℕ) → HasCell names n cell → Reaches job cell word
+  IsReached n word = (number : ℕ) → slice_get names.nodes number ≡ Some n → Reaches job number word
 
-  -- a node that is demanded has a cell
-  demanded_cell : (n : Node) → Has names.nodes n → (cell : ℕ) × HasCell names n cell
-  demanded_cell n has = has_cell p q names.nodes names.cells are.cells n has.0 has.1
-
-  source_cell : (a b : Node) (kind : EdgeKind) → EdgeIn p q a kind b → (cell : ℕ) × HasCell names a cell
-  source_cell a b kind e = demanded_cell a (are.nodes.all a (Demanded.source e.0 e.1))
-
-  -- the cell of a start node has its own number
-  start_number : {site : Site} (n : Node) (cell : ℕ) → StartIn p q site n → HasCell names n cell → slice_get names.nodes cell ≡ Some n
-  start_number n cell st at =
-      let same = own_cell p q names.nodes names.cells are.cells are.nodes.apart at.number cell at.node_is (λ c. start_stays p q st) at in
-      subst (λ (k : ℕ). slice_get names.nodes k ≡ Some n) (sym same) at.node_is
+  source_there : (a b : Node) (kind : EdgeKind) → EdgeIn p q a kind b → Has names.nodes a
+  source_there a b kind e = are.nodes.all a (Demanded.source e.0 e.1)
 
   start_reached : (n : Node) → StartIn p q o n → IsReached n []
-  start_reached n st cell at =
-      let s : Start Reach = record { base = 0; node = cell; weight = reach_domain.one } in
-      let has : Has job.starts s =
-      (is.starts s).1 (record { node = n; start = st; base_is = refl; node_is = start_number n cell st at; weight_is = refl }) in
+  start_reached n st number there =
+      let s : Start Reach = record { base = 0; node = number; weight = reach_domain.one } in
+      let has : Has job.starts s = (is.starts s).1 (record { node = n; start = st; base_is = refl; node_is = there; weight_is = refl }) in
       let leads : Leads job.steps 0 [] job.last = sym is.last in
       Derives.starts_at has leads
 
   keep_reached : (a b : Node) (kind : EdgeKind) (word : List ℕ) → EdgeIn p q a kind b → KeepsFields kind → IsReached a word → IsReached b word
-  keep_reached a b kind word e k h cell at =
-      let from = source_cell a b kind e in
-      elim (eqb_tells from.0 cell) [
-        | inl same ↦ subst (λ (c : ℕ). Reaches job c word) same.1 (h from.0 from.1)
-        | inr other ↦
-            let has : Has job.rules (rule.Flow from.0 cell reach_domain.one) =
-            (is.rules (rule.Flow from.0 cell reach_domain.one)).1
-            (refl, record { source = a; target = b; kind = kind; edge = e; keeps = k; from_is = from.1; to_is = at; joins = λ _. other.1 }) in
-            Derives.flows has (h from.0 from.1)
-      ]
+  keep_reached a b kind word e k h number there =
+      let from = source_there a b kind e in
+      let has : Has job.rules (rule.Flow from.0 number reach_domain.one) =
+      (is.rules (rule.Flow from.0 number reach_domain.one)).1
+      (refl, record { source = a; target = b; kind = kind; edge = e; keeps = k; from_is = from.1; to_is = there }) in
+      Derives.flows has (h from.0 from.1)
 
   load_reached : (a b : Node) (field : ℕ) (word : List ℕ) → EdgeIn p q a (Load field) b → IsReached a (field ∷ word) → IsReached b word
-  load_reached a b field word e h cell at =
-      let from = source_cell a b (Load field) e in
-      let has : Has job.rules (rule.Pop from.0 field cell reach_domain.one) =
-      (is.rules (rule.Pop from.0 field cell reach_domain.one)).1
-      (refl, record { source = a; target = b; edge = e; from_is = from.1; to_is = at }) in
+  load_reached a b field word e h number there =
+      let from = source_there a b (Load field) e in
+      let has : Has job.rules (rule.Pop from.0 field number reach_domain.one) =
+      (is.rules (rule.Pop from.0 field number reach_domain.one)).1 (refl, record { source = a; target = b; edge = e; from_is = from.1; to_is = there }) in
       Derives.pops has (h from.0 from.1)
 
   store_reached : (base : Site) (s : StoreAt) (n : Node) (word : List ℕ) → Meet o base s → StartIn p q base n → Has names.nodes s.arg → IsReached s.arg word
       → IsReached n (s.field ∷ word)
-  store_reached base s n word met st arg h cell at =
-      let from = demanded_cell s.arg arg in
-      let has : Has job.rules (rule.Push from.0 cell s.field reach_domain.one) =
-      (is.rules (rule.Push from.0 cell s.field reach_domain.one)).1
-      (refl, record { base = base; store = s; target = n; met = met; start = st; field_is = refl; from_is = from.1; to_is = start_number n cell st at }) in
+  store_reached base s n word met st from h number there =
+      let has : Has job.rules (rule.Push from.0 number s.field reach_domain.one) =
+      (is.rules (rule.Push from.0 number s.field reach_domain.one)).1
+      (refl, record { base = base; store = s; target = n; met = met; start = st; field_is = refl; from_is = from.1; to_is = there }) in
       Derives.pushes has (h from.0 from.1)
 
   -- what is in the system is derived
@@ -133,6 +106,6 @@ module _ (p : LinkedProgram) (q : Asked) (names : Names) (are : AreNames p q nam
   in_reached (InFields.store {base} {s} {n} {word} met st c) =
       store_reached base s n word met st (are.nodes.all s.arg (fields_within p q Meet o c).1) (in_reached c)
 
-  -- the system derives the word at the cell of a node exactly where it is in the field system at the node
-  pub fields_exact : (cell : ℕ) (n : Node) (word : List ℕ) → HasCell names n cell → Reaches job cell word ↔ InFields p q Meet o n word
-  fields_exact cell n word at = ((λ d. in_node cell n word at (derived_in d)), (λ c. in_reached c cell at))
+  -- the system derives the word at a node exactly where it is in the field system at the node
+  pub fields_exact : (number : ℕ) (n : Node) (word : List ℕ) → slice_get names.nodes number ≡ Some n → Reaches job number word ↔ InFields p q Meet o n word
+  fields_exact number n word there = ((λ d. in_node number n word there (derived_in d)), (λ c. in_reached c number there))

@@ -1,6 +1,9 @@
+pub mod Lists
+pub mod Gathered
 pub mod Truth
 pub mod FieldSystems
 pub mod CallSystems
+pub mod ByCells
 pub mod SameStart
 pub mod Built
 pub mod Questions

@@ -1,5 +1,5 @@
 -- The parts of a demand, as they are made.
-use Rattle.std.proofs.Common.{◌≡◌, ◌≢◌, ℕ, ◌<◌, ◌↔◌, List, [], ◌∷◌, ◌++◌, length, map, get_or, zero, suc, Some, slice_get, Vec, Global, refl, sym, ap, ◌∙◌, subst, inl, inr, arith}
+use Rattle.std.proofs.Common.{◌≡◌, ℕ, ◌<◌, ◌↔◌, List, [], ◌∷◌, ◌++◌, length, map, get_or, zero, suc, Some, slice_get, Vec, Global, refl, sym, ap, ◌∙◌, subst, inl, inr, arith}
 use Rattle.std.specs.List.{flat_map}
 use Rattle.std.proofs.lemmas.Option.{get_or_from_slice_get}
 use Rattle.auto_table.specs.declared.rule.Rule.{Rule}
@@ -11,33 +11,33 @@ use Rattle.demand_set.specs.Demands.{DemandParts, IsDemandOf, StartsAt}
 use Rattle.jim_ast.specs.Lists.{Has}
 use Rattle.jim_ast.proofs.Places.{slice_get-below, slice_get-there}
 use Rattle.link_indexes.specs.Rows.{row}
-use Rattle.link_laws.proofs.Lists.{at_map, each_left, in_flat_map, map_at}
+use Rattle.link_laws.proofs.Lists.{at_map, each_left, each_right, in_flat_map, map_at}
 use Rattle.link_rules.specs.Linked.{LinkedProgram}
 use Rattle.link_rules.specs.Lists.{Each}
 use Rattle.link_sites.specs.declared.place.Place.{Place}
 use Rattle.link_sites.specs.declared.site.Site.{Site}
 use Rattle.post_star.specs.Derivations.{Leads}
+use Rattle.post_star.specs.Works.{weight_of}
+use Rattle.rule_cells.specs.CellRules.{HaveCells}
+use Rattle.spds_rules.specs.declared.edge.Edge.{Edge}
 use Rattle.spds_rules.specs.declared.edge.EdgeKind.{EdgeKind}
 use Rattle.spds_rules.specs.declared.edge.EdgeKind.TheVariants as edge
-use Rattle.spds_rules.specs.declared.edge.EdgeKind.TheVariants.{Flow}
 use Rattle.spds_rules.specs.declared.node.Node.{Node}
 use Rattle.spds_rules.specs.declared.store.StoreAt.{StoreAt}
 use Rattle.demand_walk.specs.declared.numbered.EdgeAt.{EdgeAt}
-use Rattle.spds_cells.specs.Cells.{AreCells}
-use Rattle.spds_cells.specs.Edges.{AreBetween}
-use Rattle.spds_cells.specs.Gathered.{AreGathered}
-use Rattle.spds_cells.proofs.Carried.{has_cell, jump_stays, own_cell}
-use Rattle.spds_cells.proofs.Lists.{Has-append}
-use Rattle.spds_rules.specs.Demand.{AreAll, Asked, EdgeIn}
+use Rattle.demand_walk.specs.Numbers.{AreEdgesAt, IsEdgeAt}
+use Rattle.spds_tables.specs.Gathered.{AreGathered}
+use Rattle.spds_tables.proofs.Lists.{Has-append}
+use Rattle.spds_rules.specs.Demand.{AreAll, Asked, Demanded, EdgeIn}
 use Rattle.spds_rules.specs.Nodes.{IsNode, site_of}
 use Rattle.spds_rules.specs.Systems.{KeepsCalls, KeepsFields}
 use Rattle.spds_tables.specs.declared.numbered.Jump.{Jump}
 use Rattle.spds_tables.specs.declared.numbered.StartAt.{StartAt}
-use Rattle.spds_tables.specs.declared.numbered.Stored.{Stored}
+use Rattle.spds_tables.specs.declared.numbered.StoreNodes.{StoreNodes}
 use Rattle.spds_tables.specs.declared.parts.Parts.{Parts}
 use Rattle.spds_tables.specs.Making.{IsCallRuleBy, IsCallRuleOf, IsJumpAt, IsStartAt, IsStartHere, field_rule_by, field_rule_of}
-use Rattle.spds_tables.specs.Names.{AreNames, HasCell, Names}
-use Rattle.spds_tables.specs.Parts.{AreLedIn, no_store, start_rows, starts_at}
+use Rattle.spds_tables.specs.Names.{AreNames, Names}
+use Rattle.spds_tables.specs.Parts.{AreLedIn, no_store, open_nodes, start_nodes, start_rows, starts_at}
 use Rattle.spds_tables.specs.PartsOf.{AreParts, IsEdgeRule, IsJumpOf, IsStartOf, IsStoreOf, StandsFor, names_of}
 use Rattle.spds_tables.specs.Systems.{IsCallRule}
 use Rattle.spds_tables.proofs.Ascending.{ascending_apart}
@@ -72,59 +72,93 @@ gathered_here p nodes o numbers starts all gathered s = (
       (gathered s).1 (s.node, has, record { node = h.node; stands = h.stands; number_is = refl; is_node = h.is_node })),
 )
 
+-- the rules of edges weigh one
+pub field_ones : (edges : List EdgeAt) (r : Rule Reach) → Has (map field_rule_of edges) r → weight_of r ≡ reach_domain.one
+field_ones edges r has = let at = at_map field_rule_of edges has.0 r has.1 in ap weight_of at.2 ∙ by at.0.kind at.0.from at.0.to
+  where
+    by : (kind : EdgeKind) (from to : ℕ) → weight_of (field_rule_by kind from to) ≡ reach_domain.one
+    by edge.Flow from to = refl
+    by (edge.Load field) from to = refl
+    by (edge.Call call) from to = refl
+    by (edge.Return call) from to = refl
+    by edge.Jump from to = refl
+
+pub call_ones : (calls : List Place) (edges : List EdgeAt) (rules : List (Rule Reach)) → AreGathered (IsCallRuleOf calls) edges rules → (r : Rule Reach) → Has rules r
+    → weight_of r ≡ reach_domain.one
+call_ones calls edges rules gathered r has = let g = (gathered r).0 has in by g.0.kind g.0.from g.0.to g.2
+  where
+    by : (kind : EdgeKind) (from to : ℕ) → IsCallRuleBy calls kind from to r → weight_of r ≡ reach_domain.one
+    by edge.Flow from to h = ap weight_of h
+    by (edge.Load field) from to h = ap weight_of h
+    by (edge.Call call) from to h = ap weight_of h.2
+    by (edge.Return call) from to h = ap weight_of h.2
+    by edge.Jump from to h = absurd h
+
+-- an edge by its numbers
+is_edge : (e : EdgeAt) (from to : ℕ) (kind : EdgeKind) → e.from ≡ from → e.to ≡ to → e.kind ≡ kind → e ≡ record { from = from; to = to; kind = kind }
+is_edge e from to kind a b c =
+    ap (λ (n : ℕ). record { from = n; to = e.to; kind = e.kind }) a ∙ ap (λ (n : ℕ). record { from = from; to = n; kind = e.kind }) b
+    ∙ ap (λ (k : EdgeKind). record { from = from; to = to; kind = k }) c
+
 module _ (p : LinkedProgram) (q : Asked) (d : DemandParts) (is : IsDemandOf p q d) where
-  module _ (cells : List ℕ) (are_cells : AreCells p q d.nodes cells) (calls : List Place) (are_calls : AreTheCalls p calls) where
+  -- the two nodes of stores are among the nodes
+  pub store_bases : (s : StoreAt) → Has d.stores s → Has d.nodes s.base
+  store_bases s has = let e = is.stores.each s has in is.nodes.all s.base (Demanded.base e.1.edge e.1.demanded e.0 refl)
+
+  pub store_args : (s : StoreAt) → Has d.stores s → Has d.nodes s.arg
+  store_args s has = let e = is.stores.each s has in is.nodes.all s.arg (Demanded.arg e.1.edge e.1.demanded e.0 refl)
+
+  module _ (calls : List Place) (are_calls : AreTheCalls p calls) where
     abbrev names : Names
-    names = names_of d cells calls
+    names = names_of d calls
 
     pub demand_names : AreNames p q names
     demand_names = record {
       nodes = is.nodes;
-      cells = are_cells;
       sites = record { each = λ o has. (is.sites.each o).0 has; all = λ o h. (is.sites.each o).1 h; apart = ascending_apart p d.sites is.sites.ordered };
       stores = is.stores;
       calls = are_calls;
     }
 
-    -- an edge between cells
+    -- an edge between two nodes
     record IsAt (a : Node) (kind : EdgeKind) (b : Node) (from to : ℕ) : Type 0 where
       pub edge : EdgeIn p q a kind b
-      pub from_is : HasCell names a from
-      pub to_is : HasCell names b to
-      pub joins : kind ≡ Flow → from ≢ to
+      pub from_is : slice_get d.nodes from ≡ Some a
+      pub to_is : slice_get d.nodes to ≡ Some b
 
-    module _ (edges : List EdgeAt) (between : AreBetween d cells edges) where
-      -- each edge between cells is one of the demand
+    module _ (edges : List EdgeAt) (numbered : AreEdgesAt d.nodes d.edges edges) where
+      -- each numbered edge is one of the demand
       edge_of : (e : EdgeAt) → Has edges e → (a : Node) × (b : Node) × IsAt a e.kind b e.from e.to
       edge_of e has =
-          let x = (between e).0 has in
-          let edge = is.edges.each x.0 x.1 in (
+          let x = each_right (IsEdgeAt d.nodes) d.edges edges has.0 e numbered has.1 in
+          let edge = is.edges.each x.0 (has.0, x.1) in (
             x.0.from,
             x.0.to,
             record {
               edge = subst (λ (k : EdgeKind). EdgeIn p q x.0.from k x.0.to) (sym x.2.kind_is) edge;
               from_is = x.2.from_is;
               to_is = x.2.to_is;
-              joins = x.2.joins;
             },
           )
 
-      -- and each edge of the demand that joins cells is between these
+      -- and each edge of the demand is numbered
       of_edge : (a : Node) (kind : EdgeKind) (b : Node) (from to : ℕ) → IsAt a kind b from to → Has edges (record { from = from; to = to; kind = kind })
       of_edge a kind b from to at =
-          let has = is.edges.all (record { from = a; to = b; kind = kind }) at.edge in
-          (between (record { from = from; to = to; kind = kind })).1
-          (record { from = a; to = b; kind = kind }, has, record { from_is = at.from_is; to_is = at.to_is; kind_is = refl; joins = at.joins })
+          let x : Edge = record { from = a; to = b; kind = kind } in
+          let has = is.edges.all x at.edge in
+          let e = each_left (IsEdgeAt d.nodes) d.edges edges has.0 x numbered has.1 in
+          let same = is_edge e.0 from to kind (is.nodes.apart e.0.from from a e.2.from_is at.from_is) (is.nodes.apart e.0.to to b e.2.to_is at.to_is) e.2.kind_is in
+          subst (Has edges) same (has.0, e.1)
 
       -- field rules
       field_is : (a b : Node) (kind : EdgeKind) (from to : ℕ) → IsAt a kind b from to → IsEdgeRule p q names (field_rule_by kind from to)
-      field_is a b edge.Flow from to at = (refl, record { source = a; target = b; kind = edge.Flow; edge = at.edge; keeps = tt; from_is = at.from_is; to_is = at.to_is; joins = at.joins })
+      field_is a b edge.Flow from to at = (refl, record { source = a; target = b; kind = edge.Flow; edge = at.edge; keeps = tt; from_is = at.from_is; to_is = at.to_is })
       field_is a b (edge.Load field) from to at = (refl, record { source = a; target = b; edge = at.edge; from_is = at.from_is; to_is = at.to_is })
       field_is a b (edge.Call call) from to at =
-          (refl, record { source = a; target = b; kind = edge.Call call; edge = at.edge; keeps = tt; from_is = at.from_is; to_is = at.to_is; joins = at.joins })
+          (refl, record { source = a; target = b; kind = edge.Call call; edge = at.edge; keeps = tt; from_is = at.from_is; to_is = at.to_is })
       field_is a b (edge.Return call) from to at =
-          (refl, record { source = a; target = b; kind = edge.Return call; edge = at.edge; keeps = tt; from_is = at.from_is; to_is = at.to_is; joins = at.joins })
-      field_is a b edge.Jump from to at = (refl, record { source = a; target = b; kind = edge.Jump; edge = at.edge; keeps = tt; from_is = at.from_is; to_is = at.to_is; joins = at.joins })
+          (refl, record { source = a; target = b; kind = edge.Return call; edge = at.edge; keeps = tt; from_is = at.from_is; to_is = at.to_is })
+      field_is a b edge.Jump from to at = (refl, record { source = a; target = b; kind = edge.Jump; edge = at.edge; keeps = tt; from_is = at.from_is; to_is = at.to_is })
 
       keeps_flow : (kind : EdgeKind) (from to : ℕ) → KeepsFields kind → field_rule_by kind from to ≡ rule.Flow from to reach_domain.one
       keeps_flow edge.Flow from to k = refl
@@ -144,13 +178,13 @@ module _ (p : LinkedProgram) (q : Asked) (d : DemandParts) (is : IsDemandOf p q 
           let same : field_rule_by k.kind from to ≡ rule.Flow from to weight =
           keeps_flow k.kind from to k.keeps ∙ ap (λ (w : Reach). rule.Flow from to w) (sym h.0) in
           subst (Has (map field_rule_of edges)) same
-          (field_there k.source k.target k.kind from to (record { edge = k.edge; from_is = k.from_is; to_is = k.to_is; joins = k.joins }))
+          (field_there k.source k.target k.kind from to (record { edge = k.edge; from_is = k.from_is; to_is = k.to_is }))
       field_from (rule.Push from to mark weight) h = absurd h
       field_from (rule.Pop from mark to weight) h =
           let k = h.1 in
           let same : rule.Pop from mark to reach_domain.one ≡ rule.Pop from mark to weight = ap (λ (w : Reach). rule.Pop from mark to w) (sym h.0) in
           subst (Has (map field_rule_of edges)) same
-          (field_there k.source k.target (edge.Load mark) from to (record { edge = k.edge; from_is = k.from_is; to_is = k.to_is; joins = λ e. cc }))
+          (field_there k.source k.target (edge.Load mark) from to (record { edge = k.edge; from_is = k.from_is; to_is = k.to_is }))
 
       pub field_made : (r : Rule Reach) → Has (map field_rule_of edges) r ↔ IsEdgeRule p q names r
       field_made r = (
@@ -165,10 +199,10 @@ module _ (p : LinkedProgram) (q : Asked) (d : DemandParts) (is : IsDemandOf p q 
       call_is : (a b : Node) (kind : EdgeKind) (from to : ℕ) (r : Rule Reach) → IsAt a kind b from to → IsCallRuleBy calls kind from to r → IsCallRule p q names r
       call_is a b edge.Flow from to r at h =
           subst (IsCallRule p q names) (sym h)
-          (refl, record { source = a; target = b; kind = edge.Flow; edge = at.edge; keeps = tt; from_is = at.from_is; to_is = at.to_is; joins = at.joins })
+          (refl, record { source = a; target = b; kind = edge.Flow; edge = at.edge; keeps = tt; from_is = at.from_is; to_is = at.to_is })
       call_is a b (edge.Load field) from to r at h =
           subst (IsCallRule p q names) (sym h)
-          (refl, record { source = a; target = b; kind = edge.Load field; edge = at.edge; keeps = tt; from_is = at.from_is; to_is = at.to_is; joins = at.joins })
+          (refl, record { source = a; target = b; kind = edge.Load field; edge = at.edge; keeps = tt; from_is = at.from_is; to_is = at.to_is })
       call_is a b (edge.Call call) from to r at h =
           subst (IsCallRule p q names) (sym h.2) (refl, record { source = a; target = b; call = call; edge = at.edge; mark_is = h.1; from_is = at.from_is; to_is = at.to_is })
       call_is a b (edge.Return call) from to r at h =
@@ -191,17 +225,17 @@ module _ (p : LinkedProgram) (q : Asked) (d : DemandParts) (is : IsDemandOf p q 
             let k = h.1 in
             subst (λ (w : Reach). Has rules (rule.Flow from to w)) (sym h.0)
             (call_there k.source k.target k.kind from to (rule.Flow from to reach_domain.one)
-            (record { edge = k.edge; from_is = k.from_is; to_is = k.to_is; joins = k.joins }) (keeps_call k.kind from to k.keeps))
+            (record { edge = k.edge; from_is = k.from_is; to_is = k.to_is }) (keeps_call k.kind from to k.keeps))
         call_from (rule.Push from to mark weight) h =
             let k = h.1 in
             subst (λ (w : Reach). Has rules (rule.Push from to mark w)) (sym h.0)
             (call_there k.source k.target (edge.Call k.call) from to (rule.Push from to mark reach_domain.one)
-            (record { edge = k.edge; from_is = k.from_is; to_is = k.to_is; joins = λ e. cc }) (mark, k.mark_is, refl))
+            (record { edge = k.edge; from_is = k.from_is; to_is = k.to_is }) (mark, k.mark_is, refl))
         call_from (rule.Pop from mark to weight) h =
             let k = h.1 in
             subst (λ (w : Reach). Has rules (rule.Pop from mark to w)) (sym h.0)
             (call_there k.source k.target (edge.Return k.call) from to (rule.Pop from mark to reach_domain.one)
-            (record { edge = k.edge; from_is = k.from_is; to_is = k.to_is; joins = λ e. cc }) (mark, k.mark_is, refl))
+            (record { edge = k.edge; from_is = k.from_is; to_is = k.to_is }) (mark, k.mark_is, refl))
 
         pub call_made : (r : Rule Reach) → Has rules r ↔ IsCallRule p q names r
         call_made r = (
@@ -219,16 +253,13 @@ module _ (p : LinkedProgram) (q : Asked) (d : DemandParts) (is : IsDemandOf p q 
             let of = edge_of e has in
             let a = of.0 in
             let b = of.1 in
-            let jump : EdgeIn p q a edge.Jump b = subst (λ (k : EdgeKind). EdgeIn p q a k b) at.kind_is of.2.edge in
-            let to = of.2.to_is in
-            let cell : e.to ≡ to.number = own_cell p q d.nodes cells are_cells is.nodes.apart to.number e.to to.node_is (λ c. jump_stays p q jump) to in
-            let there : slice_get d.nodes j.to.node ≡ Some b = subst (λ (n : ℕ). slice_get d.nodes n ≡ Some b) (sym (at.to_is ∙ cell)) to.node_is in
+            let there : slice_get d.nodes j.to.node ≡ Some b = subst (λ (n : ℕ). slice_get d.nodes n ≡ Some b) (sym at.to_is) of.2.to_is in
             let node : at.node ≡ b = (let stands = at.stands.node_is in cc) in
             record {
               source = a;
               target = b;
-              edge = jump;
-              from_is = subst (HasCell names a) (sym at.from_is) of.2.from_is;
+              edge = subst (λ (k : EdgeKind). EdgeIn p q a k b) at.kind_is of.2.edge;
+              from_is = subst (λ (n : ℕ). slice_get d.nodes n ≡ Some a) (sym at.from_is) of.2.from_is;
               to_is = subst (StandsFor d.nodes j.to) node at.stands;
             }
 
@@ -236,10 +267,7 @@ module _ (p : LinkedProgram) (q : Asked) (d : DemandParts) (is : IsDemandOf p q 
         jumps_made j = (
           (λ has. let g = (gathered j).0 has in jump_is j g.0 g.1 g.2),
           (λ h.
-              let cell = has_cell p q d.nodes cells are_cells h.target j.to.node h.to_is.node_is in
-              let same = own_cell p q d.nodes cells are_cells is.nodes.apart j.to.node cell.0 h.to_is.node_is (λ c. jump_stays p q h.edge) cell.1 in
-              let to : HasCell names h.target j.to.node = subst (HasCell names h.target) same cell.1 in
-              let has = of_edge h.source edge.Jump h.target j.from j.to.node (record { edge = h.edge; from_is = h.from_is; to_is = to; joins = λ e. cc }) in
+              let has = of_edge h.source edge.Jump h.target j.from j.to.node (record { edge = h.edge; from_is = h.from_is; to_is = h.to_is.node_is }) in
               (gathered j).1 (
                 record { from = j.from; to = j.to.node; kind = edge.Jump },
                 has,
@@ -255,11 +283,11 @@ module _ (p : LinkedProgram) (q : Asked) (d : DemandParts) (is : IsDemandOf p q 
     )
 
 -- stores
-pub stores_made : (nodes : List Node) (cells : List ℕ) (all : List StoreAt) (stores : List Stored) → Each (IsStoreOf nodes cells) all stores → (store : ℕ) (s : StoreAt)
-    → slice_get all store ≡ Some s → IsStoreOf nodes cells s (get_or stores store no_store)
-stores_made nodes cells all stores each store s there =
-    let x = each_left (IsStoreOf nodes cells) all stores store s each there in
-    subst (IsStoreOf nodes cells s) (sym (get_or_from_slice_get stores store x.0 no_store x.1)) x.2
+pub stores_made : (nodes : List Node) (all : List StoreAt) (stores : List StoreNodes) → Each (IsStoreOf nodes) all stores → (store : ℕ) (s : StoreAt)
+    → slice_get all store ≡ Some s → IsStoreOf nodes s (get_or stores store no_store)
+stores_made nodes all stores each store s there =
+    let x = each_left (IsStoreOf nodes) all stores store s each there in
+    subst (IsStoreOf nodes s) (sym (get_or_from_slice_get stores store x.0 no_store x.1)) x.2
 
 module _ (p : LinkedProgram) (q : Asked) (names : Names) (are : AreNames p q names) (parts : Parts) (of : AreParts p q names parts) (led : AreLed p parts.bases.steps) where
   node_led : (n : Node) → IsNode p n → (s : StartAt) → StandsFor names.nodes s n → (word : List ℕ) × Leads parts.bases.steps s.method word parts.bases.last
@@ -298,27 +326,31 @@ module _ (p : LinkedProgram) (q : Asked) (names : Names) (are : AreNames p q nam
   }
 
 -- all of them together
-pub parts_made : (p : LinkedProgram) (q : Asked) (d : DemandParts) (is : IsDemandOf p q d) (parts : Parts) → AreCells p q d.nodes parts.cells.items → (calls : List Place)
-    → AreTheCalls p calls → (edges : List EdgeAt) → AreBetween d parts.cells.items edges → parts.fields.value.rules ≡ map field_rule_of edges
-    → AreGathered (IsCallRuleOf calls) edges parts.calls.value.rules → AreGathered (IsJumpAt d.nodes) edges parts.jumps.items → length parts.starts.items ≡ length d.sites
+pub parts_made : (p : LinkedProgram) (q : Asked) (d : DemandParts) (is : IsDemandOf p q d) (parts : Parts) (calls : List Place) → AreTheCalls p calls
+    → ((edges : List EdgeAt) × AreEdgesAt d.nodes d.edges edges
+    × HaveCells reach_domain (map field_rule_of edges) (start_nodes (start_rows parts)) parts.field_cells.items parts.fields.value.rules)
+    → ((edges : List EdgeAt) × (rules : List (Rule Reach)) × AreEdgesAt d.nodes d.edges edges × AreGathered (IsCallRuleOf calls) edges rules
+    × HaveCells reach_domain rules (open_nodes (start_rows parts) parts.jumps.items) parts.call_cells.items parts.calls.value.rules)
+    → ((edges : List EdgeAt) × AreEdgesAt d.nodes d.edges edges × AreGathered (IsJumpAt d.nodes) edges parts.jumps.items) → length parts.starts.items ≡ length d.sites
     → ((site : ℕ) (o : Site) → slice_get d.sites site ≡ Some o → (s : StartAt) → Has (starts_at parts site) s ↔ IsStartHere p d.nodes o s)
-    → Each (IsStoreOf d.nodes parts.cells.items) d.stores parts.stores.items → AreStrings p calls parts.bases.steps → IsLast p parts.bases.last
-    → parts.places ≡ calls → AreParts p q (names_of d parts.cells.items calls) parts
-parts_made p q d is parts are_cells calls are_calls edges between fields rules jumps count starts stores strings last places =
-    let cells = parts.cells.items in
-    record {
-      field_rules = λ r. rw fields (field_made p q d is cells are_cells calls are_calls edges between r);
-      call_rules = call_made p q d is cells are_cells calls are_calls edges between parts.calls.value.rules rules;
-      jumps = jumps_made p q d is cells are_cells calls are_calls edges between parts.jumps.items jumps;
-      starts = λ site o there s.
-          let a = starts site o there s in
-          let b = starts_made p q d is cells are_cells calls are_calls o s in
-          ((λ h. b.0 (a.0 h)), (λ h. a.1 (b.1 h)));
-      start_count = count;
-      stores = stores_made d.nodes cells d.stores parts.stores.items stores;
-      store_count = sym stores.as_many;
-      strings = strings;
-      last = last;
-      places = places;
-      cells = refl;
-    }
+    → Each (IsStoreOf d.nodes) d.stores parts.stores.items → AreStrings p calls parts.bases.steps → IsLast p parts.bases.last → parts.places ≡ calls
+    → AreParts p q (names_of d calls) parts
+parts_made p q d is parts calls are_calls fields rules jumps count starts stores strings last places = record {
+  field_nodes = map field_rule_of fields.0;
+  field_rules = field_made p q d is calls are_calls fields.0 fields.1;
+  field_cells = fields.2;
+  call_nodes = rules.1;
+  call_rules = call_made p q d is calls are_calls rules.0 rules.2 rules.1 rules.3;
+  call_cells = rules.4;
+  jumps = jumps_made p q d is calls are_calls jumps.0 jumps.1 parts.jumps.items jumps.2;
+  starts = λ site o there s.
+      let a = starts site o there s in
+      let b = starts_made p q d is calls are_calls o s in
+      ((λ h. b.0 (a.0 h)), (λ h. a.1 (b.1 h)));
+  start_count = count;
+  stores = stores_made d.nodes d.stores parts.stores.items stores;
+  store_count = sym stores.as_many;
+  strings = strings;
+  last = last;
+  places = places;
+}

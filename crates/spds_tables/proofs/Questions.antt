@@ -3,10 +3,11 @@ use Rattle.std.proofs.Common.{◌≡◌, ℕ, zero, suc, ◌+◌, ◌<◌, ◌�
 use Rattle.jim_ast.specs.Lists.{Has}
 use Rattle.link_indexes.proofs.Grown.{Has-push}
 use Rattle.post_star.specs.Jobs.{Job}
+use Rattle.rule_cells.specs.Renamed.{number_in}
 use Rattle.spds_tables.specs.declared.numbered.Jump.{Jump}
 use Rattle.spds_tables.specs.declared.numbered.StartAt.{StartAt}
 use Rattle.spds_tables.specs.Tables.{ArrivesAt, IsJumpedTo}
-use Rattle.spds_cells.proofs.Lists.{Has-take_more}
+use Rattle.spds_tables.proofs.Lists.{Has-take_more}
 use Rattle.weight_laws.specs.declared.reach.Reach.{Reach}
 
 -- one more was looked at
@@ -45,10 +46,10 @@ asked_last now same = (
 pub asked_push : (xs : List StartAt) (x s : StartAt) (New : Type 0) → ((s ≡ x) ↔ New) → Has (xs ++ x ∷ []) s ↔ (Has xs s ⊎ New)
 asked_push xs x s New same = asked_last (Has-push xs x s) same
 
-module _ (job : Job Reach) (s : StartAt) where
+module _ (cells : List ℕ) (job : Job Reach) (s : StartAt) where
   -- by the jumps of a front
   pub jumped_more : (jumps : List Jump) (i : ℕ) (d : Jump) → i < length jumps
-      → IsJumpedTo (take (i + 1) jumps) job s ↔ (IsJumpedTo (take i jumps) job s ⊎ IsJumpedTo (get_or jumps i d ∷ []) job s)
+      → IsJumpedTo cells (take (i + 1) jumps) job s ↔ (IsJumpedTo cells (take i jumps) job s ⊎ IsJumpedTo cells (get_or jumps i d ∷ []) job s)
   jumped_more jumps i d below = (
     (λ h. elim ((Has-take_more jumps i d h.jump below).0 h.has) [
       | inl a ↦ inl (record { jump = h.jump; has = a; to_is = h.to_is; arrives = h.arrives })
@@ -56,7 +57,7 @@ module _ (job : Job Reach) (s : StartAt) where
         jump = get_or jumps i d;
         has = one_has (get_or jumps i d);
         to_is = h.to_is ∙ ap (λ (j : Jump). j.to) e;
-        arrives = subst (λ (j : Jump). ArrivesAt job j.from) e h.arrives;
+        arrives = subst (λ (j : Jump). ArrivesAt job (number_in cells j.from)) e h.arrives;
       })
     ]),
     (λ h. elim h [
@@ -71,15 +72,15 @@ module _ (job : Job Reach) (s : StartAt) where
   )
 
   -- one jump
-  pub jumped_one : (jump : Jump) → ArrivesAt job jump.from → s ≡ jump.to → IsJumpedTo (jump ∷ []) job s
+  pub jumped_one : (jump : Jump) → ArrivesAt job (number_in cells jump.from) → s ≡ jump.to → IsJumpedTo cells (jump ∷ []) job s
   jumped_one jump arrives e = record { jump = jump; has = one_has jump; to_is = e; arrives = arrives }
 
-  pub one_jumped : (jump : Jump) → IsJumpedTo (jump ∷ []) job s → (s ≡ jump.to) × ArrivesAt job jump.from
+  pub one_jumped : (jump : Jump) → IsJumpedTo cells (jump ∷ []) job s → (s ≡ jump.to) × ArrivesAt job (number_in cells jump.from)
   one_jumped jump h =
       let e = has_one jump h.jump h.has in
-      (h.to_is ∙ ap (λ (j : Jump). j.to) e, subst (λ (j : Jump). ArrivesAt job j.from) e h.arrives)
+      (h.to_is ∙ ap (λ (j : Jump). j.to) e, subst (λ (j : Jump). ArrivesAt job (number_in cells j.from)) e h.arrives)
 
 -- where the call system begins at all nodes that static fields come to, no new one is asked for
-pub jumped_begun : (jumps : List Jump) (job : Job Reach) (begun : List StartAt) → ((j : Jump) → Has jumps j → Has begun j.to) → (s : StartAt)
-    → IsJumpedTo jumps job s → Has begun s
-jumped_begun jumps job begun all s h = subst (Has begun) (sym h.to_is) (all h.jump h.has)
+pub jumped_begun : (cells : List ℕ) (jumps : List Jump) (job : Job Reach) (begun : List StartAt) → ((j : Jump) → Has jumps j → Has begun j.to) → (s : StartAt)
+    → IsJumpedTo cells jumps job s → Has begun s
+jumped_begun cells jumps job begun all s h = subst (Has begun) (sym h.to_is) (all h.jump h.has)

@@ -1,9 +1,7 @@
 -- Sums over truth: what holds of some weight of the kind.
 use Rattle.std.proofs.Common.{◌≡◌, ◌≢◌, ◌↔◌, ◌⊎◌, ℕ, List, [], Bool, true, false, ◌||◌, IsTrue, refl, sym, ap, ◌∙◌, inl, inr, subst, true≢false, Option, Some, None, Vec, Global, IfSome, IfNone}
 use Rattle.std.specs.Option.{is_some}
-use Rattle.auto_table.specs.Cells.{Cells, IsRow, weight_at}
-use Rattle.auto_table.specs.declared.row.Reached.{Reached}
-use Rattle.jim_ast.specs.Lists.{Has}
+use Rattle.auto_table.specs.Cells.{Cells, weight_at}
 use Rattle.auto_table.specs.declared.entry.Entry.{Entry}
 use Rattle.auto_table.specs.declared.entry.Entry.TheVariants.{Base}
 use Rattle.auto_table.specs.declared.rule.Rule.{Rule}
@@ -111,21 +109,3 @@ pub word_found : (First Second : List ℕ → Type 0) (r : Option (Vec ℕ Globa
     → IfNone r ((word : List ℕ) → First word → Second word → ⊥) → IsTrue (is_some r) ↔ ((word : List ℕ) × First word × Second word)
 word_found First Second (Some word) p q nothing = ((λ _. (word.items, p, q)), (λ _. refl))
 word_found First Second None p q nothing = ((λ h. absurd (true≢false (sym h))), (λ w. absurd (nothing w.0 w.1 w.2)))
-
--- the nodes of the row of the last base are those at which the empty word is derived
-pub row_derives : (rules : List (Rule Reach)) (starts : List (Start Reach)) (steps : List BaseStep) (last : ℕ) (t : Cells Reach)
-    → IsSaturated reach_domain rules starts steps last t → (row : List (Reached Reach)) → IsRow reach_domain t (Base last) row → (n : ℕ)
-    → ((x : Reached Reach) × Has row x × (n ≡ x.node)) ↔ Derives reach_domain rules starts steps last n [] reach_domain.one
-row_derives rules starts steps last t saturated row is n =
-    let same = value_derives rules starts steps last t saturated n [] (weight_at reach_domain t (Base last) n) (base_value steps last t n) in (
-      (λ h.
-          let weight = is.weight h.0 h.1 in
-          let some = is.some h.0 h.1 in
-          let here : weight_at reach_domain t (Base last) n ≢ reach_domain.zero =
-          λ e. some (weight ∙ subst (λ (m : ℕ). weight_at reach_domain t (Base last) m ≡ reach_domain.zero) h.2 e) in
-          same.0 (some_true (weight_at reach_domain t (Base last) n) here)),
-      (λ d.
-          let true_here = same.1 d in
-          let here : weight_at reach_domain t (Base last) n ≢ reach_domain.zero = λ e. true≢false (sym true_here ∙ ap (λ (r : Reach). r.0) e) in
-          (record { node = n; weight = weight_at reach_domain t (Base last) n }, is.all n here, refl)),
-    )

@@ -1,3 +1,4 @@
+pub mod Gathered
 pub mod Names
 pub mod Systems
 pub mod Parts

@@ -1,18 +1,16 @@
--- What the numbers in rules, words and tables stand for.
-use Rattle.std.specs.Prelude.{ℕ, List}
+-- What the numbers in rules and words stand for.
+use Rattle.std.specs.Prelude.{List}
 use Rattle.link_rules.specs.Linked.{LinkedProgram}
 use Rattle.link_sites.specs.declared.place.Place.{Place}
 use Rattle.link_sites.specs.declared.site.Site.{Site}
 use Rattle.call_side.specs.Calls.{AreTheCalls}
-use Rattle.spds_cells.specs.Cells.{AreCells, IsCellOf}
 use Rattle.spds_rules.specs.declared.node.Node.{Node}
 use Rattle.spds_rules.specs.declared.store.StoreAt.{StoreAt}
 use Rattle.spds_rules.specs.Demand.{AreAll, Asked, Demand, SiteIn, StoreIn}
 
--- nodes, sites, stores and calls: the number of one is its place in its list. And the cells of the nodes: rules and tables speak of cells
+-- nodes, sites, stores and calls: the number of one is its place in its list
 pub record Names : Type 0 where
   pub nodes : List Node
-  pub cells : List ℕ
   pub sites : List Site
   pub stores : List StoreAt
   pub calls : List Place
@@ -20,11 +18,6 @@ pub record Names : Type 0 where
 -- they are the nodes, the sites and the stores that the query demands, and the calls of the program
 pub record AreNames (p : LinkedProgram) (q : Asked) (names : Names) : Type 0 where
   pub nodes : AreAll (Demand p q) names.nodes
-  pub cells : AreCells p q names.nodes names.cells
   pub sites : AreAll (SiteIn p q) names.sites
   pub stores : AreAll (StoreIn p q) names.stores
   pub calls : AreTheCalls p names.calls
-
--- the number of the cell of a node
-abbrev pub HasCell : Names → Node → ℕ → Type 0
-HasCell names n cell = IsCellOf names.nodes names.cells n cell

@@ -7,8 +7,12 @@ use Rattle.jim_ast.specs.Lists.{Has}
 use Rattle.link_indexes.specs.Rows.{row}
 use Rattle.post_star.specs.declared.bases.Start.{Start}
 use Rattle.post_star.specs.Derivations.{IsLed, Leads}
+use Rattle.spds_tables.specs.declared.numbered.Jump.{Jump}
 use Rattle.spds_tables.specs.declared.numbered.Met.{Met}
 use Rattle.spds_tables.specs.declared.numbered.StartAt.{StartAt}
+use Rattle.rule_cells.specs.Renamed.{number_in}
+use Rattle.spds_tables.specs.declared.numbered.CellsAt.{CellsAt}
+use Rattle.spds_tables.specs.declared.numbered.StoreNodes.{StoreNodes}
 use Rattle.spds_tables.specs.declared.numbered.Stored.{Stored}
 use Rattle.spds_tables.specs.declared.parts.Parts.{Parts}
 use Rattle.weight_laws.specs.declared.reach.Reach.{Reach}
@@ -23,28 +27,46 @@ abbrev pub starts_at : Parts → ℕ → List StartAt
 starts_at parts site = row (start_rows parts) site
 
 -- what a number past the end reads
-abbrev pub no_store : Stored
+abbrev pub no_store : StoreNodes
 no_store = record { base = 0; arg = 0; field = 0 }
 
--- the store with the number
+-- the nodes and the field of the store with the number
+abbrev pub store_nodes_at : Parts → ℕ → StoreNodes
+store_nodes_at parts store = slice_index_or parts.stores.items store no_store
+
+-- the cells of a node
+abbrev pub field_cell : Parts → ℕ → ℕ
+field_cell parts node = number_in parts.field_cells.items node
+
+abbrev pub call_cell : Parts → ℕ → ℕ
+call_cell parts node = number_in parts.call_cells.items node
+
+abbrev pub cells_at : Parts → ℕ → CellsAt
+cells_at parts node = record { fields = field_cell parts node; calls = call_cell parts node }
+
+-- the store with the number, by cells
 abbrev pub store_at : Parts → ℕ → Stored
-store_at parts store = slice_index_or parts.stores.items store no_store
+store_at parts store = record {
+  base = cells_at parts (store_nodes_at parts store).base;
+  arg = cells_at parts (store_nodes_at parts store).arg;
+  field = (store_nodes_at parts store).field;
+}
 
 -- a start node of a field system, with the empty word
-abbrev pub field_start : StartAt → Start Reach
-field_start s = record { base = 0; node = s.node; weight = reach_domain.one }
+abbrev pub field_start : List ℕ → StartAt → Start Reach
+field_start cells s = record { base = 0; node = number_in cells s.node; weight = reach_domain.one }
 
 -- a start node of a call system, with the strings of its method
-abbrev pub call_start : StartAt → Start Reach
-call_start s = record { base = s.method; node = s.node; weight = reach_domain.one }
+abbrev pub call_start : List ℕ → StartAt → Start Reach
+call_start cells s = record { base = s.method; node = number_in cells s.node; weight = reach_domain.one }
 
 -- the rule of a store that comes to a start node
-abbrev pub push_to : Stored → StartAt → Rule Reach
-push_to store s = Push store.arg s.node store.field reach_domain.one
+abbrev pub push_to : List ℕ → StoreNodes → StartAt → Rule Reach
+push_to cells store s = Push (number_in cells store.arg) (number_in cells s.node) store.field reach_domain.one
 
 -- the rules of a meet, one for each start node of the base
 abbrev pub pushes_of : Parts → Met → List (Rule Reach)
-pushes_of parts m = map (push_to (store_at parts m.store)) (starts_at parts m.base)
+pushes_of parts m = map (push_to parts.field_cells.items (store_nodes_at parts m.store)) (starts_at parts m.base)
 
 -- those that the field system of a site has
 abbrev pub pushes_for : Parts → ℕ → Met → List (Rule Reach)
@@ -57,6 +79,14 @@ pushes_over parts site mets = flat_map (pushes_for parts site) mets
 -- the nodes that may come to be start nodes of a call system: those of sites, and those that static fields come to
 abbrev pub candidates : Parts → List StartAt
 candidates parts = flat_map (λ starts. starts) (start_rows parts) ++ map (λ jump. jump.to) parts.jumps.items
+
+-- the numbers of the start nodes of all sites
+abbrev pub start_nodes : List (List StartAt) → List ℕ
+start_nodes rows = flat_map (λ starts. map (λ s. s.node) starts) rows
+
+-- and of the nodes that static fields come to
+abbrev pub open_nodes : List (List StartAt) → List Jump → List ℕ
+open_nodes rows jumps = start_nodes rows ++ map (λ jump. jump.to.node) jumps
 
 -- the strings of each of these lead to the last base, and so do those of the bases
 pub record AreLedIn (parts : Parts) : Type 0 where

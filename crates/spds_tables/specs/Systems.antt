@@ -1,5 +1,5 @@
--- The two systems of a site as weighted pushdown systems over truth: cells of nodes, fields and calls are numbers, and everything weighs `one`.
-use Rattle.std.specs.Prelude.{◌≡◌, ◌≢◌, ◌↔◌, ℕ, List, [], Some, slice_get}
+-- The two systems of a site as weighted pushdown systems over truth: nodes, fields and calls are numbers, and everything weighs `one`.
+use Rattle.std.specs.Prelude.{◌≡◌, ◌↔◌, ℕ, List, [], Some, slice_get}
 use Rattle.jim_ast.specs.Lists.{Has}
 use Rattle.auto_table.specs.declared.rule.Rule.{Rule}
 use Rattle.auto_table.specs.declared.rule.Rule.TheVariants as rule
@@ -12,34 +12,31 @@ use Rattle.post_star.specs.Derivations.{Derives}
 use Rattle.post_star.specs.Jobs.{Job}
 use Rattle.spds_rules.specs.declared.edge.EdgeKind.{EdgeKind}
 use Rattle.spds_rules.specs.declared.edge.EdgeKind.TheVariants as edge
-use Rattle.spds_rules.specs.declared.edge.EdgeKind.TheVariants.{Flow}
 use Rattle.spds_rules.specs.declared.node.Node.{Node}
 use Rattle.spds_rules.specs.declared.store.StoreAt.{StoreAt}
 use Rattle.spds_rules.specs.Demand.{Asked, EdgeIn, StartIn}
 use Rattle.spds_rules.specs.Systems.{KeepsCalls, KeepsFields}
-use Rattle.spds_tables.specs.Names.{HasCell, Names}
+use Rattle.spds_tables.specs.Names.{Names}
 use Rattle.weight_laws.specs.declared.reach.Reach.{Reach}
 use Rattle.weight_laws.specs.Reach.{reach_domain}
 
--- an edge of these kinds leads from a node of the one cell to one of the other. Within a frame these are two cells: along an edge that stays in its cell
--- nothing changes
+-- an edge of these kinds
 pub record IsKept (p : LinkedProgram) (q : Asked) (names : Names) (Keeps : EdgeKind → Type 0) (from to : ℕ) : Type 0 where
   pub source : Node
   pub target : Node
   pub kind : EdgeKind
   pub edge : EdgeIn p q source kind target
   pub keeps : Keeps kind
-  pub from_is : HasCell names source from
-  pub to_is : HasCell names target to
-  pub joins : kind ≡ Flow → from ≢ to
+  pub from_is : slice_get names.nodes from ≡ Some source
+  pub to_is : slice_get names.nodes to ≡ Some target
 
 -- an edge that loads the field
 pub record IsLoaded (p : LinkedProgram) (q : Asked) (names : Names) (from field to : ℕ) : Type 0 where
   pub source : Node
   pub target : Node
   pub edge : EdgeIn p q source (edge.Load field) target
-  pub from_is : HasCell names source from
-  pub to_is : HasCell names target to
+  pub from_is : slice_get names.nodes from ≡ Some source
+  pub to_is : slice_get names.nodes to ≡ Some target
 
 -- a store into the field that an object of the site meets, from what is stored to a start node of the base
 pub record IsStored (p : LinkedProgram) (q : Asked) (names : Names) (Meet : Site → Site → StoreAt → Type 0) (o : Site) (from field to : ℕ) : Type 0 where
@@ -49,7 +46,7 @@ pub record IsStored (p : LinkedProgram) (q : Asked) (names : Names) (Meet : Site
   pub met : Meet o base store
   pub start : StartIn p q base target
   pub field_is : field ≡ store.field
-  pub from_is : HasCell names store.arg from
+  pub from_is : slice_get names.nodes from ≡ Some store.arg
   pub to_is : slice_get names.nodes to ≡ Some target
 
 -- an edge of this kind over the call with the mark
@@ -59,8 +56,8 @@ pub record IsCrossed (p : LinkedProgram) (q : Asked) (names : Names) (over : Pla
   pub call : Place
   pub edge : EdgeIn p q source (over call) target
   pub mark_is : slice_get names.calls mark ≡ Some call
-  pub from_is : HasCell names source from
-  pub to_is : HasCell names target to
+  pub from_is : slice_get names.nodes from ≡ Some source
+  pub to_is : slice_get names.nodes to ≡ Some target
 
 -- a rule of the field system of a site over meets: edges keep or load fields, and stores put theirs in front
 abbrev pub IsFieldRule : LinkedProgram → Asked → Names → (Site → Site → StoreAt → Type 0) → Site → Rule Reach → Type 0

@@ -1,10 +1,10 @@
 -- The tables of a site, and the start nodes that they ask for.
 use Rattle.std.specs.Prelude.{◌≡◌, ◌⊎◌, ◌↔◌, ◌++◌, ℕ, List, [], IsTrue, true, map}
-use Rattle.auto_table.specs.declared.row.Reached.{Reached}
 use Rattle.auto_table.specs.declared.rule.Rule.{Rule}
 use Rattle.jim_ast.specs.Lists.{Has, IsApart}
 use Rattle.post_star.specs.declared.bases.Start.{Start}
 use Rattle.post_star.specs.Jobs.{Job}
+use Rattle.rule_cells.specs.Renamed.{number_in}
 use Rattle.spds_tables.specs.declared.numbered.Jump.{Jump}
 use Rattle.spds_tables.specs.declared.numbered.Met.{Met}
 use Rattle.spds_tables.specs.declared.numbered.StartAt.{StartAt}
@@ -26,41 +26,41 @@ pub record IsFieldJob (parts : Parts) (site : ℕ) (mets : List Met) (job : Job 
   pub steps : job.steps ≡ []
   pub last : job.last ≡ 0
   pub rules : job.rules ≡ parts.fields.value.rules ++ pushes_over parts site mets
-  pub starts : job.starts ≡ map field_start (starts_at parts site)
+  pub starts : job.starts ≡ map (field_start parts.field_cells.items) (starts_at parts site)
 
 -- the call system from these start nodes
 pub record IsCallJob (parts : Parts) (begun : List StartAt) (job : Job Reach) : Type 0 where
   pub steps : job.steps ≡ parts.bases.steps
   pub last : job.last ≡ parts.bases.last
   pub rules : job.rules ≡ parts.calls.value.rules
-  pub starts : job.starts ≡ map call_start begun
+  pub starts : job.starts ≡ map (call_start parts.call_cells.items) begun
 
 -- a call system gives some string there
 abbrev pub ArrivesAt : Job Reach → ℕ → Type 0
 ArrivesAt job node = (word : List ℕ) × Reaches job node word
 
--- these are the nodes at which the call system gives some string
+-- these are the cells at which the call system gives some string
 abbrev pub AreArrivals : Job Reach → List ℕ → Type 0
 AreArrivals job nodes = (n : ℕ) → Has nodes n ↔ ArrivesAt job n
 
--- a static field comes to the node
-pub record IsJumpedTo (jumps : List Jump) (job : Job Reach) (s : StartAt) : Type 0 where
+-- a static field comes to the node, where nodes have these cells
+pub record IsJumpedTo (cells : List ℕ) (jumps : List Jump) (job : Job Reach) (s : StartAt) : Type 0 where
   pub jump : Jump
   pub has : Has jumps jump
   pub to_is : s ≡ jump.to
-  pub arrives : ArrivesAt job jump.from
+  pub arrives : ArrivesAt job (number_in cells jump.from)
 
 -- a store of the site comes to the node
 pub record IsStoredTo (parts : Parts) (site : ℕ) (mets : List Met) (job : Job Reach) (s : StartAt) : Type 0 where
   pub met : Met
   pub has : Has mets met
   pub object : met.object ≡ site
-  pub arrives : ArrivesAt job (store_at parts met.store).arg
+  pub arrives : ArrivesAt job (store_at parts met.store).arg.calls
   pub among : Has (starts_at parts met.base) s
 
 -- what static fields and stores come to, where the call system arrives
 abbrev pub IsAskedOf : Parts → ℕ → List Met → Job Reach → StartAt → Type 0
-IsAskedOf parts site mets job s = IsJumpedTo parts.jumps.items job s ⊎ IsStoredTo parts site mets job s
+IsAskedOf parts site mets job s = IsJumpedTo parts.call_cells.items parts.jumps.items job s ⊎ IsStoredTo parts site mets job s
 
 -- the start nodes that a site comes to have, by and by: its own, and what the call system from some of them asks for
 pub data Opens (parts : Parts) (site : ℕ) (mets : List Met) : StartAt → Type 0 where
@@ -107,7 +107,3 @@ settled_of job = record job { settled = true }
 -- both were
 abbrev pub settled_tables : SiteTables → SiteTables
 settled_tables t = record t { fields = settled_of t.fields; calls = settled_of t.calls }
-
--- the node of an element of a row, where the call system arrives
-abbrev pub IsReachedNode : Job Reach → Reached Reach → ℕ → Type 0
-IsReachedNode job x n = (n ≡ x.node) × ArrivesAt job n

@@ -10,6 +10,7 @@ use super::parts::Parts;
 use super::tables::SiteTables;
 use auto_table::NoMemory;
 use indexmap::IndexSet;
+use rule_cells::number_of;
 use std::alloc::Global;
 
 /// Whether the call system begins already at each node that a static field comes to.
@@ -28,17 +29,18 @@ fn all_begun(tables: &SiteTables, jumps: &[Jump]) -> bool
 fn ask_jump(
     tables: &SiteTables,
     arrivals: &IndexSet<u32>,
+    cells: &[u32],
     jump: Jump,
     asked: &mut Vec<StartAt>,
 ) -> Result<(), NoMemory>
     requires { AreArrivals tables.now.calls arrivals.now.keys }
     ensures { OnOk result ((s : AStart) → Has asked.new.items s
-        ↔ (Has asked.old.items s ⊎ (IsJumpedTo (jump ∷ []) tables.now.calls s × (Has tables.now.begun s → ⊥)))) }
+        ↔ (Has asked.old.items s ⊎ (IsJumpedTo cells.now (jump ∷ []) tables.now.calls s × (Has tables.now.begun s → ⊥)))) }
 {
     if tables.begun.contains(jump.to) {
         return Ok(());
     }
-    if arrivals.contains(&jump.from) {
+    if arrivals.contains(&number_of(cells, jump.from)) {
         asked.push(jump.to)?;
     }
     Ok(())
@@ -48,15 +50,16 @@ fn ask_jump(
 fn ask_jumps(
     tables: &SiteTables,
     arrivals: &IndexSet<u32>,
+    cells: &[u32],
     jumps: &[Jump],
     asked: &mut Vec<StartAt>,
 ) -> Result<(), NoMemory>
     requires { AreArrivals tables.now.calls arrivals.now.keys }
     ensures { OnOk result ((s : AStart) → Has asked.new.items s
-        ↔ (Has asked.old.items s ⊎ (IsJumpedTo jumps.now tables.now.calls s × (Has tables.now.begun s → ⊥)))) }
+        ↔ (Has asked.old.items s ⊎ (IsJumpedTo cells.now jumps.now tables.now.calls s × (Has tables.now.begun s → ⊥)))) }
 {
     for jump in jumps {
-        ask_jump(tables, arrivals, *jump, asked)?;
+        ask_jump(tables, arrivals, cells, *jump, asked)?;
     }
     Ok(())
 }
@@ -65,13 +68,19 @@ fn ask_jumps(
 pub fn asked(alloc: Global, parts: &Parts, tables: &SiteTables) -> Result<Vec<StartAt>, NoMemory>
     requires { tables.now.calls.settled ≡ true }
     ensures { IfOk result (λ asked. (s : AStart) → Has asked.items s
-        ↔ (IsJumpedTo parts.now.jumps.items tables.now.calls s × (Has tables.now.begun s → ⊥))) }
+        ↔ (IsJumpedTo parts.now.call_cells.items parts.now.jumps.items tables.now.calls s × (Has tables.now.begun s → ⊥))) }
 {
     let mut asked = Vec::new(alloc);
     if all_begun(tables, &parts.jumps) {
         return Ok(asked);
     }
     let arrivals = tables.arrivals(alloc)?;
-    ask_jumps(tables, &arrivals, &parts.jumps, &mut asked)?;
+    ask_jumps(
+        tables,
+        &arrivals,
+        &parts.call_cells,
+        &parts.jumps,
+        &mut asked,
+    )?;
     Ok(asked)
 }

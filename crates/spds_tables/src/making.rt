@@ -1,25 +1,29 @@
 //! The parts of a demand.
-ghost use Rattle.std.specs.Prelude.{◌≡◌, ◌<◌, ◌↔◌, ◌⊎◌, ℕ, Some, [], length, map, slice_get, IfOk, OnOk};
+ghost use Rattle.std.specs.Prelude.{◌≡◌, ◌↔◌, ◌⊎◌, ◌++◌, List, ℕ, Some, [], length, map, slice_get, IfOk, OnOk};
 ghost use Rattle.auto_table.specs.declared.rule.Rule.{Rule as ARule};
 ghost use Rattle.demand_set.specs.Demands.{IsDemandOf};
+ghost use Rattle.demand_walk.specs.declared.numbered.EdgeAt.{EdgeAt as AnEdge};
+ghost use Rattle.demand_walk.specs.Numbers.{AreEdgesAt};
 ghost use Rattle.jim_ast.specs.Lists.{Has};
 ghost use Rattle.link_indexes.specs.Rows.{row};
 ghost use Rattle.link_rules.specs.Lists.{Each};
 ghost use Rattle.link_rules.specs.WellLinked.{IsWellLinked};
 ghost use Rattle.link_sites.specs.declared.site.Site.{Site as ASite};
 ghost use Rattle.post_star.specs.Derivations.{IsLed};
+ghost use Rattle.post_star.specs.Works.{weight_of};
+ghost use Rattle.rule_cells.specs.CellRules.{HaveCells};
+ghost use Rattle.spds_rules.specs.declared.store.StoreAt.{StoreAt as AStore};
 ghost use Rattle.spds_rules.specs.Demand.{Asked};
 ghost use Rattle.spds_tables.specs.declared.numbered.Jump.{Jump as AJump};
 ghost use Rattle.spds_tables.specs.declared.numbered.StartAt.{StartAt as AStart};
-ghost use Rattle.spds_cells.specs.Cells.{IsCellOf};
-ghost use Rattle.spds_cells.specs.Edges.{AreNumbered};
-ghost use Rattle.spds_cells.specs.Gathered.{AreGathered};
+ghost use Rattle.spds_tables.specs.Gathered.{AreGathered};
 ghost use Rattle.spds_tables.specs.Making.{IsCallRuleOf, IsJumpAt, IsStartAt, IsStartHere, field_rule_of};
-ghost use Rattle.spds_tables.specs.Parts.{AreLedIn};
+ghost use Rattle.spds_tables.specs.Parts.{AreLedIn, open_nodes, start_nodes};
 ghost use Rattle.spds_tables.specs.PartsOf.{ArePartsOf, IsStoreOf};
 ghost use Rattle.weight_laws.specs.declared.reach.Reach.{Reach as AReach};
+ghost use Rattle.weight_laws.specs.Reach.{reach_domain};
 
-use super::numbered::{Jump, StartAt, Stored};
+use super::numbered::{Jump, StartAt, StoreNodes};
 use super::parts::Parts;
 use auto_table::{NoMemory, Rule};
 use call_side::{Calls, IndexedBases, bases};
@@ -27,22 +31,20 @@ use demand_set::Demand;
 use demand_walk::EdgeAt;
 use link_program::Linked;
 use post_star::copies::copied;
-use post_star::{BaseStep, Common};
-use spds_cells::{Contracted, contract};
+use post_star::{BaseStep, Bases, Common};
+use rule_cells::{CellRules, cell_rules};
 use spds_nodes::is_node;
 use spds_rules::{EdgeKind, Node, StoreAt};
 use std::alloc::{AllocError, Global};
-use std::rc::Rc;
+use std::sync::Arc;
 use weight_laws::{Reach, Weight};
 
-/// The cell of a demanded node.
-fn cell_in(demand: &Demand, cells: &[u32], node: Node) -> u32
-    requires node { Has demand.now.nodes node }
-    requires cells { length cells.now ≡ length demand.now.nodes }
-    ensures { IsCellOf demand.now.nodes cells.now node result }
+/// The number of a demanded node.
+fn number_in(demand: &Demand, node: Node) -> u32
+    requires { Has demand.now.nodes node }
+    ensures { slice_get demand.now.nodes result ≡ Some node }
 {
-    let number = demand.number_of(node).unwrap_or(0);
-    cells[number as usize]
+    demand.number_of(node).unwrap_or(0)
 }
 
 /// The rule of an edge in field systems.
@@ -120,33 +122,6 @@ fn call_rules(alloc: Global, calls: &Calls, edges: &[EdgeAt]) -> Result<Vec<Rule
         add_call_rule(calls, *edge, &mut rules)?;
     }
     Ok(rules)
-}
-
-/// What the field systems have in common.
-fn common_fields(alloc: Global, edges: &[EdgeAt]) -> Result<Rc<Common<Reach>>, NoMemory>
-    ensures { IfOk result (λ common. common.value ≡ record { rules = map field_rule_of edges.now; steps = []; last = 0 }) }
-{
-    let rules = field_rules(alloc, edges)?;
-    let common = Common::new(alloc, rules, Vec::new(alloc), 0)?;
-    Ok(Rc::new(alloc, common)?)
-}
-
-/// What the call systems have in common.
-fn common_calls(
-    alloc: Global,
-    calls: &Calls,
-    edges: &[EdgeAt],
-    steps: &[BaseStep],
-    last: u32,
-) -> Result<Rc<Common<Reach>>, NoMemory>
-    requires { IsLed {W = AReach} [] steps.now last }
-    ensures rules { IfOk result (λ common. AreGathered (IsCallRuleOf calls.now) edges.now common.value.rules) }
-    ensures steps { IfOk result (λ common. common.value.steps ≡ steps.now) }
-    ensures last { IfOk result (λ common. common.value.last ≡ last) }
-{
-    let rules = call_rules(alloc, calls, edges)?;
-    let common = Common::new(alloc, rules, copied(alloc, steps)?, last)?;
-    Ok(Rc::new(alloc, common)?)
 }
 
 /// Puts the edge last, if it is one through a static field.
@@ -245,29 +220,139 @@ fn all_starts(
     Ok(all)
 }
 
-/// A store by the cells of its nodes.
-fn stored_at(demand: &Demand, cells: &[u32], store: StoreAt) -> Stored
+/// Puts the numbers of start nodes last.
+fn add_numbers(starts: &[StartAt], numbers: &mut Vec<u32>) -> Result<(), NoMemory>
+    ensures { OnOk result (numbers.new.items ≡ numbers.old.items ++ map (λ s. s.node) starts.now) }
+{
+    for start in starts {
+        numbers.push(start.node)?;
+    }
+    Ok(())
+}
+
+/// The numbers of the start nodes of all sites.
+fn start_numbers(alloc: Global, starts: &[Vec<StartAt>]) -> Result<Vec<u32>, NoMemory>
+    ensures { IfOk result (λ numbers. numbers.items ≡ start_nodes (map (λ v. v.items) starts.now)) }
+{
+    let mut numbers = Vec::new(alloc);
+    for row in starts {
+        add_numbers(row, &mut numbers)?;
+    }
+    Ok(numbers)
+}
+
+/// Puts the numbers of the nodes that static fields come to last.
+fn add_targets(jumps: &[Jump], numbers: &mut Vec<u32>) -> Result<(), NoMemory>
+    ensures { OnOk result (numbers.new.items ≡ numbers.old.items ++ map (λ j. j.to.node) jumps.now) }
+{
+    for jump in jumps {
+        numbers.push(jump.to.node)?;
+    }
+    Ok(())
+}
+
+/// The numbers of the start nodes of all sites, and of the nodes that static fields come to.
+fn open_numbers(
+    alloc: Global,
+    starts: &[Vec<StartAt>],
+    jumps: &[Jump],
+) -> Result<Vec<u32>, NoMemory>
+    ensures { IfOk result (λ numbers. numbers.items ≡ open_nodes (map (λ v. v.items) starts.now) jumps.now) }
+{
+    let mut numbers = start_numbers(alloc, starts)?;
+    add_targets(jumps, &mut numbers)?;
+    Ok(numbers)
+}
+
+/// The cells of nodes in one kind of system, and what the systems have in common.
+#[derive(Drop)]
+struct Side {
+    cells: Vec<u32>,
+    common: Arc<Common<Reach>>,
+}
+
+/// What systems over these rules have in common. The rules are between nodes; rules and starts that a system has of its own lead to nodes that are kept.
+fn contracted(
+    alloc: Global,
+    count: u32,
+    rules: &[Rule<Reach>],
+    kept: &[u32],
+    steps: Vec<BaseStep>,
+    last: u32,
+) -> Result<Side, NoMemory>
+    requires ones { (r : ARule AReach) → Has rules.now r → weight_of r ≡ reach_domain.one }
+    requires led { IsLed {W = AReach} [] steps.items last }
+    ensures cells { IfOk result (λ side. HaveCells reach_domain rules.now kept.now side.cells.items side.common.value.rules) }
+    ensures steps { IfOk result (λ side. side.common.value.steps ≡ steps.items) }
+    ensures last { IfOk result (λ side. side.common.value.last ≡ last) }
+{
+    let CellRules {
+        cells,
+        rules: between,
+    } = cell_rules(alloc, count, rules, kept)?;
+    let common = Common::new(alloc, between, steps, last)?;
+    let common = Arc::new(alloc, common)?;
+    Ok(Side { cells, common })
+}
+
+/// What the field systems have in common.
+fn common_fields(alloc: Global, demand: &Demand, starts: &[Vec<StartAt>]) -> Result<Side, NoMemory>
+    ensures cells { IfOk result (λ side. (edges : List AnEdge) × AreEdgesAt demand.now.nodes demand.now.edges edges
+        × HaveCells reach_domain (map field_rule_of edges) (start_nodes (map (λ v. v.items) starts.now)) side.cells.items side.common.value.rules) }
+    ensures steps { IfOk result (λ side. side.common.value.steps ≡ []) }
+    ensures last { IfOk result (λ side. side.common.value.last ≡ 0) }
+{
+    let count = count_of(demand.nodes().len())?;
+    let rules = field_rules(alloc, demand.numbered())?;
+    let kept = start_numbers(alloc, starts)?;
+    contracted(alloc, count, &rules, &kept, Vec::new(alloc), 0)
+}
+
+/// What the call systems have in common.
+fn common_calls(
+    alloc: Global,
+    demand: &Demand,
+    calls: &Calls,
+    starts: &[Vec<StartAt>],
+    jumps: &[Jump],
+    strings: Bases<'_>,
+) -> Result<Side, NoMemory>
+    requires { IsLed {W = AReach} [] strings.steps.now strings.last }
+    ensures cells { IfOk result (λ side. (edges : List AnEdge) × (rules : List (ARule AReach)) × AreEdgesAt demand.now.nodes demand.now.edges edges
+        × AreGathered (IsCallRuleOf calls.now) edges rules
+        × HaveCells reach_domain rules (open_nodes (map (λ v. v.items) starts.now) jumps.now) side.cells.items side.common.value.rules) }
+    ensures steps { IfOk result (λ side. side.common.value.steps ≡ strings.entry.steps.now) }
+    ensures last { IfOk result (λ side. side.common.value.last ≡ strings.entry.last) }
+{
+    let count = count_of(demand.nodes().len())?;
+    let rules = call_rules(alloc, calls, demand.numbered())?;
+    let kept = open_numbers(alloc, starts, jumps)?;
+    let steps = copied(alloc, strings.steps)?;
+    contracted(alloc, count, &rules, &kept, steps, strings.last)
+}
+
+/// A store by the numbers of its nodes.
+fn store_nodes(demand: &Demand, store: StoreAt) -> StoreNodes
     requires base { Has demand.now.nodes store.base }
     requires arg { Has demand.now.nodes store.arg }
-    requires cells { length cells.now ≡ length demand.now.nodes }
-    ensures { IsStoreOf demand.now.nodes cells.now store result }
+    ensures { IsStoreOf demand.now.nodes store result }
 {
-    Stored {
-        base: cell_in(demand, cells, store.base),
-        arg: cell_in(demand, cells, store.arg),
+    StoreNodes {
+        base: number_in(demand, store.base),
+        arg: number_in(demand, store.arg),
         field: store.field,
     }
 }
 
-/// The stores by cells.
-fn all_stores(alloc: Global, demand: &Demand, cells: &[u32]) -> Result<Vec<Stored>, NoMemory>
-    requires numbered { AreNumbered demand.now }
-    requires cells { length cells.now ≡ length demand.now.nodes }
-    ensures { IfOk result (λ stores. Each (IsStoreOf demand.now.nodes cells.now) demand.now.stores stores.items) }
+/// The stores by the numbers of their nodes.
+fn all_stores(alloc: Global, demand: &Demand) -> Result<Vec<StoreNodes>, NoMemory>
+    requires bases { (s : AStore) → Has demand.now.stores s → Has demand.now.nodes s.base }
+    requires args { (s : AStore) → Has demand.now.stores s → Has demand.now.nodes s.arg }
+    ensures { IfOk result (λ stores. Each (IsStoreOf demand.now.nodes) demand.now.stores stores.items) }
 {
     let mut stores = Vec::new(alloc);
     for store in demand.stores() {
-        stores.push(stored_at(demand, cells, *store))?;
+        stores.push(store_nodes(demand, *store))?;
     }
     Ok(stores)
 }
@@ -280,19 +365,27 @@ impl Parts {
         ensures are { IfOk result (λ parts. (q : Asked) → IsDemandOf linked.now q demand.now → ArePartsOf linked.now q demand.now parts) }
         ensures led { IfOk result (λ parts. AreLedIn parts) }
     {
-        let calls = Calls::new(alloc, linked)?;
-        let steps = bases(alloc, linked, &calls)?;
+        let places = Calls::new(alloc, linked)?;
+        let steps = bases(alloc, linked, &places)?;
         let root = linked.root();
-        let Contracted { cells, edges } = contract(alloc, demand)?;
+        let starts = all_starts(alloc, linked, demand, count_of(demand.sites().len())?)?;
+        let jumps = jumps(alloc, demand.nodes(), demand.numbered())?;
+        let fields = common_fields(alloc, demand, &starts)?;
+        let strings = Bases {
+            steps: &steps,
+            last: root,
+        };
+        let calls = common_calls(alloc, demand, &places, &starts, &jumps, strings)?;
         Ok(Parts {
-            fields: common_fields(alloc, &edges)?,
-            calls: common_calls(alloc, &calls, &edges, &steps, root)?,
+            fields: fields.common,
+            field_cells: fields.cells,
+            calls: calls.common,
+            call_cells: calls.cells,
             bases: IndexedBases::new(alloc, steps, root)?,
-            jumps: jumps(alloc, demand.nodes(), &edges)?,
-            starts: all_starts(alloc, linked, demand, count_of(demand.sites().len())?)?,
-            stores: all_stores(alloc, demand, &cells)?,
-            places: calls,
-            cells,
+            places,
+            jumps,
+            starts,
+            stores: all_stores(alloc, demand)?,
         })
     }
 }

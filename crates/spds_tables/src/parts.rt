@@ -1,20 +1,25 @@
 //! What the systems of all sites share.
-ghost use Rattle.std.specs.Prelude.{◌≡◌, ◌<◌, ℕ, Some, length, slice_get};
-ghost use Rattle.spds_tables.specs.Parts.{starts_at, store_at};
+ghost use Rattle.std.specs.Prelude.{◌≡◌, ◌<◌, length};
+ghost use Rattle.spds_tables.specs.Parts.{call_cell, cells_at, field_cell, starts_at, store_at, store_nodes_at};
 
-use super::numbered::{Jump, StartAt, Stored};
+use super::numbered::{CellsAt, Jump, StartAt, StoreNodes, Stored};
 use call_side::{Calls, IndexedBases};
 use post_star::Common;
-use std::rc::Rc;
+use rule_cells::number_of;
+use std::sync::Arc;
 use weight_laws::Reach;
 
 /// What the systems of all sites of a demand share.
 #[derive(Drop)]
 pub struct Parts {
-    /// What the field systems have in common: their rules but for those of stores.
-    pub fields: Rc<Common<Reach>>,
-    /// What the call systems have in common: their rules, and the call strings of methods.
-    pub calls: Rc<Common<Reach>>,
+    /// What the field systems have in common: their rules between cells, but for those of stores.
+    pub fields: Arc<Common<Reach>>,
+    /// The cell of each node in field systems.
+    pub field_cells: Vec<u32>,
+    /// What the call systems have in common: their rules between cells, and the call strings of methods.
+    pub calls: Arc<Common<Reach>>,
+    /// The cell of each node in call systems.
+    pub call_cells: Vec<u32>,
     /// The call strings of methods.
     pub bases: IndexedBases,
     /// The calls that marks stand for.
@@ -22,9 +27,7 @@ pub struct Parts {
     pub jumps: Vec<Jump>,
     /// The start nodes of each site.
     pub starts: Vec<Vec<StartAt>>,
-    pub stores: Vec<Stored>,
-    /// The cell of each node.
-    pub cells: Vec<u32>,
+    pub stores: Vec<StoreNodes>,
 }
 
 impl Parts {
@@ -36,18 +39,48 @@ impl Parts {
         self.starts[site as usize].as_slice()
     }
 
-    /// The store with the number.
-    pub fn stored(&self, store: u32) -> Stored
+    /// The nodes and the field of the store with the number.
+    pub fn store_nodes(&self, store: u32) -> StoreNodes
         requires { store < length self.now.stores.items }
-        ensures { result ≡ store_at self.now store }
+        ensures { result ≡ store_nodes_at self.now store }
     {
         self.stores[store as usize]
     }
 
-    /// The cell of the node with the number. What a number of no node gives is left open.
-    pub fn cell_of(&self, node: u32) -> u32
-        ensures { (cell : ℕ) → slice_get self.now.cells.items node ≡ Some cell → result ≡ cell }
+    /// The store with the number, by cells.
+    pub fn stored(&self, store: u32) -> Stored
+        requires { store < length self.now.stores.items }
+        ensures { result ≡ store_at self.now store }
     {
-        self.cells.get(node as usize).copied().unwrap_or(node)
+        let nodes = self.store_nodes(store);
+        Stored {
+            base: self.cells_of(nodes.base),
+            arg: self.cells_of(nodes.arg),
+            field: nodes.field,
+        }
+    }
+
+    /// The cell of a node in field systems. The number of no node is its own cell.
+    pub fn field_cell(&self, node: u32) -> u32
+        ensures { result ≡ field_cell self.now node }
+    {
+        number_of(&self.field_cells, node)
+    }
+
+    /// The cell of a node in call systems. The number of no node is its own cell.
+    pub fn call_cell(&self, node: u32) -> u32
+        ensures { result ≡ call_cell self.now node }
+    {
+        number_of(&self.call_cells, node)
+    }
+
+    /// Both cells of a node.
+    fn cells_of(&self, node: u32) -> CellsAt
+        ensures { result ≡ cells_at self.now node }
+    {
+        CellsAt {
+            fields: self.field_cell(node),
+            calls: self.call_cell(node),
+        }
     }
 }

@@ -63,8 +63,13 @@ fn fill(tables: &mut SiteTables, parts: &Parts, site: u32) -> Result<(), NoMemor
     ensures { OnOk result (AreBuilt parts.now site [] tables.new) }
 {
     let starts = parts.starts_of(site);
-    add_field_starts(&mut tables.fields, starts)?;
-    begin_all(&mut tables.calls, &mut tables.begun, starts)?;
+    add_field_starts(&mut tables.fields, &parts.field_cells, starts)?;
+    begin_all(
+        &mut tables.calls,
+        &mut tables.begun,
+        &parts.call_cells,
+        starts,
+    )?;
     Ok(())
 }
 
@@ -118,16 +123,6 @@ pub fn share(
     Ok(shared.is_some())
 }
 
-/// Puts the node last, if some call string is there.
-fn add_held(arrivals: &IndexSet<u32>, node: u32, nodes: &mut Vec<u32>) -> Result<(), NoMemory>
-    ensures { OnOk result ((n : ℕ) → Has nodes.new.items n ↔ (Has nodes.old.items n ⊎ ((n ≡ node) × Has arrivals.now.keys n))) }
-{
-    if arrivals.contains(&node) {
-        nodes.push(node)?;
-    }
-    Ok(())
-}
-
 impl SiteTables {
     /// The tables of a site without meets. They aren't settled.
     pub fn new(alloc: Global, parts: &Parts, site: u32) -> Result<Self, NoMemory>
@@ -162,7 +157,7 @@ impl SiteTables {
         ensures undone { OnOk result (self.new.done ≡ false) }
     {
         self.done = false;
-        begin_all(&mut self.calls, &mut self.begun, starts)?;
+        begin_all(&mut self.calls, &mut self.begun, &parts.call_cells, starts)?;
         Ok(())
     }
 
@@ -179,7 +174,12 @@ impl SiteTables {
             let starts = parts.starts_of(met.base);
             self.open(parts, starts)?;
             self.mets.push(met)?;
-            add_pushes(&mut self.fields, parts.stored(met.store), starts)?;
+            add_pushes(
+                &mut self.fields,
+                &parts.field_cells,
+                parts.store_nodes(met.store),
+                starts,
+            )?;
         }
         Ok(())
     }
@@ -236,21 +236,6 @@ impl SiteTables {
         ensures { IsTrue result ↔ Reaches self.now.fields node [] }
     {
         self.fields.table().at(Entry::Base(0), node).0
-    }
-
-    /// The cells whose nodes may hold an object of the site: at which the empty word is in the field system, and some call string is.
-    pub fn held(&self, alloc: Global) -> Result<Vec<u32>, NoMemory>
-        requires fields { self.now.fields.settled ≡ true }
-        requires last { self.now.fields.last ≡ 0 }
-        requires calls { self.now.calls.settled ≡ true }
-        ensures { IfOk result (λ nodes. (n : ℕ) → Has nodes.items n ↔ (Reaches self.now.fields n [] × ArrivesAt self.now.calls n)) }
-    {
-        let arrivals = self.arrivals(alloc)?;
-        let mut nodes = Vec::new(alloc);
-        for reached in self.fields.table().row(Entry::Base(0)) {
-            add_held(&arrivals, reached.node, &mut nodes)?;
-        }
-        Ok(nodes)
     }
 
     /// How much both tables hold.

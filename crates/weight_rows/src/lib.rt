@@ -12,3 +12,5 @@ mod marks;
 mod saturation;
 #[cfg(test)]
 mod tables;
+#[cfg(test)]
+mod worked;

@@ -4,7 +4,7 @@ use Rattle.post_star.proofs.Sweeping.{begin_none, begin_goes, begin_all}
 use Rattle.post_star.proofs.over_words.begin.Goals as goal
 
 pub loop-entry-init : goal.loop-entry-init
-loop-entry-init g c = begin_none g.met.W.Weight.laws c.args.table.now c.entries-entries.ensures.meant c.args.node c.entries-entries.result.now c.entries-entries.ensures.listed c.args.sums.now c.args.items.now.items c.requires.blank c.requires.empty
+loop-entry-init g c = begin_none g.met.W.Weight.laws c.args.table.now c.entries-entries.ensures.meant c.args.node c.entries-entries.result.now c.entries-entries.ensures.listed c.args.sums.now.table c.args.sums.now.items.items c.requires.blank c.requires.empty
 
 pub loop-entry-preserved : goal.loop-entry-preserved
 loop-entry-preserved g c = begin_goes g.met.W.Weight.laws c.args.table.now c.entries-entries.ensures.meant c.args.node c.entries-entries.result.now c.entries-entries.ensures.listed c.loop-entry.entry-index _ c.at.result

@@ -8,7 +8,7 @@ use Rattle.post_star.proofs.Sweeping.{up_begins, up_goes, up_ends}
 use Rattle.post_star.proofs.over_words.climb.Goals as goal
 
 pub loop-linked-init : goal.loop-linked-init
-loop-linked-init g c = up_begins g.met.W.Weight.laws c.args.table.now c.parents-parents.ensures.meant c.args.node c.args.pushed c.args.mark c.parents-parents.result.now c.parents-parents.ensures.each c.args.items.now.items c.at-so_far.result c.at-so_far.ensures c.requires.sweeping c.requires.begun
+loop-linked-init g c = up_begins g.met.W.Weight.laws c.args.table.now c.parents-parents.ensures.meant c.args.node c.args.pushed c.args.mark c.parents-parents.result.now c.parents-parents.ensures.each c.args.sums.now.items.items c.at-so_far.result c.at-so_far.ensures c.requires.sweeping c.requires.begun
 
 pub loop-linked-preserved : goal.loop-linked-preserved
 loop-linked-preserved g c = up_goes g.met.W.Weight.laws c.args.table.now c.parents-parents.ensures.meant c.args.node c.args.pushed c.args.mark c.parents-parents.result.now c.parents-parents.ensures.each c.at-so_far.result c.at-so_far.ensures

@@ -5,5 +5,5 @@ use Rattle.post_star.proofs.work.finish.Goals as goal
 
 pub take_starts-requires-clause-begun : goal.take_starts-requires-clause-begun
 take_starts-requires-clause-begun g c =
-    let waits = taken_behind g.W.Weight.domain c.args.system.now.rules.now c.args.system.now.own.now c.args.table.now c.in_ok-items.items.items c.args.taken c.in_ok-items.ensures in
+    let waits = taken_behind g.W.Weight.domain c.args.system.now.common.rules.now c.args.system.now.own.rules.now c.args.rising.now.table c.in_ok-items.items.items c.args.taken c.in_ok-items.ensures in
     begun_taken g.met.W.Weight.laws _ c.requires.told c.requires.sound _ _ c.args.begun c.requires.closed waits (decide_by g.W.Weight.domain g.W.PartialEq.eq g.met.W.Weight.same g.met.W.Eq.laws.refl)

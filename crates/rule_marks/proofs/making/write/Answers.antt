@@ -23,8 +23,8 @@ returns-then-enters g c =
     let s = splitting_of c.args.rooms.now.of_nodes.now c.args.rooms.now.are_split.now c.args.rooms.now.common home in
     subst (λ (q : Rule g.row.W.Denot). IsWriting d s (rules ++ q ∷ []) c.put_both.new.rules.items c.put_both.new.flags c.args.exits.now) (sym c.in-Push.is)
     (writes_push d s rules c.in-Push.from c.in-Push.to c.in-Push.mark c.in-Push.weight (Push c.in-Push.from (s.entry c.in-Push.to) c.in-Push.mark c.in-Push.weight)
-    (Push (s.entry c.in-Push.to) c.in-Push.to s.common c.one.result) c.args.rules.now.items c.put_both.new.rules.items c.args.entries.now c.args.exits.now c.put_both.new.flags
-    (sym c.splits_node-enters.ensures.value ∙ c.if-enters.true) refl (ap (λ (w : g.row.W.Denot). Push (s.entry c.in-Push.to) c.in-Push.to s.common w) c.one.ensures)
+    c.push_common-common.result c.args.rules.now.items c.put_both.new.rules.items c.args.entries.now c.args.exits.now c.put_both.new.flags
+    (sym c.splits_node-enters.ensures.value ∙ c.if-enters.true) refl c.push_common-common.ensures
     adds c.put_both.ensures.flags was))
     c.put_both.ensures.rules
 
@@ -48,9 +48,9 @@ returns-then-leaves g c =
     (λ (q : Rule g.row.W.Denot). IsWriting d s (rules ++ q ∷ []) c.put_both-then-leaves.new.rules.items c.args.entries.now c.put_both-then-leaves.new.flags)
     (sym c.in-Pop.is)
     (writes_pop d s rules c.in-Pop.from c.in-Pop.mark c.in-Pop.to c.in-Pop.weight (Pop (s.exit c.in-Pop.from) c.in-Pop.mark c.in-Pop.to c.in-Pop.weight)
-    (Pop c.in-Pop.from s.common (s.exit c.in-Pop.from) c.one-then-leaves.result) c.args.rules.now.items c.put_both-then-leaves.new.rules.items c.args.entries.now
+    c.pop_common-common.result c.args.rules.now.items c.put_both-then-leaves.new.rules.items c.args.entries.now
     c.args.exits.now c.put_both-then-leaves.new.flags (sym c.splits_node-leaves.ensures.value ∙ c.if-leaves.true) refl
-    (ap (λ (w : g.row.W.Denot). Pop c.in-Pop.from s.common (s.exit c.in-Pop.from) w) c.one-then-leaves.ensures) adds c.put_both-then-leaves.ensures.flags was))
+    c.pop_common-common.ensures adds c.put_both-then-leaves.ensures.flags was))
     c.put_both-then-leaves.ensures.rules
 
 pub returns-else-leaves : goal.returns-else-leaves

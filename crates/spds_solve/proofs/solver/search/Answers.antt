@@ -1,11 +1,12 @@
-use Rattle.std.proofs.Common.{◌≡◌, ◌+◌, ◌-◌, ◌<◌, ◌≤◌, ℕ, Bool, List, true, false, length, ap, subst, sym, if◌then◌else◌, refl, arith}
+use Rattle.std.proofs.Common.{◌≡◌, ◌+◌, ◌-◌, ◌<◌, ◌≤◌, ℕ, Bool, List, [], true, false, length, ap, subst, sym, if◌then◌else◌, refl, arith}
 use Rattle.std.specs.declared.result.Result.TheVariants.{Ok}
 use Rattle.spds_solve.specs.declared.met.Met.{Met}
 use Rattle.spds_solve.specs.Composing.{AreComposed}
-use Rattle.spds_solve.specs.Mets.{numbers_of}
-use Rattle.spds_solve.specs.Searches.{AllBuilt, AreFoundBy}
-use Rattle.spds_solve.proofs.Composing.{composed_longer, joined_longer, length_longer}
-use Rattle.spds_solve.proofs.Turns.{all_mets, front_before, front_kept, mets_few, settled_built}
+use Rattle.spds_solve.specs.Looks.{AreLooked}
+use Rattle.spds_solve.specs.Searches.{AreFoundBy}
+use Rattle.spds_solve.proofs.Composing.{composed_longer, has_longer, joined_longer, length_longer}
+use Rattle.spds_solve.proofs.Looking.{looked_more, looked_none}
+use Rattle.spds_solve.proofs.Turns.{all_mets, front_before, front_kept, mets_few}
 use Rattle.spds_solve.proofs.Whole.{joined_inside}
 use Rattle.spds_solve.proofs.solver.search.Goals as goal
 use Rattle.spds_tables.specs.declared.numbered.Met.{Met as Numbers}
@@ -15,7 +16,8 @@ loop-goes_on-init c = record {
   taken = omega arith;
   inside = rw c.requires.none (λ k d below. absurd (omega arith));
   apart = rw c.requires.none (λ i j x a b. cc);
-  built = c.requires.built;
+  looked = looked_none c.args.linked.now c.args.sites.now c.args.parts.now [] c.args.mets.now c.args.tables.now c.new-known.result c.requires.changed c.requires.taken
+      (c.new-known.ensures c.args.parts.now c.args.mets.now);
   composed = subst (λ (xs : List Met). AreComposed xs c.new-ways.result) (sym c.requires.none) c.new-ways.ensures;
   found = rw c.requires.none AreFoundBy.none;
   done = λ e. cc;
@@ -31,11 +33,14 @@ turn-requires-clause-taken c =
     let was = c.loop-goes_on.invariant.taken in
     omega arith
 
-pub turn-requires-clause-built : goal.turn-requires-clause-built
-turn-requires-clause-built c =
-    let longer = joined_longer c.loop-goes_on.mets c.in_ok-compose.ensures.joined in
-    let kept = front_kept c.loop-goes_on.mets c.compose.new.mets longer c.loop-goes_on.taken c.loop-goes_on.invariant.taken in
-    subst (λ (xs : List Numbers). AllBuilt c.args.parts.now xs c.loop-goes_on.tables.items) (sym kept) c.loop-goes_on.invariant.built
+pub turn-requires-clause-looked : goal.turn-requires-clause-looked
+turn-requires-clause-looked c =
+    let old = c.loop-goes_on.mets in
+    let mid = c.compose.new.mets in
+    let longer = joined_longer old c.in_ok-compose.ensures.joined in
+    let kept = front_kept old mid longer c.loop-goes_on.taken c.loop-goes_on.invariant.taken in
+    subst (λ (xs : List Numbers). AreLooked c.args.linked.now c.args.sites.now c.args.parts.now xs mid c.loop-goes_on.tables c.loop-goes_on.known) (sym kept)
+    (looked_more c.args.linked.now c.args.sites.now c.args.parts.now _ old mid c.loop-goes_on.tables c.loop-goes_on.known (has_longer old mid longer) c.loop-goes_on.invariant.looked)
 
 pub turn-requires-clause-found : goal.turn-requires-clause-found
 turn-requires-clause-found c = AreFoundBy.composed c.loop-goes_on.mets c.loop-goes_on.invariant.found c.in_ok-compose.ensures.joined
@@ -51,7 +56,7 @@ loop-goes_on-preserved c =
       taken = rw before (length_longer mid new turn.behind);
       inside = turn.mets;
       apart = turn.apart;
-      built = rw before (rw (front_before mid new turn.behind) (settled_built c.args.parts.now (numbers_of mid) c.turn.new.tables.items turn.settled));
+      looked = rw before (rw (front_before mid new turn.behind) turn.looked);
       composed = composed_longer mid new turn.behind c.compose.new.ways c.in_ok-compose.ensures.composed;
       found = turn.found;
       done = λ e. turn.done (ap Ok e);

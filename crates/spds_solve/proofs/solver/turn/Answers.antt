@@ -1,63 +1,86 @@
-use Rattle.std.proofs.Common.{◌≡◌, ◌<◌, List, ltb, false, length, take, drop, ◌++◌, ◌∙◌, ap, sym, ℕ, arith}
-use Rattle.std.proofs.lemmas.List.{append-nil, drop_all, length-map, take_all}
+use Rattle.std.proofs.Common.{◌≡◌, ltb, false, length, arith}
+use Rattle.std.proofs.lemmas.List.{length-map}
 use Rattle.std.proofs.lemmas.Bool.{ltb-false}
-use Rattle.jim_ast.specs.Lists.{Has}
 use Rattle.spds_solve.specs.Mets.{numbers, numbers_of}
-use Rattle.spds_solve.specs.Searches.{AllSettled, IsCandidate}
-use Rattle.spds_solve.proofs.Opening.{found_open}
+use Rattle.spds_solve.specs.Searches.{AllSettled, AreTaken}
+use Rattle.spds_solve.proofs.Looking.{looked_all, still_met, still_noted}
+use Rattle.spds_solve.proofs.Opening.{found_next}
 use Rattle.spds_solve.proofs.Turns.{turn_complete, turn_found, turn_inside}
 use Rattle.spds_solve.proofs.solver.turn.Goals as goal
-use Rattle.spds_solve.proofs.solver.turn.Goals.{After-as_slice-2}
-use Rattle.spds_tables.specs.declared.numbered.Met.{Met as Numbers}
-use Rattle.spds_tables.specs.declared.tables.SiteTables.{SiteTables}
+use Rattle.spds_solve.proofs.solver.turn.Goals.{In_ok-bring}
 
--- a vector whose elements were written as a slice
-slice_kept : (new old : List SiteTables) (n : ℕ) → n ≡ length old → length new ≡ length old → take n (new ++ drop (length new) old) ≡ new
-slice_kept new old n e same =
-    ap (λ (xs : List SiteTables). take n (new ++ xs)) (drop_all (length new) old (omega arith)) ∙ ap (take n) (append-nil new) ∙ take_all n new (omega arith)
+module _ (c : In_ok-bring) where
+  settled : AllSettled c.args.given.now.parts.now (numbers_of c.args.mets.now) c.bring.new.self.each.items
+  settled = rw c.numbers.ensures at c.in_ok-bring.ensures.settled
 
-module _ (c : After-as_slice-2) where
-  settled : AllSettled c.args.parts.now (numbers_of c.args.mets.now) c.as_slice.result.now
-  settled =
-      let all = rw c.numbers.ensures at c.in_ok-refresh.ensures in
-      let old = c.args.tables.now in
-      let new = c.refresh.new.tables in
-      let count = all.count ∙ sym c.requires.built.count in
-      rw (c.as_slice.ensures.value, slice_kept new old.items old.len (omega (arith, old.ok.0)) count) all
+  taken : AreTaken c.args.given.now.parts.now (numbers_of c.args.mets.now) c.bring.new.self
+  taken = rw c.numbers.ensures at c.in_ok-bring.ensures.taken
 
-  all : (m : Numbers) → m.store < length c.args.parts.now.stores.items
-      → IsCandidate c.args.linked.now c.args.sites.now c.args.parts.now c.as_slice.result.now m → Has (numbers_of c.try_stores.new.mets) m
-  all m low = c.in_ok-try_stores.ensures.all m (omega (arith, c.args.parts.now.stores.ok.0))
+pub bring-requires-clause-mets : goal.bring-requires-clause-mets
+bring-requires-clause-mets c = rw c.numbers.ensures c.requires.mets
 
-pub refresh-requires-clause-mets : goal.refresh-requires-clause-mets
-refresh-requires-clause-mets c = rw c.numbers.ensures c.requires.mets
+pub bring-requires-clause-low : goal.bring-requires-clause-low
+bring-requires-clause-low c = rw c.numbers.ensures (omega (arith, length-map c.args.mets.now numbers))
 
-pub refresh-requires-clause-taken : goal.refresh-requires-clause-taken
-refresh-requires-clause-taken c = rw c.numbers.ensures (omega (arith, length-map c.args.mets.now numbers))
+pub bring-requires-clause-opens : goal.bring-requires-clause-opens
+bring-requires-clause-opens c = let given = c.args.given.now in rw c.numbers.ensures (found_next given.parts.now given.linked.now given.sites.now c.args.mets.now c.requires.found)
 
-pub refresh-requires-clause-opens : goal.refresh-requires-clause-opens
-refresh-requires-clause-opens c = rw c.numbers.ensures (found_open c.args.parts.now c.args.linked.now c.args.sites.now c.args.mets.now c.requires.found)
+pub bring-requires-clause-taken : goal.bring-requires-clause-taken
+bring-requires-clause-taken c = rw c.numbers.ensures c.requires.looked.taken
+
+pub look-requires-clause-view : goal.look-requires-clause-view
+look-requires-clause-view c = record {
+  mets = numbers_of c.args.mets.now;
+  settled = settled (goal.at.look-requires-clause-view c).In_ok-bring;
+  sites = c.requires.sites;
+  ends = c.requires.ends;
+}
+
+pub look-requires-clause-known : goal.look-requires-clause-known
+look-requires-clause-known c = c.requires.looked.known
+
+pub look-requires-clause-flags : goal.look-requires-clause-flags
+look-requires-clause-flags c = (taken (goal.at.look-requires-clause-flags c).In_ok-bring).flags
+
+pub look-requires-clause-noted : goal.look-requires-clause-noted
+look-requires-clause-noted c =
+    let given = c.args.given.now in
+    still_noted given.linked.now given.sites.now given.parts.now _ c.args.mets.now c.args.tables.now c.bring.new.self c.args.known.now c.requires.looked c.in_ok-bring.ensures.still
+
+pub look-requires-clause-met : goal.look-requires-clause-met
+look-requires-clause-met c =
+    let given = c.args.given.now in
+    still_met given.linked.now given.sites.now given.parts.now _ c.args.mets.now c.args.tables.now c.bring.new.self c.args.known.now c.requires.looked c.in_ok-bring.ensures.still
 
 pub returns-clause-mets : goal.returns-clause-mets
 returns-clause-mets c =
-    let at = (goal.at.returns-clause-mets c).After-as_slice-2 in
-    turn_inside c.args.linked.now c.args.sites.now c.args.parts.now c.args.mets.now c.try_stores.new.mets c.as_slice.result.now (settled at)
-    c.in_ok-try_stores.ensures.grown c.requires.mets
+    let at = (goal.at.returns-clause-mets c).In_ok-bring in
+    let given = c.args.given.now in
+    turn_inside given.linked.now given.sites.now given.parts.now c.args.mets.now c.look.new.mets c.bring.new.self.each.items (settled at) c.in_ok-look.ensures.grown c.requires.mets
 
 pub returns-clause-behind : goal.returns-clause-behind
-returns-clause-behind c = let grown = c.in_ok-try_stores.ensures.grown in (grown.behind, grown.are)
+returns-clause-behind c = let grown = c.in_ok-look.ensures.grown in (grown.behind, grown.are)
 
 pub returns-clause-found : goal.returns-clause-found
 returns-clause-found c =
-    let at = (goal.at.returns-clause-found c).After-as_slice-2 in
-    turn_found c.args.linked.now c.args.sites.now c.args.parts.now c.args.mets.now c.try_stores.new.mets c.as_slice.result.now (settled at)
-    c.in_ok-try_stores.ensures.grown c.requires.found
+    let at = (goal.at.returns-clause-found c).In_ok-bring in
+    let given = c.args.given.now in
+    turn_found given.linked.now given.sites.now given.parts.now c.args.mets.now c.look.new.mets c.bring.new.self.each.items (settled at) c.in_ok-look.ensures.grown c.requires.found
+
+pub returns-clause-looked : goal.returns-clause-looked
+returns-clause-looked c =
+    let at = (goal.at.returns-clause-looked c).In_ok-bring in
+    let given = c.args.given.now in
+    let look = c.in_ok-look.ensures in
+    looked_all given.linked.now given.sites.now given.parts.now (numbers_of c.args.mets.now) c.look.new.mets c.bring.new.self c.rest.new.self c.look.new.known
+    (taken at) (settled at) c.rest.ensures.each c.rest.ensures.count look.known look.noted look.closed
 
 pub returns-clause-done : goal.returns-clause-done
 returns-clause-done c e =
-    let at = (goal.at.returns-clause-done c).After-as_slice-2 in
-    let test : ltb (length c.as_slice-before.result.now) (length c.as_slice-2.result.now) ≡ false = cc in
-    let short = rw (c.as_slice-before.ensures.value, c.as_slice-2.ensures.value) at (ltb-false _ _ test) in
-    rw (← c.as_slice.ensures.value)
-    (turn_complete c.args.linked.now c.args.sites.now c.args.parts.now c.args.mets.now c.try_stores.new.mets c.as_slice.result.now (settled at)
-    c.in_ok-try_stores.ensures.grown (all at) short c.requires.found)
+    let at = (goal.at.returns-clause-done c).In_ok-bring in
+    let given = c.args.given.now in
+    let test : ltb (length c.as_slice-before.result.now) (length c.as_slice.result.now) ≡ false = cc in
+    let short = rw (c.as_slice-before.ensures.value, c.as_slice.ensures.value) at (ltb-false _ _ test) in
+    rw c.rest.ensures.each
+    (turn_complete given.linked.now given.sites.now given.parts.now c.args.mets.now c.look.new.mets c.bring.new.self.each.items (settled at)
+    c.in_ok-look.ensures.grown c.in_ok-look.ensures.closed short c.requires.found)

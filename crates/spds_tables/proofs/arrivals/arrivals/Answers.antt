@@ -1,6 +1,6 @@
 use Rattle.std.proofs.Common.{arith}
 use Rattle.spds_tables.proofs.Arriving.{gathered_read, IsNodeOf, none_there}
-use Rattle.spds_cells.proofs.Gathered.{gathered_all, gathered_more}
+use Rattle.spds_tables.proofs.Gathered.{gathered_all, gathered_more}
 use Rattle.spds_tables.proofs.arrivals.arrivals.Goals as goal
 
 pub loop-entry-init : goal.loop-entry-init

@@ -7,4 +7,4 @@ use Rattle.spds_tables.proofs.asking.ask_jumps.Given as goal
 abbrev pub invariant-loop-jump : goal.invariant-loop-jump
 invariant-loop-jump l =
     (s : StartAt) → Has l.asked.items s
-    ↔ (Has l.initial.asked.items s ⊎ (IsJumpedTo (take l.jump-index l.jumps) l.tables.calls s × (Has l.tables.begun s → ⊥)))
+    ↔ (Has l.initial.asked.items s ⊎ (IsJumpedTo l.cells (take l.jump-index l.jumps) l.tables.calls s × (Has l.tables.begun s → ⊥)))

@@ -18,12 +18,13 @@ begin_all-requires-clause-led c s has =
 
 pub returns : goal.returns
 returns c =
-    let starts = rw c.starts_of-starts.ensures at c.in_ok-add_field_starts.ensures in
+    let starts = rw (c.deref.ensures.value, c.starts_of-starts.ensures) at c.in_ok-add_field_starts.ensures in
     let now = c.in_ok-begin_all.ensures in
+    let tied = rw c.deref-2.ensures.value at now.tied in
     let own = rw (c.starts_of-starts.ensures, c.requires.begun) at now.begun in
     record {
       fields = fields_filled c.args.parts.now c.args.site c.requires.led _ _ c.requires.fields starts;
-      calls = calls_filled c.args.parts.now c.args.site c.requires.led _ _ _ c.requires.calls now.steps now.last now.rules now.tied;
+      calls = calls_filled c.args.parts.now c.args.site c.requires.led _ _ _ c.requires.calls now.steps now.last now.rules tied;
       opened = λ s has. elim ((own s).0 has) [ inl a ↦ cc a.1 | inr b ↦ Opens.own b ];
       own = λ s has. (own s).1 (inr has);
       stored = λ m. rw c.requires.mets (λ has s among. cc has.1);

@@ -9,7 +9,7 @@ invariant-loop-start l = record {
   steps : l.work.steps ≡ l.initial.work.steps;
   last : l.work.last ≡ l.initial.work.last;
   rules : l.work.rules ≡ l.initial.work.rules;
-  tied : l.work.starts ≡ map call_start l.begun;
+  tied : l.work.starts ≡ map (call_start l.cells) l.begun;
   begun : (s : StartAt) → Has l.begun s ↔ (Has l.initial.begun s ⊎ Has (take l.start-index l.starts) s);
   apart : IsApart l.initial.begun → IsApart l.begun;
   behind : (behind : List StartAt) × (l.begun ≡ l.initial.begun ++ behind);

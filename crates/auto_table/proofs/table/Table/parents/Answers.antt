@@ -1,26 +1,19 @@
-use Rattle.std.proofs.Common.{◌∙◌, ap, sym, arith}
-use Rattle.auto_table.specs.contracts.entry.EntryPartialEq.TheImpl as entry
-use Rattle.auto_table.proofs.Keys.{slice_get-position, not-found}
-use Rattle.auto_table.proofs.Same.{same_entry, self_entry}
-use Rattle.auto_table.proofs.Steps.{number_row}
-use Rattle.auto_table.proofs.Written.{parents_row}
-use Rattle.auto_table.proofs.RowReads.{linked_at, parents_none}
+use Rattle.std.proofs.Common.{refl, arith}
+use Rattle.lists.proofs.Places.{slice_get-below}
+use Rattle.auto_table.proofs.RowReads.{link_row, link_row_none}
 use Rattle.auto_table.proofs.table.Table.parents.Goals as goal
 
-pub index-requires : goal.index-requires
-index-requires g c = omega (arith, c.self.inside.rows.ok.0, number_row g.W.Weight.domain c.self.invariant c.in-Some.row c.args.child (slice_get-position entry.eq-value.it same_entry self_entry c.self.inside.numbers.keys c.args.child c.in-Some.row c.in-Some.ensures.index))
+pub row-requires : goal.row-requires
+row-requires g c = omega (arith, slice_get-below c.self.inside.names.keys c.in-Some.row c.args.child ((c.in-Some.ensures c.in-Some.row).0 refl), c.self.invariant.laid.parent_rows)
 
 pub returns-in-Some-clause-each : goal.returns-in-Some-clause-each
-returns-in-Some-clause-each g c =
-    let at = slice_get-position entry.eq-value.it same_entry self_entry c.self.inside.numbers.keys c.args.child c.in-Some.row c.in-Some.ensures.index in
-    let same = parents_row c.self.inside.rows.items c.in-Some.row c.index.result.now (number_row g.W.Weight.domain c.self.invariant c.in-Some.row c.args.child at) ∙ ap (λ r. r.parents.items) (sym c.index.ensures) in
-    rw (← c.self.view_is, c.as_slice.ensures.value, ← same) (linked_at g.W.Weight.domain c.self.invariant c.args.child c.in-Some.row at)
-
-pub returns-in-None-clause-each : goal.returns-in-None-clause-each
-returns-in-None-clause-each g c = rw (← c.self.view_is) (parents_none g.W.Weight.domain c.self.invariant c.args.child (not-found entry.eq-value.it same_entry self_entry c.self.inside.numbers.keys c.args.child (sym c.in-None.ensures.found)))
+returns-in-Some-clause-each g c = rw (← c.self.view_is, c.row.ensures) (link_row g.W.Weight.domain (record { names = c.self.inside.names.keys; reached = c.self.inside.weights.rows; parents = c.self.inside.links.rows }) c.self.inside.weights.keys c.self.inside.weights.places c.self.inside.links.keys c.self.inside.links.places c.self.invariant.laid c.args.child c.in-Some.row ((c.in-Some.ensures c.in-Some.row).0 refl))
 
 pub returns-in-Some-clause-meant : goal.returns-in-Some-clause-meant
-returns-in-Some-clause-meant g c = rw (← c.self.view_is) c.self.invariant.held.meant
+returns-in-Some-clause-meant g c = rw (← c.self.view_is) c.self.invariant.laid.meant
+
+pub returns-in-None-clause-each : goal.returns-in-None-clause-each
+returns-in-None-clause-each g c = rw (← c.self.view_is) (link_row_none g.W.Weight.domain (record { names = c.self.inside.names.keys; reached = c.self.inside.weights.rows; parents = c.self.inside.links.rows }) c.self.inside.weights.keys c.self.inside.weights.places c.self.inside.links.keys c.self.inside.links.places c.self.invariant.laid c.args.child (λ k. let e = (c.in-None.ensures k.0).1 k.1 in cc))
 
 pub returns-in-None-clause-meant : goal.returns-in-None-clause-meant
-returns-in-None-clause-meant g c = rw (← c.self.view_is) c.self.invariant.held.meant
+returns-in-None-clause-meant g c = rw (← c.self.view_is) c.self.invariant.laid.meant

@@ -1,20 +1,17 @@
-use Rattle.std.proofs.Common.{◌∙◌, ap, sym, map, [], arith}
+use Rattle.std.proofs.Common.{◌∙◌, [], ap, map, refl, sym, arith}
+use Rattle.lists.specs.Filings.{row}
+use Rattle.lists.proofs.Places.{slice_get-below}
 use Rattle.std.proofs.lemmas.List.{get_or-map}
-use Rattle.post_star.specs.Groups.{found_at}
-use Rattle.post_star.proofs.Groups.{group_of}
+use Rattle.post_star.proofs.Groups.{found-none, found-there}
 use Rattle.post_star.proofs.Scopes.{length_map}
 use Rattle.post_star.proofs.by_key.ByKey.at.Goals as goal
 
 pub index-requires : goal.index-requires
-index-requires g c = omega (arith, c.self.inside.groups.ok.0, c.self.invariant.within c.args.key c.in-Some.field-0.now (sym c.in-Some.ensures.value), length_map (λ v. v.items) c.self.inside.groups.items)
+index-requires g c = omega (arith, slice_get-below c.self.inside.keys.keys c.in-Some.number c.args.key ((c.in-Some.ensures c.in-Some.number).0 refl), c.self.invariant.as_many, length_map (λ v. v.items) c.self.inside.groups.items, c.self.inside.groups.ok.0)
 
 pub returns-in-Some : goal.returns-in-Some
-returns-in-Some g c =
-    let low = c.self.invariant.within c.args.key c.in-Some.field-0.now (sym c.in-Some.ensures.value) in
-    c.as_slice.ensures.value ∙ ap (λ v. v.items) c.index.ensures
-    ∙ sym (get_or-map (λ v. v.items) c.self.inside.groups.items c.in-Some.field-0.now c.index.result.now [] (omega (arith, low, length_map (λ v. v.items) c.self.inside.groups.items)))
-    ∙ ap (group_of (map (λ v. v.items) c.self.inside.groups.items)) c.in-Some.ensures.value
-    ∙ ap (λ x. found_at x c.args.key) c.self.view_is
+returns-in-Some g c = rw (← c.self.view_is) (c.as_slice.ensures.value ∙ ap (λ v. v.items) c.index.ensures ∙ sym (get_or-map (λ v. v.items) c.self.inside.groups.items c.in-Some.number c.index.result.now [] (omega (arith, slice_get-below c.self.inside.keys.keys c.in-Some.number c.args.key ((c.in-Some.ensures c.in-Some.number).0 refl), c.self.invariant.as_many, length_map (λ v. v.items) c.self.inside.groups.items)))
+    ∙ sym (found-there c.self.inside.keys.keys (row (map (λ v. v.items) c.self.inside.groups.items)) c.args.key c.in-Some.number c.self.invariant.apart ((c.in-Some.ensures c.in-Some.number).0 refl)))
 
 pub returns-in-None : goal.returns-in-None
-returns-in-None g c = ap (group_of (map (λ v. v.items) c.self.inside.groups.items)) c.in-None.ensures.value ∙ ap (λ x. found_at x c.args.key) c.self.view_is
+returns-in-None g c = rw (← c.self.view_is) (sym (found-none c.self.inside.keys.keys (row (map (λ v. v.items) c.self.inside.groups.items)) c.args.key (λ k. let e = (c.in-None.ensures k.0).1 k.1 in cc)))

@@ -3,13 +3,11 @@ use Rattle.std.proofs.lemmas.Bool.{ltb-true, ltb-false}
 use Rattle.jim_ast.proofs.Places.{slice_get-below}
 use Rattle.link_indexes.proofs.Grown.{slice_get-read}
 use Rattle.link_laws.proofs.Lists.{at_map, map_at}
-use Rattle.post_star.specs.Jobs.{Job}
 use Rattle.spds_solve.specs.Solved.{IsOfBases, SpellsCalls}
-use Rattle.spds_solve.proofs.Celled.{cell_there, strings_shared}
+use Rattle.spds_solve.proofs.Celled.{strings_shared}
 use Rattle.spds_solve.proofs.solved.Solved.together.Goals as goal
 use Rattle.spds_solve.proofs.solved.Solved.together.Goals.{In-Some}
 use Rattle.spds_tables.specs.declared.tables.SiteTables.{SiteTables}
-use Rattle.weight_laws.specs.declared.reach.Reach.{Reach}
 
 module _ (c : In-Some) where
   -- the tables of the site
@@ -20,14 +18,14 @@ module _ (c : In-Some) where
       (slice_get-read c.deref.result.now c.args.site c.in-Some.tables.now (omega arith) c.in-Some.ensures.lookup.1)
 
   -- are over the bases
-  of_bases : IsOfBases c.self.inside.parts.bases c.in-Some.tables.now.calls
+  of_bases : IsOfBases c.self.inside.parts.bases c.in-Some.tables.now
   of_bases = c.self.invariant c.in-Some.tables.now (c.args.site, there)
 
 pub share-requires-clause-first : goal.share-requires-clause-first
-share-requires-clause-first c = (of_bases (goal.at.share-requires-clause-first c).In-Some).settled
+share-requires-clause-first c = (of_bases (goal.at.share-requires-clause-first c).In-Some).calls
 
 pub share-requires-clause-second : goal.share-requires-clause-second
-share-requires-clause-second c = (of_bases (goal.at.share-requires-clause-second c).In-Some).settled
+share-requires-clause-second c = (of_bases (goal.at.share-requires-clause-second c).In-Some).calls
 
 pub share-requires-clause-first_steps : goal.share-requires-clause-first_steps
 share-requires-clause-first_steps c = (of_bases (goal.at.share-requires-clause-first_steps c).In-Some).steps
@@ -47,11 +45,10 @@ returns-in_ok-shared-in-Some c =
     rw (← c.self.view_is) (λ p q d o n m solved site a b.
     let job = solved.calls c.args.site o site in
     let same : job.0 ≡ c.in-Some.tables.now.calls = cc (job.1, at) in
-    let first = cell_there d.nodes c.self.inside.parts.cells.items solved.cells.count c.args.a n a c.cell_of-a.result c.cell_of-a.ensures in
-    let second = cell_there d.nodes c.self.inside.parts.cells.items solved.cells.count c.args.b m b c.cell_of-b.result c.cell_of-b.ensures in
     let words = subst (SpellsCalls p q d _ o) same job.2 in
-    let shared = strings_shared p q d _ o c.in-Some.tables.now.calls words c.cell_of-a.result c.cell_of-b.result n m first second in
-    ((λ h. shared.0 (c.in_ok-shared-in-Some.ensures.0 h)), (λ h. c.in_ok-shared-in-Some.ensures.1 (shared.1 h))))
+    let shared = strings_shared p q d _ o c.in-Some.tables.now.calls words c.args.a c.args.b n m a b in
+    let found = rw (c.call_cell-a.ensures, c.call_cell-b.ensures) at c.in_ok-shared-in-Some.ensures in
+    ((λ h. shared.0 (found.0 h)), (λ h. found.1 (shared.1 h))))
 
 pub returns-in-None : goal.returns-in-None
 returns-in-None c =

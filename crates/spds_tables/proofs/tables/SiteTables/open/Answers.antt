@@ -9,7 +9,8 @@ begin_all-requires-clause-led c s has =
 pub returns-clause-built : goal.returns-clause-built
 returns-clause-built c site mets all built opens =
     let now = c.in_ok-begin_all.ensures in
-    begun_built c.args.parts.now site mets all c.args.self.now _ _ c.args.starts.now now.steps now.last now.rules now.tied now.begun now.apart built opens
+    let tied = rw c.deref.ensures.value at now.tied in
+    begun_built c.args.parts.now site mets all c.args.self.now _ _ c.args.starts.now now.steps now.last now.rules tied now.begun now.apart built opens
 
 pub returns-clause-begun : goal.returns-clause-begun
 returns-clause-begun c s has = (c.in_ok-begin_all.ensures.begun s).1 (inr has)
@@ -18,4 +19,4 @@ pub returns-clause-job : goal.returns-clause-job
 returns-clause-job c =
     let now = c.in_ok-begin_all.ensures in
     let was = c.requires.job in
-    record { steps = now.steps ∙ was.steps; last = now.last ∙ was.last; rules = now.rules ∙ was.rules; starts = now.tied }
+    record { steps = now.steps ∙ was.steps; last = now.last ∙ was.last; rules = now.rules ∙ was.rules; starts = rw c.deref.ensures.value at now.tied }

@@ -14,7 +14,7 @@ returns-in_ok-add_pushes-clause-built c mets all built opens =
     let starts = c.starts_of-starts.ensures in
     let own = opens c.args.met (one_has c.args.met) c.if-met-site.true in
     met_taken c.args.parts.now c.args.site mets all c.args.met c.open.new.self c.add_pushes.new.work c.push.new.self c.in_ok-push.ensures.items c.if-met-site.true
-    (rw (c.stored.ensures, starts) at c.in_ok-add_pushes.ensures) c.in_ok-open.ensures.undone (rw starts at c.in_ok-open.ensures.begun)
+    (rw (c.deref.ensures.value, c.store_nodes.ensures, starts) at c.in_ok-add_pushes.ensures) c.in_ok-open.ensures.undone (rw starts at c.in_ok-open.ensures.begun)
     (c.in_ok-open.ensures.built c.args.site mets all built (rw starts own))
 
 pub returns-else-met-site-clause-built : goal.returns-else-met-site-clause-built

@@ -1,6 +1,0 @@
-use Rattle.post_star.specs.Works.{IsBegun}
-use Rattle.post_star.specs.Systems.{rules_of}
-use Rattle.post_star.proofs.take.take_starts.Given as goal
-
-abbrev pub invariant-loop-i : goal.invariant-loop-i
-invariant-loop-i g l = IsBegun g.W.Weight.domain (rules_of l.system) l.system.starts.now l.system.steps.now l.table l.items.items l.i

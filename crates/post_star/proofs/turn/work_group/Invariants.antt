@@ -1,6 +1,0 @@
-use Rattle.post_star.proofs.Loops.{IsWorkedAt}
-use Rattle.post_star.specs.Systems.{rules_of}
-use Rattle.post_star.proofs.turn.work_group.Given as goal
-
-abbrev pub invariant-loop-rule : goal.invariant-loop-rule
-invariant-loop-rule g l = IsWorkedAt g.W.Weight.domain (rules_of l.system) l.system.starts.now l.system.steps.now l.group l.fn.table l.table l.fn.items.items l.items.items l.entry l.rule-index

@@ -1,5 +1,0 @@
-pub mod Gathered
-pub mod Cells
-pub mod Edges
-pub mod Entered
-pub mod Between
