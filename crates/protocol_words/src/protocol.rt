@@ -1,5 +1,6 @@
 //! A protocol.
 ghost use Rattle.std.specs.Prelude.{◌≡◌, ◌<◌, ℕ, IfNone, IfSome, Some, length, slice_get};
+ghost use Rattle.jim_ast.specs.Lists.{Has};
 ghost use Rattle.track_rules.specs.Protocols.{HasRow, IsProtocol};
 ghost use Rattle.protocol_words.specs.Numberings.{protocol_parts};
 
@@ -80,6 +81,15 @@ impl Protocol {
         ensures { slice_get self.now.events event ≡ Some result.now }
     {
         self.numbered.events.text(NameId(event))
+    }
+
+    /// The number of the event with this name, by one hashed look-up.
+    pub fn event(&self, name: &str) -> Option<u32>
+        ensures some { IfSome result (λ event. slice_get self.now.events event ≡ Some name.now) }
+        ensures none { IfNone result (Has self.now.events name.now → ⊥) }
+    {
+        let id = self.numbered.events.find(name)?;
+        Some(id.0)
     }
 
     /// The rows, in the order in which they are written.

@@ -1,0 +1,6 @@
+pub mod Counted
+pub mod Sharing
+pub mod Acting
+pub mod Asking
+pub mod Closing
+pub mod Entering

@@ -1,0 +1,15 @@
+pub mod Identities
+pub mod Formed
+pub mod Holding
+pub mod Held
+pub mod Passing
+pub mod Calls
+pub mod Standing
+pub mod Owning
+pub mod Going
+pub mod Entering
+pub mod ComingBack
+pub mod Later
+pub mod Recalling
+pub mod Watching
+pub mod Sounding
