@@ -24,11 +24,13 @@ use Rattle.report_text.specs.Answers.{IsAnswerText, IsSiteLine, count_lines}
 use Rattle.report_text.specs.Lines.{text_of}
 use Rattle.boom_words.specs.Requests.{Alias, PointsTo, Question, Request, alias, demo, points_to, run}
 use Rattle.boom_top.specs.Demo.{IsDemoText, demo_asked}
+use Rattle.cert_laws.proofs.Complete.{answered_certified}
+use Rattle.boom_top.specs.Evidence.{HasEvidence}
 use Rattle.boom_top.specs.Queries.{Accepted, source_of}
 use Rattle.boom_top.specs.Replies.{AreAliased, IsAliasReply, IsAnswered, IsJoinedReply, IsLinkedReply, IsPlaceReply, IsProgramReply, IsReplyTo, IsTextReply}
 use Rattle.boom_top.specs.Runs.{CoversAllRuns, HasAnswer, IsWithin, PrintsAllAliases, PrintsAllRuns}
 use Rattle.boom_top.specs.declared.status.Status.{Status}
-use Rattle.boom_top.specs.declared.status.Status.TheVariants.{Done, OverBudget}
+use Rattle.boom_top.specs.declared.status.Status.TheVariants.{Done, NoSuchPlace, OverBudget}
 use Rattle.boom_top.proofs.Once.{not_refused, prelude_one, spelled_read}
 
 has_middle : {X : Type 0} (first : X) (xs ys : List X) (x : X) → Has xs x → Has (first ∷ (xs ++ ys)) x
@@ -148,6 +150,29 @@ module _ (p : LinkedProgram) (well : IsWellLinked p) (covered : IsCovered p) (ol
   linked_covered entry (run asked) reply = tt
   linked_covered entry (demo boxes) reply = tt
 
+-- there is evidence for what is done
+module _ (p : LinkedProgram) (old new : Option (List ℕ)) (lines : List (List ℕ)) (wrote : Appends old new (text_of lines)) where
+  -- each site of an answer is shown by some list of lines
+  place_evident : (asked : PointsTo) → IsPlaceReply p asked (IsAnswerText p) Done lines → HasEvidence p (points_to asked) old new
+  place_evident asked (inl a) = absurd (let no : Done ≡ NoSuchPlace a.0 = a.2.0 in cc)
+  place_evident asked (inr (m, here, inl over)) = absurd (let no : Done ≡ OverBudget asked.budget = over.1.0 in cc)
+  place_evident asked (inr (m, here, inr a)) = record {
+    node = m;
+    place = here;
+    sites = a.0.sites;
+    demanded = a.0.demanded;
+    text = text_of lines;
+    told = a.0.told;
+    wrote = wrote;
+    shown = λ o has. answered_certified p m o ((a.0.answer.answer.each o).0 has);
+  }
+
+  pub linked_evident : (entry : List ℕ) (q : Question) → IsLinkedReply p entry q Done lines → HasEvidence p q old new
+  linked_evident entry (points_to asked) reply = place_evident asked reply
+  linked_evident entry (alias asked) reply = tt
+  linked_evident entry (run asked) reply = tt
+  linked_evident entry (demo boxes) reply = tt
+
 module _ (r : Request) (bytes : List ℕ) (q : Accepted r bytes) where
   input_read : IsRead q.input
   input_read = derived_read (source_of r.question bytes) q.spelled.tokens q.input q.spelled.derived
@@ -191,3 +216,8 @@ module _ (r : Request) (bytes : List ℕ) (q : Accepted r bytes) where
   pub covers : (old new : Option (List ℕ)) (lines : List (List ℕ)) → Appends old new (text_of lines) → IsReplyTo r bytes Done lines
       → CoversAllRuns q.linked r.question old new
   covers old new lines wrote reply = linked_covered q.linked well covered old new lines wrote r.entry r.question (reaches Done lines reply)
+
+  -- and there is evidence for it
+  pub evidence : (old new : Option (List ℕ)) (lines : List (List ℕ)) → Appends old new (text_of lines) → IsReplyTo r bytes Done lines
+      → HasEvidence q.linked r.question old new
+  evidence old new lines wrote reply = linked_evident q.linked old new lines wrote r.entry r.question (reaches Done lines reply)

@@ -8,6 +8,7 @@ use Rattle.boom_io.specs.Whole.{AppendsProperPrefix, TakesFirst}
 use Rattle.report_text.specs.Lines.{text_of}
 use Rattle.boom_words.specs.Requests.{Request, IsRequest}
 use Rattle.boom_top.specs.Parts.{IsGiven, Makes, Sends, status_of}
+use Rattle.boom_top.specs.Evidence.{HasEvidence}
 use Rattle.boom_top.specs.Queries.{Accepted, source_of}
 use Rattle.boom_top.specs.Replies.{GivesUp, IsReply, IsReplyTo}
 use Rattle.boom_top.specs.Runs.{CoversAllRuns, IsAnswerable}
@@ -16,7 +17,7 @@ use Rattle.boom_top.specs.declared.query.NoReply.TheVariants as none
 use Rattle.boom_top.specs.declared.query.Reply.{Reply}
 use Rattle.boom_top.specs.declared.status.Status.{Status}
 use Rattle.boom_top.specs.declared.status.Status.TheVariants.{Done, Usage, ReadFault, WriteFault, NoMemory}
-use Rattle.boom_top.proofs.Asked.{covers, enough}
+use Rattle.boom_top.proofs.Asked.{covers, enough, evidence}
 use Rattle.boom_top.proofs.Once.{source_given, source_one}
 
 -- what is said of the bytes that were read is said of those that were left
@@ -122,6 +123,19 @@ module _ (old new : Option (List ℕ)) (before now : ℕ) (result : Status) (X :
           let to = reply_to words bytes (one refl) r is_request reply.status is.0 is.1 in
           let status : reply.status ≡ Done = sym whole.0 ∙ done in
           covers r bytes a old new is.0 (subst (λ (t : List ℕ). Appends old new t) is.2 whole.1)
+          (subst (λ (s : Status). IsReplyTo r bytes s is.0) status to)
+      | inr part ↦ absurd (let no : WriteFault ≡ Done = sym part.0 ∙ done in cc)
+    ]
+
+    pub evidently : (made : Result Reply NoReply) → IfOk made Sent → IfErr made Unsent → IfOk made Made → (IsOk made → IsOne)
+        → result ≡ Done → (r : Request) → IsRequest words r → (a : Accepted r bytes) → HasEvidence a.linked r.question old new
+    evidently (Err none.ReadFault) sent unsent is one done r is_request a = absurd (let no : ReadFault ≡ Done = sym unsent.0 ∙ done in cc)
+    evidently (Err none.NoMemory) sent unsent is one done r is_request a = absurd (let no : NoMemory ≡ Done = sym unsent.0 ∙ done in cc)
+    evidently (Ok reply) sent unsent is one done r is_request a = elim sent [
+      | inl whole ↦
+          let to = reply_to words bytes (one refl) r is_request reply.status is.0 is.1 in
+          let status : reply.status ≡ Done = sym whole.0 ∙ done in
+          evidence r bytes a old new is.0 (subst (λ (t : List ℕ). Appends old new t) is.2 whole.1)
           (subst (λ (s : Status). IsReplyTo r bytes s is.0) status to)
       | inr part ↦ absurd (let no : WriteFault ≡ Done = sym part.0 ∙ done in cc)
     ]

@@ -4,3 +4,4 @@ pub mod Refusals
 pub mod Replies
 pub mod Runs
 pub mod Parts
+pub mod Evidence

@@ -7,6 +7,7 @@ ghost use Rattle.boom_words.specs.Commands.{question_of, request_of};
 ghost use Rattle.boom_words.specs.Requests.{Request, IsRequest, NoRequest};
 ghost use Rattle.demo_text.specs.Demo.{demo_source};
 ghost use Rattle.report_text.specs.Lines.{text_of};
+ghost use Rattle.boom_top.specs.Evidence.{HasEvidence};
 ghost use Rattle.boom_top.specs.Parts.{IsGiven, Makes, Sends, status_of};
 ghost use Rattle.boom_top.specs.Queries.{Accepted, IsDemo, IsFit};
 ghost use Rattle.boom_top.specs.Replies.{GivesUp, IsReply, IsReplyTo, IsSourceReply};
@@ -144,6 +145,10 @@ pub fn boomer<S: Source, K: Sink>(
     ensures sound { (bytes : List ℕ) → AreAbout (map string_bytes words.now) (S.left source.old) bytes → result ≡ Status.Done
         → (r : Request) → IsRequest (map string_bytes words.now) r
         → (a : Accepted r bytes) → CoversAllRuns a.linked r.question (K.written sink.old) (K.written sink.new) }
+    // The evidence: for each site that an answer prints some list of lines is certified.
+    ensures evident { (bytes : List ℕ) → AreAbout (map string_bytes words.now) (S.left source.old) bytes → result ≡ Status.Done
+        → (r : Request) → IsRequest (map string_bytes words.now) r
+        → (a : Accepted r bytes) → HasEvidence a.linked r.question (K.written sink.old) (K.written sink.new) }
     // What is there, with a budget of at least its demand's size, is answered where no read and no write fails and memory is found.
     ensures complete { (bytes : List ℕ) → AreAbout (map string_bytes words.now) (S.left source.old) bytes → IsAnswerable (map string_bytes words.now) bytes
         → ¬ Rose (S.faults source.old) (S.faults source.new) → ¬ Rose (K.faults sink.old) (K.faults sink.new) → (result ≡ Status.Done) ⊎ (result ≡ Status.NoMemory) }

@@ -4,3 +4,4 @@ pub mod NodeWords
 pub mod LineWords
 pub mod TextLines
 pub mod ListWords
+pub mod Same

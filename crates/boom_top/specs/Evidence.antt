@@ -1,0 +1,31 @@
+-- The evidence for the sites that are printed.
+use Rattle.std.specs.Prelude.{ℕ, List}
+use Rattle.std.specs.declared.option.Option.{Option}
+use Rattle.std.specs.Io.KnownBytes.{Appends}
+use Rattle.jim_ast.specs.Lists.{Has}
+use Rattle.link_rules.specs.Linked.{LinkedProgram}
+use Rattle.link_sites.specs.declared.site.Site.{Site}
+use Rattle.spds_rules.specs.declared.node.Node.{Node}
+use Rattle.cert_laws.specs.Shown.{IsShown}
+use Rattle.query_core.specs.Places.{IsPlaceOf}
+use Rattle.report_text.specs.Answers.{IsAnswerText}
+use Rattle.boom_words.specs.Requests.{PointsTo, Question, alias, demo, points_to, run}
+
+-- The answer about the place was written, and for each site that it prints some list of lines is certified: step by step, that an object of the site may be
+-- at the node in the system of fields and in the system of calls.
+pub record PrintsShown (p : LinkedProgram) (asked : PointsTo) (old new : Option (List ℕ)) : Type 0 where
+  pub node : Node
+  pub place : IsPlaceOf p asked.method asked.index asked.local node
+  pub sites : List Site
+  pub demanded : ℕ
+  pub text : List ℕ
+  pub told : IsAnswerText p node sites demanded text
+  pub wrote : Appends old new text
+  pub shown : (o : Site) → Has sites o → IsShown p node o
+
+-- The evidence, by what was asked. Other commands print no answer about one local.
+abbrev pub HasEvidence : LinkedProgram → Question → Option (List ℕ) → Option (List ℕ) → Type 0
+HasEvidence p (points_to asked) old new = PrintsShown p asked old new
+HasEvidence p (alias asked) old new = Unit {0}
+HasEvidence p (run asked) old new = Unit {0}
+HasEvidence p (demo boxes) old new = Unit {0}

@@ -1,0 +1,5 @@
+pub mod Givens
+pub mod Means
+pub mod Sound
+pub mod Writing
+pub mod Complete

@@ -1,0 +1,11 @@
+pub mod From
+pub mod CitedFacts
+pub mod Claims
+pub mod Replayed
+pub mod Judged
+pub mod Stores
+pub mod CallStrings
+pub mod Reading
+pub mod Steps
+pub mod Looking
+pub mod Table
