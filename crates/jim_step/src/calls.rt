@@ -18,6 +18,14 @@ use link_rules::Arg;
 use step_heap::{Heap, Object};
 use step_rules::Value;
 
+/// What a call names: how it looks a method up, from which class, by which key.
+#[derive(Clone, Copy)]
+pub struct Callee {
+    pub mode: Mode,
+    pub class: u32,
+    pub key: u32,
+}
+
 // The number of the method with statements that look-up from a class finds.
 fn found(linked: &Linked, class: u32, key: u32) -> Option<u32>
     requires class { class < length linked.now.classes }
@@ -71,21 +79,15 @@ fn enter_below<'a>(
 }
 
 // A call on an object.
-fn call_on<'a>(
-    linked: &Linked,
-    object: &Object,
-    number: u32,
-    mode: Mode,
-    class: u32,
-    key: u32,
-) -> Plan<'a>
-    requires class { class < length linked.now.classes }
+fn call_on<'a>(linked: &Linked, object: &Object, number: u32, callee: Callee) -> Plan<'a>
+    requires class { callee.class < length linked.now.classes }
     requires of_object { object.now.class < length linked.now.classes }
     ensures countable { IsCountable result }
-    ensures row { (top : StepFrame) → EntersBy linked.now mode class key object.now (Some (Value.Object number)) (args_of linked.now top) (listed linked.now top result) }
+    ensures row { (top : StepFrame) → EntersBy linked.now callee.mode callee.class callee.key object.now (Some (Value.Object number)) (args_of linked.now top) (listed linked.now top result) }
 {
     let this = Some(Value::Object(number));
-    match mode {
+    let (class, key) = (callee.class, callee.key);
+    match callee.mode {
         Mode::Static => enter(linked, class, key, this),
         Mode::Special => enter(linked, class, key, this),
         Mode::Virtual => enter_below(linked, class, object.class(), key, this),
@@ -94,22 +96,15 @@ fn call_on<'a>(
 }
 
 // A call on what a receiver holds.
-fn call_at<'a>(
-    linked: &Linked,
-    heap: &Heap,
-    receiver: Value,
-    mode: Mode,
-    class: u32,
-    key: u32,
-) -> Plan<'a>
+fn call_at<'a>(linked: &Linked, heap: &Heap, receiver: Value, callee: Callee) -> Plan<'a>
     requires objects { EachOf (FitsObject linked.now (length heap.now)) heap.now }
-    requires class { class < length linked.now.classes }
+    requires class { callee.class < length linked.now.classes }
     requires receiver { FitsValue (length heap.now) receiver }
     ensures countable { IsCountable result }
-    ensures row { (top : StepFrame) (statics : List Value) → CallsOn linked.now (seen top heap.now statics) mode class key receiver (args_of linked.now top) (listed linked.now top result) }
+    ensures row { (top : StepFrame) (statics : List Value) → CallsOn linked.now (seen top heap.now statics) callee.mode callee.class callee.key receiver (args_of linked.now top) (listed linked.now top result) }
 {
     match receiver {
-        Value::Object(number) => { call_on(linked, heap.object(number), number, mode, class, key) }
+        Value::Object(number) => call_on(linked, heap.object(number), number, callee),
         Value::Null => Plan::One(Effect::Raises(0)),
         Value::Number => Plan::One(Effect::IllTyped),
     }
@@ -120,28 +115,26 @@ pub fn call<'a>(
     linked: &Linked,
     heap: &Heap,
     frame: &Frame,
-    mode: Mode,
-    class: u32,
-    key: u32,
+    callee: Callee,
     receiver: Option<u32>,
     args: &[Arg],
 ) -> Plan<'a>
     requires objects { EachOf (FitsObject linked.now (length heap.now)) heap.now }
-    requires class { class < length linked.now.classes }
+    requires class { callee.class < length linked.now.classes }
     requires receiver { (x : ℕ) → FitsSlot (length heap.now) (local_of (frame_of frame.now) x) }
     requires numbers { EachOf (HasNumber linked.now) args.now }
     requires args { args_of linked.now (frame_of frame.now) ≡ or_empty (operands_of linked.now (frame_of frame.now) args.now) }
     ensures countable { IsCountable result }
-    ensures row { (statics : List Value) → CallsWith linked.now (seen (frame_of frame.now) heap.now statics) mode class key receiver (operands_of linked.now (frame_of frame.now) args.now) (listed linked.now (frame_of frame.now) result) }
+    ensures row { (statics : List Value) → CallsWith linked.now (seen (frame_of frame.now) heap.now statics) callee.mode callee.class callee.key receiver (operands_of linked.now (frame_of frame.now) args.now) (listed linked.now (frame_of frame.now) result) }
 {
     if !are_set(linked, frame, args) {
         return Plan::One(Effect::IllTyped);
     }
     let Some(local) = receiver else {
-        return enter(linked, class, key, None);
+        return enter(linked, callee.class, callee.key, None);
     };
     match frame.local(local) {
-        Some(value) => call_at(linked, heap, value, mode, class, key),
+        Some(value) => call_at(linked, heap, value, callee),
         None => Plan::One(Effect::IllTyped),
     }
 }

@@ -11,7 +11,7 @@ ghost use Rattle.step_rules.specs.Offers.{LoadsStatic, Offers, Row, UnwindsAt};
 ghost use Rattle.step_rules.specs.Shapes.{FitsPoint, IsCall};
 ghost use Rattle.step_rules.specs.States.{Frame as StepFrame, HeapObject};
 
-use super::calls::call;
+use super::calls::{Callee, call};
 use super::classes::Classes;
 use super::fields::{load, load_cell, store, store_cell};
 use super::frame::Frame;
@@ -57,16 +57,14 @@ fn call_row<'a>(
             receiver,
             args,
             targets: _,
-        } => call(
-            linked,
-            heap,
-            frame,
-            *mode,
-            *class,
-            *key,
-            *receiver,
-            args.as_slice(),
-        ),
+        } => {
+            let callee = Callee {
+                mode: *mode,
+                class: *class,
+                key: *key,
+            };
+            call(linked, heap, frame, callee, *receiver, args.as_slice())
+        }
         _ => Plan::One(Effect::IllTyped),
     }
 }

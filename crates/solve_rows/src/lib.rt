@@ -1,4 +1,4 @@
-//! Meets, answers and cells of whole programs, read from their texts. What each has of them was found by hand from the definitions.
+//! Meets and answers of whole programs, and how much their tables hold, read from their texts. What each has of them was found by hand from the definitions.
 #![tactic(auto)]
 
 #[cfg(test)]

@@ -1,5 +1,5 @@
 //! What queries find: each object that may be stored into another, with a call string under which it may; the sites at a node, and what two nodes share
-//! under one call string; and which nodes share a cell.
+//! under one call string; and how much tables hold.
 ghost use Rattle.demand_set.specs.Demands.{IsDemandOf};
 ghost use Rattle.link_rules.specs.WellLinked.{IsWellLinked};
 ghost use Rattle.spds_rules.specs.Demand.{Asked};
@@ -15,7 +15,6 @@ use linked_text::spots::{Origin, Spot, before, node, site};
 use spds_nodes::is_node;
 use spds_rules::{Node, Var};
 use spds_solve::{Met, Solved, solve};
-use spds_tables::Parts;
 use std::alloc::{AllocError, Global};
 use std::test::Fail;
 
@@ -32,8 +31,8 @@ enum Row {
     Meets(&'static [Meeting]),
     // Another node, and the one site that it and the target may both hold under one call string, if there is one.
     Shares(Spot, Option<Origin>),
-    // So many nodes are demanded, and all share one cell in each kind of system. No contract says so.
-    OneCell(usize),
+    // So many nodes are demanded, and the tables of all sites hold so many facts. No contract says how many.
+    Holds(usize, usize),
 }
 
 // A query of a program: its target, and what is found.
@@ -127,12 +126,12 @@ const CASES: [Case; 4] = [
         target: Spot::Before(2, 7, Var::Local(4)),
         rows: &OF_PASSED_ON,
     },
-    // The object, as it is made, and its copy in each of four locals.
+    // The object, as it is made, and its copy in each of four locals share one cell in each kind of system.
     Case {
         name: "a chain of copies",
         text: COPIES,
         target: Spot::Before(0, 4, Var::Local(3)),
-        rows: &[Row::OneCell(5)],
+        rows: &[Row::Holds(5, 2)],
     },
 ];
 
@@ -196,40 +195,13 @@ fn are_shared(
     Ok(true)
 }
 
-fn are_one(cells: &[u32], nodes: usize) -> bool {
-    cells.len() == nodes && cells.iter().all(|cell| Some(cell) == cells.first())
-}
-
-// Whether all nodes of the demand share one cell in each kind of system, so many of them, and no rule is left between cells.
-fn is_one_cell(
-    alloc: Global,
-    linked: &Linked,
-    found: &Demand,
-    nodes: usize,
-) -> Result<bool, NoMemory>
-    requires well { IsWellLinked linked.now }
-    requires demanded { (q : Asked) × IsDemandOf linked.now q found.now }
-{
-    let parts = Parts::new(alloc, linked, found)?;
-    Ok(
-        are_one(&parts.field_cells, nodes)
-            && are_one(&parts.call_cells, nodes)
-            && parts.fields.rules().is_empty()
-            && parts.calls.rules().is_empty(),
-    )
-}
-
 fn is_found(
     alloc: Global,
-    linked: &Linked,
     found: &Demand,
     solved: &Solved,
     target: Node,
     row: &Row,
-) -> Result<bool, NoMemory>
-    requires well { IsWellLinked linked.now }
-    requires demanded { (q : Asked) × IsDemandOf linked.now q found.now }
-{
+) -> Result<bool, NoMemory> {
     match row {
         Row::Meets(meetings) => Ok(are_these(found.sites(), solved, meetings)),
         Row::Shares(spot, shared) => {
@@ -241,23 +213,21 @@ fn is_found(
             };
             are_shared(alloc, found.sites(), solved, (first, second), *shared)
         }
-        Row::OneCell(nodes) => is_one_cell(alloc, linked, found, *nodes),
+        Row::Holds(nodes, facts) => {
+            Ok(found.nodes().len() == *nodes && solved.size().facts == *facts)
+        }
     }
 }
 
 fn are_found(
     alloc: Global,
-    linked: &Linked,
     found: &Demand,
     solved: &Solved,
     target: Node,
     rows: &[Row],
-) -> Result<bool, NoMemory>
-    requires well { IsWellLinked linked.now }
-    requires demanded { (q : Asked) × IsDemandOf linked.now q found.now }
-{
+) -> Result<bool, NoMemory> {
     for row in rows {
-        if !is_found(alloc, linked, found, solved, target, row)? {
+        if !is_found(alloc, found, solved, target, row)? {
             return Ok(false);
         }
     }
@@ -276,7 +246,7 @@ fn is_solved(
     requires demanded { (q : Asked) × IsDemandOf linked.now q found.now }
 {
     match solve(alloc, linked, found) {
-        Ok(solved) => are_found(alloc, linked, found, &solved, target, rows),
+        Ok(solved) => are_found(alloc, found, &solved, target, rows),
         Err(error) => Err(error),
     }
 }

@@ -1,11 +1,9 @@
-//! Tests of the machine and of texts over linked programs: heaps, runs, replies about runs and about locals, and protocols. They stand by themselves, so
-//! that no library is proved again for them.
+//! Tests of the machine and of texts over linked programs: heaps, runs, and replies about runs and about locals. They stand by themselves, so that no
+//! library is proved again for them.
 #![tactic(auto)]
 
 #[cfg(test)]
 mod heaps;
-#[cfg(test)]
-mod protocols;
 #[cfg(test)]
 mod replies;
 #[cfg(test)]
