@@ -157,6 +157,29 @@ const ROWS: [(&[&str], &str); 83] = [
     (&["40"], OTHER),
 ];
 
+// The same about certificates.
+const REPLAYS: [(&[&str], &str); 12] = [
+    (
+        &["replay", "Main", "100"],
+        "of Main: a certificate, within 100",
+    ),
+    (&["replay", "", "0"], "of : a certificate, within 0"),
+    (
+        &["replay", "replay", "4294967295"],
+        "of replay: a certificate, within 4294967295",
+    ),
+    // a budget in another form, too large or wanting, or another word
+    (&["replay"], OTHER),
+    (&["replay", "Main"], OTHER),
+    (&["replay", "Main", ""], OTHER),
+    (&["replay", "Main", "0100"], OTHER),
+    (&["replay", "Main", "4294967296"], OTHER),
+    (&["replay", "Main", "-1"], OTHER),
+    (&["replay", "Main", "100", "0"], OTHER),
+    (&["replay", "Main", METHOD, "5", "x", "100"], OTHER),
+    (&["Replay", "Main", "100"], OTHER),
+];
+
 // What a query asks for.
 fn asked_of(alloc: Global, query: Query<'_>) -> Result<String, Fail> {
     let mut text = String::new(alloc);
@@ -178,6 +201,7 @@ fn asked_of(alloc: Global, query: Query<'_>) -> Result<String, Fail> {
             }
             text.push('\'')?;
         }
+        Query::Replay { budget } => write!(text, "a certificate, within {budget}")?,
         Query::Demo { boxes } => write!(text, "{boxes} boxes")?,
     }
     Ok(text)
@@ -201,6 +225,15 @@ fn asked(alloc: Global, parts: &[&str]) -> Result<String, Fail> {
 #[test]
 fn reads_words(rt: HostRuntime) -> Result<(), Fail> {
     for (words, expected) in ROWS {
+        let text = asked(rt.alloc(), words)?;
+        assert_eq!(rt; text.as_str(), expected);
+    }
+    Ok(())
+}
+
+#[test]
+fn reads_words_of_replays(rt: HostRuntime) -> Result<(), Fail> {
+    for (words, expected) in REPLAYS {
         let text = asked(rt.alloc(), words)?;
         assert_eq!(rt; text.as_str(), expected);
     }

@@ -322,6 +322,8 @@ fn numbers_statuses(rt: HostRuntime) -> Result<(), Fail> {
         (Status::NotText { at: 9 }, 4),
         (Status::NotJimple { at: 9 }, 5),
         (Status::NoSuchPlace { which }, 7),
+        (Status::NotCertificate { at: 9 }, 9),
+        (Status::Rejected { line: 9 }, 10),
         (Status::OverBudget { budget: 1 }, 11),
         (Status::WriteFault, 12),
         (Status::NoMemory, 13),

@@ -6,4 +6,6 @@ mod commands;
 #[cfg(test)]
 mod refusals;
 #[cfg(test)]
+mod replays;
+#[cfg(test)]
 mod rows;

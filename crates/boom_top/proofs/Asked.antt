@@ -20,17 +20,21 @@ use Rattle.query_core.specs.Answers.{IsAffordable}
 use Rattle.query_core.proofs.NamedPlaces.{place_one, place_there, places_one, places_there}
 use Rattle.query_core.proofs.Sound.{answer_sound, shared_sound}
 use Rattle.report_text.specs.Aliases.{IsSharedLine, verdict_lines}
-use Rattle.report_text.specs.Answers.{IsAnswerText, IsSiteLine, count_lines}
+use Rattle.report_text.specs.Answers.{IsAcceptedText, IsAnswerText, IsSiteLine, count_lines}
 use Rattle.report_text.specs.Lines.{text_of}
-use Rattle.boom_words.specs.Requests.{Alias, PointsTo, Question, Request, alias, demo, points_to, run}
+use Rattle.boom_words.specs.Requests.{Alias, PointsTo, Question, Request, alias, demo, points_to, replay, run}
 use Rattle.boom_top.specs.Demo.{IsDemoText, demo_asked}
+use Rattle.cert_rules.specs.declared.certificate.Certificate.{Certificate}
 use Rattle.cert_laws.proofs.Complete.{answered_certified}
+use Rattle.cert_text.proofs.OneText.{certificate_one, spelled_bad}
+use Rattle.cert_query.specs.Replays.{IsAccepted}
+use Rattle.cert_query.proofs.Outcomes.{over_accepted, rejected_accepted}
 use Rattle.boom_top.specs.Evidence.{HasEvidence}
-use Rattle.boom_top.specs.Queries.{Accepted, source_of}
-use Rattle.boom_top.specs.Replies.{AreAliased, IsAliasReply, IsAnswered, IsJoinedReply, IsLinkedReply, IsPlaceReply, IsProgramReply, IsReplyTo, IsTextReply}
-use Rattle.boom_top.specs.Runs.{CoversAllRuns, HasAnswer, IsWithin, PrintsAllAliases, PrintsAllRuns}
+use Rattle.boom_top.specs.Queries.{Accepted, program_in, rest_in, source_of}
+use Rattle.boom_top.specs.Replies.{AreAliased, IsAliasReply, IsAnswered, IsCertificateReply, IsJoinedReply, IsLinkedReply, IsPlaceReply, IsProgramReply, IsReplayReply, IsReplyTo, IsTextReply}
+use Rattle.boom_top.specs.Runs.{CoversAllRuns, HasAnswer, IsCertificateOf, IsWithin, PrintsAllAliases, PrintsAllRuns}
 use Rattle.boom_top.specs.declared.status.Status.{Status}
-use Rattle.boom_top.specs.declared.status.Status.TheVariants.{Done, NoSuchPlace, OverBudget}
+use Rattle.boom_top.specs.declared.status.Status.TheVariants.{Done, NoSuchPlace, NotCertificate, OverBudget, Rejected}
 use Rattle.boom_top.proofs.Once.{not_refused, prelude_one, spelled_read}
 
 has_middle : {X : Type 0} (first : X) (xs ys : List X) (x : X) → Has xs x → Has (first ∷ (xs ++ ys)) x
@@ -61,7 +65,7 @@ module _ (p : LinkedProgram) (s : Status) (lines : List (List ℕ)) where
       absurd (HasMore-not asked.budget over.0 (subst (λ (n : Node). IsAffordable p (n ∷ []) asked.budget) same affordable))
   place_enough asked Tells (n, place, affordable) (inr (m, here, inr a)) = a.1
 
-  alias_enough : (asked : Alias) → HasAnswer p (alias asked) → IsAliasReply p asked s lines → s ≡ Done
+  alias_enough : (asked : Alias) → HasAnswer p [] (alias asked) → IsAliasReply p asked s lines → s ≡ Done
   alias_enough asked (a, b, places, affordable) (inl x) = absurd (places_there p asked.method asked.index asked.first asked.second a b places x.0 x.1)
   alias_enough asked (a, b, places, affordable) (inr (m, n, here, inl over)) =
       let same = places_one p asked.method asked.index asked.first asked.second a b m n places here in
@@ -69,11 +73,26 @@ module _ (p : LinkedProgram) (s : Status) (lines : List (List ℕ)) where
       absurd (HasMore-not asked.budget over.0 (subst (λ (n : Node). IsAffordable p (m ∷ n ∷ []) asked.budget) same.1 left))
   alias_enough asked (a, b, places, affordable) (inr (m, n, here, inr x)) = x.1
 
-  pub linked_enough : (entry : List ℕ) (q : Question) → HasAnswer p q → IsLinkedReply p entry q s lines → s ≡ Done
-  linked_enough entry (points_to asked) has reply = place_enough asked (IsAnswerText p) has reply
-  linked_enough entry (alias asked) has reply = alias_enough asked has reply
-  linked_enough entry (run asked) has reply = reply.1
-  linked_enough entry (demo boxes) has reply = place_enough (demo_asked boxes) (λ n. IsDemoText p boxes) has reply
+  -- so is a certificate that is accepted
+  certificate_enough : (budget : ℕ) (c d : Certificate) (n : Node) (o : Site) (demanded : ℕ) → c ≡ d → IsAccepted p budget c n o demanded
+      → IsCertificateReply p budget d s lines → s ≡ Done
+  certificate_enough budget c d n o demanded same is (inl a) =
+      absurd (rejected_accepted p budget d a.0 n o demanded a.1 (subst (λ (x : Certificate). IsAccepted p budget x n o demanded) same is))
+  certificate_enough budget c d n o demanded same is (inr (inl a)) =
+      absurd (over_accepted p budget d n o demanded a.0 (subst (λ (x : Certificate). IsAccepted p budget x n o demanded) same is))
+  certificate_enough budget c d n o demanded same is (inr (inr a)) = a.1
+
+  replay_enough : (budget : ℕ) (text : List ℕ) → IsCertificateOf p budget text → IsReplayReply p budget text s lines → s ≡ Done
+  replay_enough budget text has (inl a) = absurd (spelled_bad text has.0 a.0 has.1 a.1)
+  replay_enough budget text has (inr a) =
+      certificate_enough budget has.0 a.0 has.2.0 has.2.1 has.2.2 (certificate_one text has.0 a.0 has.1 a.1) has.2.3 a.2
+
+  pub linked_enough : (entry rest : List ℕ) (q : Question) → HasAnswer p rest q → IsLinkedReply p entry rest q s lines → s ≡ Done
+  linked_enough entry rest (points_to asked) has reply = place_enough asked (IsAnswerText p) has reply
+  linked_enough entry rest (alias asked) has reply = alias_enough asked has reply
+  linked_enough entry rest (run asked) has reply = reply.1
+  linked_enough entry rest (replay budget) has reply = replay_enough budget rest has reply
+  linked_enough entry rest (demo boxes) has reply = place_enough (demo_asked boxes) (λ n. IsDemoText p boxes) has reply
 
 -- what is done covers each run
 module _ (p : LinkedProgram) (well : IsWellLinked p) (covered : IsCovered p) (old new : Option (List ℕ)) (lines : List (List ℕ)) (wrote : Appends old new (text_of lines)) where
@@ -144,19 +163,20 @@ module _ (p : LinkedProgram) (well : IsWellLinked p) (covered : IsCovered p) (ol
       let left = subst (λ (m : Node). AreAliased p asked.budget m n lines) same.0 x.0 in
       nodes_covered asked.budget a b (subst (λ (n : Node). AreAliased p asked.budget a n lines) same.1 left)
 
-  pub linked_covered : (entry : List ℕ) (q : Question) → IsLinkedReply p entry q Done lines → CoversAllRuns p q old new
-  linked_covered entry (points_to asked) reply = place_covered asked reply
-  linked_covered entry (alias asked) reply = alias_covered asked reply
-  linked_covered entry (run asked) reply = tt
-  linked_covered entry (demo boxes) reply = tt
+  pub linked_covered : (entry rest : List ℕ) (q : Question) → IsLinkedReply p entry rest q Done lines → CoversAllRuns p q old new
+  linked_covered entry rest (points_to asked) reply = place_covered asked reply
+  linked_covered entry rest (alias asked) reply = alias_covered asked reply
+  linked_covered entry rest (run asked) reply = tt
+  linked_covered entry rest (replay budget) reply = tt
+  linked_covered entry rest (demo boxes) reply = tt
 
 -- there is evidence for what is done
 module _ (p : LinkedProgram) (old new : Option (List ℕ)) (lines : List (List ℕ)) (wrote : Appends old new (text_of lines)) where
   -- each site of an answer is shown by some list of lines
-  place_evident : (asked : PointsTo) → IsPlaceReply p asked (IsAnswerText p) Done lines → HasEvidence p (points_to asked) old new
-  place_evident asked (inl a) = absurd (let no : Done ≡ NoSuchPlace a.0 = a.2.0 in cc)
-  place_evident asked (inr (m, here, inl over)) = absurd (let no : Done ≡ OverBudget asked.budget = over.1.0 in cc)
-  place_evident asked (inr (m, here, inr a)) = record {
+  place_evident : (rest : List ℕ) (asked : PointsTo) → IsPlaceReply p asked (IsAnswerText p) Done lines → HasEvidence p rest (points_to asked) old new
+  place_evident rest asked (inl a) = absurd (let no : Done ≡ NoSuchPlace a.0 = a.2.0 in cc)
+  place_evident rest asked (inr (m, here, inl over)) = absurd (let no : Done ≡ OverBudget asked.budget = over.1.0 in cc)
+  place_evident rest asked (inr (m, here, inr a)) = record {
     node = m;
     place = here;
     sites = a.0.sites;
@@ -167,15 +187,40 @@ module _ (p : LinkedProgram) (old new : Option (List ℕ)) (lines : List (List �
     shown = λ o has. answered_certified p m o ((a.0.answer.answer.each o).0 has);
   }
 
-  pub linked_evident : (entry : List ℕ) (q : Question) → IsLinkedReply p entry q Done lines → HasEvidence p q old new
-  linked_evident entry (points_to asked) reply = place_evident asked reply
-  linked_evident entry (alias asked) reply = tt
-  linked_evident entry (run asked) reply = tt
-  linked_evident entry (demo boxes) reply = tt
+  -- and what a certificate claims by its own
+  replay_evident : (budget : ℕ) (rest : List ℕ) → IsReplayReply p budget rest Done lines → HasEvidence p rest (replay budget) old new
+  replay_evident budget rest (inl a) = absurd (let no : Done ≡ NotCertificate a.0 = a.2.0 in cc)
+  replay_evident budget rest (inr (c, spells, inl a)) = absurd (let no : Done ≡ Rejected a.0 = a.2.0 in cc)
+  replay_evident budget rest (inr (c, spells, inr (inl a))) = absurd (let no : Done ≡ OverBudget budget = a.1.0 in cc)
+  replay_evident budget rest (inr (c, spells, inr (inr a))) = record {
+    spelled = c;
+    spells = spells;
+    site = a.0.site;
+    demanded = a.0.demanded;
+    text = text_of lines;
+    told = subst (λ (n : Node). IsAcceptedText p n a.0.site a.0.demanded (text_of lines)) a.0.accepted.is_target a.0.told;
+    wrote = wrote;
+    certified = a.0.accepted.certified;
+  }
+
+  pub linked_evident : (entry rest : List ℕ) (q : Question) → IsLinkedReply p entry rest q Done lines → HasEvidence p rest q old new
+  linked_evident entry rest (points_to asked) reply = place_evident rest asked reply
+  linked_evident entry rest (replay budget) reply = replay_evident budget rest reply
+  linked_evident entry rest (alias asked) reply = tt
+  linked_evident entry rest (run asked) reply = tt
+  linked_evident entry rest (demo boxes) reply = tt
 
 module _ (r : Request) (bytes : List ℕ) (q : Accepted r bytes) where
+  -- the program's part of the text
+  abbrev text : List ℕ
+  text = program_in r.question (source_of r.question bytes)
+
+  -- what stands behind it
+  abbrev rest : List ℕ
+  rest = rest_in r.question (source_of r.question bytes)
+
   input_read : IsRead q.input
-  input_read = derived_read (source_of r.question bytes) q.spelled.tokens q.input q.spelled.derived
+  input_read = derived_read text q.spelled.tokens q.input q.spelled.derived
 
   prelude_read : IsRead q.links.prelude
   prelude_read = let spelled = q.links.is_prelude.spelled in derived_read _ spelled.tokens q.links.prelude spelled.derived
@@ -188,20 +233,20 @@ module _ (r : Request) (bytes : List ℕ) (q : Accepted r bytes) where
 
   module _ (s : Status) (lines : List (List ℕ)) where
     abbrev Reached : LinkedProgram → Type 0
-    Reached p = IsLinkedReply p r.entry r.question s lines
+    Reached p = IsLinkedReply p r.entry rest r.question s lines
 
-    by_joined : IsJoinedReply r q.input q.links.prelude s lines → Reached q.linked
+    by_joined : IsJoinedReply r rest q.input q.links.prelude s lines → Reached q.linked
     by_joined (inl a) = absurd (not_refused q.input q.links.prelude r.entry q.linked a.0 q.links.links a.1)
     by_joined (inr a) = subst Reached (link_one q.input q.links.prelude r.entry a.0 q.linked a.1 q.links.links) a.2
 
-    by_program : IsProgramReply r q.input s lines → Reached q.linked
+    by_program : IsProgramReply r rest q.input s lines → Reached q.linked
     by_program (inl a) = absurd (a.0 q.links.prelude q.links.is_prelude)
     by_program (inr a) =
-        by_joined (subst (λ (p : Program). IsJoinedReply r q.input p s lines) (prelude_one a.0 q.links.prelude a.1 q.links.is_prelude) a.2)
+        by_joined (subst (λ (p : Program). IsJoinedReply r rest q.input p s lines) (prelude_one a.0 q.links.prelude a.1 q.links.is_prelude) a.2)
 
-    by_text : IsTextReply r (source_of r.question bytes) s lines → Reached q.linked
-    by_text (inl a) = absurd (spelled_read (source_of r.question bytes) q.input s q.spelled a.0)
-    by_text (inr a) = by_program (subst (λ (p : Program). IsProgramReply r p s lines) (spells_one (source_of r.question bytes) a.0 q.input a.1 q.spelled) a.2)
+    by_text : IsTextReply r rest text s lines → Reached q.linked
+    by_text (inl a) = absurd (spelled_read text q.input s q.spelled a.0)
+    by_text (inr a) = by_program (subst (λ (p : Program). IsProgramReply r rest p s lines) (spells_one text a.0 q.input a.1 q.spelled) a.2)
 
     -- a reply to the bytes is one about the linked program
     reaches : IsReplyTo r bytes s lines → Reached q.linked
@@ -209,15 +254,15 @@ module _ (r : Request) (bytes : List ℕ) (q : Accepted r bytes) where
     reaches (inr a) = by_text a.1
 
     -- what can be answered is
-    pub enough : IsReplyTo r bytes s lines → HasAnswer q.linked r.question → s ≡ Done
-    enough reply has = linked_enough q.linked s lines r.entry r.question has (reaches reply)
+    pub enough : IsReplyTo r bytes s lines → HasAnswer q.linked rest r.question → s ≡ Done
+    enough reply has = linked_enough q.linked s lines r.entry rest r.question has (reaches reply)
 
   -- what is done covers each run
   pub covers : (old new : Option (List ℕ)) (lines : List (List ℕ)) → Appends old new (text_of lines) → IsReplyTo r bytes Done lines
       → CoversAllRuns q.linked r.question old new
-  covers old new lines wrote reply = linked_covered q.linked well covered old new lines wrote r.entry r.question (reaches Done lines reply)
+  covers old new lines wrote reply = linked_covered q.linked well covered old new lines wrote r.entry rest r.question (reaches Done lines reply)
 
   -- and there is evidence for it
   pub evidence : (old new : Option (List ℕ)) (lines : List (List ℕ)) → Appends old new (text_of lines) → IsReplyTo r bytes Done lines
-      → HasEvidence q.linked r.question old new
-  evidence old new lines wrote reply = linked_evident q.linked old new lines wrote r.entry r.question (reaches Done lines reply)
+      → HasEvidence q.linked rest r.question old new
+  evidence old new lines wrote reply = linked_evident q.linked old new lines wrote r.entry rest r.question (reaches Done lines reply)

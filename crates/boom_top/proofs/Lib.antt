@@ -3,6 +3,7 @@ pub mod Asked
 pub mod Both
 pub mod Commanded
 pub mod Counted
+pub mod Marked
 pub mod Noded
 pub mod Once
 pub mod Replied

@@ -2,7 +2,7 @@
 use Rattle.std.proofs.Common.{ℕ, List, [], ◌∷◌, ap, sym, subst, All}
 use Rattle.jim_ast.proofs.Places.{slice_get-below, slice_get-there}
 use Rattle.link_rules.specs.Linked.{LinkedProgram}
-use Rattle.link_rules.specs.WellLinked.{IsInForm}
+use Rattle.link_rules.specs.WellLinked.{IsInForm, IsWellLinked}
 use Rattle.link_laws.proofs.Lists.{all_at}
 use Rattle.link_sites.specs.declared.site.Site.{Site}
 use Rattle.link_sites.specs.Sites.{IsSite}
@@ -13,6 +13,10 @@ use Rattle.spds_rules.specs.Nodes.{IsNode, at}
 use Rattle.spds_laws.proofs.Within.{fields_site}
 use Rattle.demand_set.proofs.Standing.{node_site}
 use Rattle.spds_rules.specs.Systems.{Meets}
+use Rattle.cert_rules.specs.declared.line.Line.{Line}
+use Rattle.cert_rules.specs.Certified.{IsCertified}
+use Rattle.cert_rules.specs.Given.{about}
+use Rattle.cert_laws.proofs.Sound.{certified_answered}
 use Rattle.query_core.specs.Answers.{AreSharedBy, IsAnswerTo, asked}
 use Rattle.query_core.specs.Places.{IsPlaceOf}
 use Rattle.report_text.specs.Answers.{IsLocal, IsQueryNode}
@@ -51,3 +55,9 @@ shared_sites p form a b sites demanded answer = all_at (IsSite p) sites (λ i o 
     let q = asked (a ∷ b ∷ []) in
     let site = fields_site p q (Meets p q) o ((answer.shared.each o).0 (i, e)).0.0 in
     node_site p form site.0 o site.1.0.0 site.1.0.1)
+
+-- so is one that lines are certified for
+pub certified_site : (p : LinkedProgram) → IsWellLinked p → (n : Node) (lines : List Line) (o : Site) → IsCertified p n lines o → IsSite p o
+certified_site p well n lines o c =
+    let site = fields_site p (about n) (Meets p (about n)) o (certified_answered p n well lines o c).0 in
+    node_site p well.form site.0 o site.1.0.0 site.1.0.1

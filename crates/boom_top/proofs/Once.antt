@@ -11,19 +11,22 @@ use Rattle.link_rules.specs.declared.refusal.LinkError.TheVariants as link
 use Rattle.link_once.proofs.OneLink.{link_one}
 use Rattle.link_once.proofs.OneRefusal.{refused_one}
 use Rattle.link_sites.specs.declared.site.Site.{Site}
-use Rattle.boom_words.specs.Requests.{Alias, PointsTo, Question, Request, alias, demo, points_to, run}
+use Rattle.boom_words.specs.Requests.{Alias, PointsTo, Question, Request, alias, demo, points_to, replay, run}
 use Rattle.boom_top.specs.Demo.{IsDemoText, demo_asked}
 use Rattle.boom_top.specs.Parts.{IsGiven}
-use Rattle.boom_top.specs.Replies.{AreAliased, IsAliasReply, IsAnswered, IsBudgetReply, IsJoinedReply, IsLinkedReply, IsNotLinked, IsPlaceReply, IsProgramReply, IsSourceReply, IsTextReply, IsUnread}
+use Rattle.boom_top.specs.Replies.{AreAliased, IsAliasReply, IsAnswered, IsBudgetReply, IsCertificateReply, IsJoinedReply, IsLinkedReply, IsNotLinked, IsPlaceReply, IsProgramReply, IsReplayReply, IsSourceReply, IsTextReply, IsUnread}
 use Rattle.boom_top.specs.declared.status.Status.{Status}
-use Rattle.boom_top.specs.declared.status.Status.TheVariants.{NotText, NotJimple, NotLinked, NoSuchPlace}
+use Rattle.boom_top.specs.declared.status.Status.TheVariants.{NotText, NotJimple, NotLinked, NoSuchPlace, NotCertificate, Rejected}
 use Rattle.link_rules.proofs.OneWorld.{not_both}
 use Rattle.spds_rules.specs.declared.node.Node.{Node}
 use Rattle.query_core.specs.Answers.{IsOver}
 use Rattle.query_core.proofs.Determined.{answer_over, shared_over}
 use Rattle.query_core.proofs.NamedPlaces.{missing_one, missing_one_of_two, place_one, place_there, places_one, places_there}
 use Rattle.report_text.specs.Answers.{IsAnswerText}
-use Rattle.boom_top.specs.Queries.{IsPrelude}
+use Rattle.cert_rules.specs.declared.certificate.Certificate.{Certificate}
+use Rattle.cert_text.proofs.OneText.{bad_one, certificate_one, spelled_bad}
+use Rattle.cert_query.proofs.Outcomes.{over_accepted, rejected_accepted, rejected_at_one, rejected_over}
+use Rattle.boom_top.specs.Queries.{IsPrelude, program_in, rest_in}
 
 -- bytes that spell a program have no reason to be unread
 pub spelled_read : (bytes : List ℕ) (input : Program) (s : Status) → Spells bytes input → IsUnread bytes s → ⊥
@@ -123,57 +126,87 @@ module _ (p : LinkedProgram) where
     alias_given s lines (inl a) = subst IsGiven (sym a.2.0) tt
     alias_given s lines (inr a) = budget_given (a.0 ∷ a.1 ∷ []) asked.budget (AreAliased p asked.budget a.0 a.1) s lines a.3
 
-  module _ (entry : List ℕ) where
+  module _ (budget : ℕ) where
+    -- a certificate has one status
+    certificate_status : (c : Certificate) (s t : Status) (xs ys : List (List ℕ)) → IsCertificateReply p budget c s xs → IsCertificateReply p budget c t ys → s ≡ t
+    certificate_status c s t xs ys (inl a) (inl b) = a.2.0 ∙ ap Rejected (rejected_at_one p budget c a.0 b.0 a.1 b.1) ∙ sym b.2.0
+    certificate_status c s t xs ys (inl a) (inr (inl b)) = absurd (rejected_over p budget c a.0 a.1 b.0)
+    certificate_status c s t xs ys (inl a) (inr (inr b)) = absurd (rejected_accepted p budget c a.0 b.0.node b.0.site b.0.demanded a.1 b.0.accepted)
+    certificate_status c s t xs ys (inr (inl a)) (inl b) = absurd (rejected_over p budget c b.0 b.1 a.0)
+    certificate_status c s t xs ys (inr (inl a)) (inr (inl b)) = a.1.0 ∙ sym b.1.0
+    certificate_status c s t xs ys (inr (inl a)) (inr (inr b)) = absurd (over_accepted p budget c b.0.node b.0.site b.0.demanded a.0 b.0.accepted)
+    certificate_status c s t xs ys (inr (inr a)) (inl b) = absurd (rejected_accepted p budget c b.0 a.0.node a.0.site a.0.demanded b.1 a.0.accepted)
+    certificate_status c s t xs ys (inr (inr a)) (inr (inl b)) = absurd (over_accepted p budget c a.0.node a.0.site a.0.demanded b.0 a.0.accepted)
+    certificate_status c s t xs ys (inr (inr a)) (inr (inr b)) = a.1 ∙ sym b.1
+
+    -- so has a text
+    replay_status : (text : List ℕ) (s t : Status) (xs ys : List (List ℕ)) → IsReplayReply p budget text s xs → IsReplayReply p budget text t ys → s ≡ t
+    replay_status text s t xs ys (inl a) (inl b) = a.2.0 ∙ ap NotCertificate (bad_one text a.0 b.0 a.1 b.1) ∙ sym b.2.0
+    replay_status text s t xs ys (inl a) (inr b) = absurd (spelled_bad text b.0 a.0 b.1 a.1)
+    replay_status text s t xs ys (inr a) (inl b) = absurd (spelled_bad text a.0 b.0 a.1 b.1)
+    replay_status text s t xs ys (inr a) (inr b) =
+        certificate_status b.0 s t xs ys (subst (λ (c : Certificate). IsCertificateReply p budget c s xs) (certificate_one text a.0 b.0 a.1 b.1) a.2) b.2
+
+    replay_given : (text : List ℕ) (s : Status) (lines : List (List ℕ)) → IsReplayReply p budget text s lines → IsGiven s
+    replay_given text s lines (inl a) = subst IsGiven (sym a.2.0) tt
+    replay_given text s lines (inr (c, spells, inl a)) = subst IsGiven (sym a.2.0) tt
+    replay_given text s lines (inr (c, spells, inr (inl a))) = subst IsGiven (sym a.1.0) tt
+    replay_given text s lines (inr (c, spells, inr (inr a))) = subst IsGiven (sym a.1) tt
+
+  module _ (entry rest : List ℕ) where
     -- what is asked of a linked program has one status
-    linked_one : (q : Question) (s t : Status) (xs ys : List (List ℕ)) → IsLinkedReply p entry q s xs → IsLinkedReply p entry q t ys → s ≡ t
+    linked_one : (q : Question) (s t : Status) (xs ys : List (List ℕ)) → IsLinkedReply p entry rest q s xs → IsLinkedReply p entry rest q t ys → s ≡ t
     linked_one (points_to asked) s t xs ys a b = place_status asked (IsAnswerText p) s t xs ys a b
     linked_one (alias asked) s t xs ys a b = alias_status asked s t xs ys a b
     linked_one (run asked) s t xs ys a b = a.1 ∙ sym b.1
+    linked_one (replay budget) s t xs ys a b = replay_status budget rest s t xs ys a b
     linked_one (demo boxes) s t xs ys a b = place_status (demo_asked boxes) (λ n. IsDemoText p boxes) s t xs ys a b
 
-    linked_given : (q : Question) (s : Status) (lines : List (List ℕ)) → IsLinkedReply p entry q s lines → IsGiven s
+    linked_given : (q : Question) (s : Status) (lines : List (List ℕ)) → IsLinkedReply p entry rest q s lines → IsGiven s
     linked_given (points_to asked) s lines a = place_given asked (IsAnswerText p) s lines a
     linked_given (alias asked) s lines a = alias_given asked s lines a
     linked_given (run asked) s lines a = subst IsGiven (sym a.1) tt
+    linked_given (replay budget) s lines a = replay_given budget rest s lines a
     linked_given (demo boxes) s lines a = place_given (demo_asked boxes) (λ n. IsDemoText p boxes) s lines a
 
-module _ (r : Request) where
+module _ (r : Request) (rest : List ℕ) where
   -- a program and the stand-ins
-  joined_one : (input prelude : Program) (s t : Status) (xs ys : List (List ℕ)) → IsJoinedReply r input prelude s xs → IsJoinedReply r input prelude t ys → s ≡ t
+  joined_one : (input prelude : Program) (s t : Status) (xs ys : List (List ℕ)) → IsJoinedReply r rest input prelude s xs → IsJoinedReply r rest input prelude t ys → s ≡ t
   joined_one input prelude s t xs ys (inl a) (inl b) = a.2.0 ∙ ap NotLinked (error_one input prelude r.entry a.0 b.0 a.1 b.1) ∙ sym b.2.0
   joined_one input prelude s t xs ys (inl a) (inr b) = absurd (not_refused input prelude r.entry b.0 a.0 b.1 a.1)
   joined_one input prelude s t xs ys (inr a) (inl b) = absurd (not_refused input prelude r.entry a.0 b.0 a.1 b.1)
   joined_one input prelude s t xs ys (inr a) (inr b) =
-      linked_one b.0 r.entry r.question s t xs ys
-      (subst (λ (p : LinkedProgram). IsLinkedReply p r.entry r.question s xs) (link_one input prelude r.entry a.0 b.0 a.1 b.1) a.2) b.2
+      linked_one b.0 r.entry rest r.question s t xs ys
+      (subst (λ (p : LinkedProgram). IsLinkedReply p r.entry rest r.question s xs) (link_one input prelude r.entry a.0 b.0 a.1 b.1) a.2) b.2
 
   -- a program
-  program_one : (input : Program) (s t : Status) (xs ys : List (List ℕ)) → IsProgramReply r input s xs → IsProgramReply r input t ys → s ≡ t
+  program_one : (input : Program) (s t : Status) (xs ys : List (List ℕ)) → IsProgramReply r rest input s xs → IsProgramReply r rest input t ys → s ≡ t
   program_one input s t xs ys (inl a) (inl b) = a.1.0 ∙ sym b.1.0
   program_one input s t xs ys (inl a) (inr b) = absurd (a.0 b.0 b.1)
   program_one input s t xs ys (inr a) (inl b) = absurd (b.0 a.0 a.1)
   program_one input s t xs ys (inr a) (inr b) =
-      joined_one input b.0 s t xs ys (subst (λ (p : Program). IsJoinedReply r input p s xs) (prelude_one a.0 b.0 a.1 b.1) a.2) b.2
+      joined_one input b.0 s t xs ys (subst (λ (p : Program). IsJoinedReply r rest input p s xs) (prelude_one a.0 b.0 a.1 b.1) a.2) b.2
 
-  -- a text within the limit
-  text_one : (text : List ℕ) (s t : Status) (xs ys : List (List ℕ)) → IsTextReply r text s xs → IsTextReply r text t ys → s ≡ t
+  -- the program's part of a text
+  text_one : (text : List ℕ) (s t : Status) (xs ys : List (List ℕ)) → IsTextReply r rest text s xs → IsTextReply r rest text t ys → s ≡ t
   text_one text s t xs ys (inl a) (inl b) = unread_one text s t a.0 b.0
   text_one text s t xs ys (inl a) (inr b) = absurd (spelled_read text b.0 s b.1 a.0)
   text_one text s t xs ys (inr a) (inl b) = absurd (spelled_read text a.0 t a.1 b.0)
   text_one text s t xs ys (inr a) (inr b) =
-      program_one b.0 s t xs ys (subst (λ (p : Program). IsProgramReply r p s xs) (spells_one text a.0 b.0 a.1 b.1) a.2) b.2
+      program_one b.0 s t xs ys (subst (λ (p : Program). IsProgramReply r rest p s xs) (spells_one text a.0 b.0 a.1 b.1) a.2) b.2
 
+module _ (r : Request) where
   -- any text
   pub source_one : (text : List ℕ) (s t : Status) (xs ys : List (List ℕ)) → IsSourceReply r text s xs → IsSourceReply r text t ys → s ≡ t
   source_one text s t xs ys (inl a) (inl b) = a.1.0 ∙ sym b.1.0
   source_one text s t xs ys (inl a) (inr b) = let long = a.0 in let short = b.0 in absurd (omega (arith, long, short))
   source_one text s t xs ys (inr a) (inl b) = let long = b.0 in let short = a.0 in absurd (omega (arith, long, short))
-  source_one text s t xs ys (inr a) (inr b) = text_one text s t xs ys a.1 b.1
+  source_one text s t xs ys (inr a) (inr b) = text_one r (rest_in r.question text) (program_in r.question text) s t xs ys a.1 b.1
 
   -- a reply to a text has one of the statuses that a text has, or what is asked of its program
   pub source_given : (text : List ℕ) (s : Status) (lines : List (List ℕ)) → IsSourceReply r text s lines → IsGiven s
   source_given text s lines (inl a) = subst IsGiven (sym a.1.0) tt
-  source_given text s lines (inr (a, inl b)) = given_unread text s b.0
+  source_given text s lines (inr (a, inl b)) = given_unread (program_in r.question text) s b.0
   source_given text s lines (inr (a, inr (input, spelled, inl b))) = subst IsGiven (sym b.1.0) tt
   source_given text s lines (inr (a, inr (input, spelled, inr (prelude, is, inl b)))) = subst IsGiven (sym b.2.0) tt
-  source_given text s lines (inr (a, inr (input, spelled, inr (prelude, is, inr (p, links, b))))) = linked_given p r.entry r.question s lines b
+  source_given text s lines (inr (a, inr (input, spelled, inr (prelude, is, inr (p, links, b))))) = linked_given p r.entry (rest_in r.question text) r.question s lines b

@@ -9,7 +9,7 @@ use Rattle.report_text.specs.Lines.{text_of}
 use Rattle.boom_words.specs.Requests.{Request, IsRequest}
 use Rattle.boom_top.specs.Parts.{IsGiven, Makes, Sends, status_of}
 use Rattle.boom_top.specs.Evidence.{HasEvidence}
-use Rattle.boom_top.specs.Queries.{Accepted, source_of}
+use Rattle.boom_top.specs.Queries.{Accepted, rest_in, source_of}
 use Rattle.boom_top.specs.Replies.{GivesUp, IsReply, IsReplyTo}
 use Rattle.boom_top.specs.Runs.{CoversAllRuns, IsAnswerable}
 use Rattle.boom_top.specs.declared.query.NoReply.{NoReply}
@@ -128,7 +128,8 @@ module _ (old new : Option (List ℕ)) (before now : ℕ) (result : Status) (X :
     ]
 
     pub evidently : (made : Result Reply NoReply) → IfOk made Sent → IfErr made Unsent → IfOk made Made → (IsOk made → IsOne)
-        → result ≡ Done → (r : Request) → IsRequest words r → (a : Accepted r bytes) → HasEvidence a.linked r.question old new
+        → result ≡ Done → (r : Request) → IsRequest words r → (a : Accepted r bytes)
+        → HasEvidence a.linked (rest_in r.question (source_of r.question bytes)) r.question old new
     evidently (Err none.ReadFault) sent unsent is one done r is_request a = absurd (let no : ReadFault ≡ Done = sym unsent.0 ∙ done in cc)
     evidently (Err none.NoMemory) sent unsent is one done r is_request a = absurd (let no : NoMemory ≡ Done = sym unsent.0 ∙ done in cc)
     evidently (Ok reply) sent unsent is one done r is_request a = elim sent [

@@ -6,10 +6,13 @@ use Rattle.jim_ast.specs.Lists.{Has}
 use Rattle.link_rules.specs.Linked.{LinkedProgram}
 use Rattle.link_sites.specs.declared.site.Site.{Site}
 use Rattle.spds_rules.specs.declared.node.Node.{Node}
+use Rattle.cert_rules.specs.declared.certificate.Certificate.{Certificate}
+use Rattle.cert_rules.specs.Certified.{IsCertified}
+use Rattle.cert_rules.specs.Spelled.{SpellsCertificate}
 use Rattle.cert_laws.specs.Shown.{IsShown}
 use Rattle.query_core.specs.Places.{IsPlaceOf}
-use Rattle.report_text.specs.Answers.{IsAnswerText}
-use Rattle.boom_words.specs.Requests.{PointsTo, Question, alias, demo, points_to, run}
+use Rattle.report_text.specs.Answers.{IsAcceptedText, IsAnswerText}
+use Rattle.boom_words.specs.Requests.{PointsTo, Question, alias, demo, points_to, replay, run}
 
 -- The answer about the place was written, and for each site that it prints some list of lines is certified: step by step, that an object of the site may be
 -- at the node in the system of fields and in the system of calls.
@@ -23,9 +26,21 @@ pub record PrintsShown (p : LinkedProgram) (asked : PointsTo) (old new : Option 
   pub wrote : Appends old new text
   pub shown : (o : Site) → Has sites o → IsShown p node o
 
--- The evidence, by what was asked. Other commands print no answer about one local.
-abbrev pub HasEvidence : LinkedProgram → Question → Option (List ℕ) → Option (List ℕ) → Type 0
-HasEvidence p (points_to asked) old new = PrintsShown p asked old new
-HasEvidence p (alias asked) old new = Unit {0}
-HasEvidence p (run asked) old new = Unit {0}
-HasEvidence p (demo boxes) old new = Unit {0}
+-- What a certificate claims was written, and it is the one that the text spells, whose lines are certified for the site that is printed.
+pub record PrintsCertified (p : LinkedProgram) (certificate : List ℕ) (old new : Option (List ℕ)) : Type 0 where
+  pub spelled : Certificate
+  pub spells : SpellsCertificate certificate spelled
+  pub site : Site
+  pub demanded : ℕ
+  pub text : List ℕ
+  pub told : IsAcceptedText p spelled.target site demanded text
+  pub wrote : Appends old new text
+  pub certified : IsCertified p spelled.target spelled.lines site
+
+-- The evidence, by what was asked, of a program and of what stands behind its text. Other commands print no answer about one local.
+abbrev pub HasEvidence : LinkedProgram → List ℕ → Question → Option (List ℕ) → Option (List ℕ) → Type 0
+HasEvidence p rest (points_to asked) old new = PrintsShown p asked old new
+HasEvidence p rest (replay budget) old new = PrintsCertified p rest old new
+HasEvidence p rest (alias asked) old new = Unit {0}
+HasEvidence p rest (run asked) old new = Unit {0}
+HasEvidence p rest (demo boxes) old new = Unit {0}

@@ -1,7 +1,8 @@
+pub mod Cuts
 pub mod Demo
+pub mod Evidence
 pub mod Queries
 pub mod Refusals
 pub mod Replies
 pub mod Runs
 pub mod Parts
-pub mod Evidence

@@ -1,13 +1,14 @@
 -- What a request asks of a text: the program that it spells and that is linked.
-use Rattle.std.specs.Prelude.{ℕ, ◌<◌, ◌≤◌, List, All, length}
+use Rattle.std.specs.Prelude.{ℕ, ◌<◌, ◌≤◌, List, [], All, length}
 use Rattle.std.specs.Char.{IsAsciiDigit}
 use Rattle.jim_ast.specs.declared.syntax.Program.{Program}
 use Rattle.jim_parse.specs.Derives.{Spells}
 use Rattle.jim_prelude.specs.Text.{prelude_text}
 use Rattle.link_rules.specs.Conditions.{DeclaresNine}
 use Rattle.link_rules.specs.Linked.{LinkedProgram, Links}
-use Rattle.boom_words.specs.Requests.{Question, Request, alias, demo, points_to, run}
+use Rattle.boom_words.specs.Requests.{Question, Request, alias, demo, points_to, replay, run}
 use Rattle.demo_text.specs.Demo.{demo_source}
+use Rattle.boom_top.specs.Cuts.{before_mark, behind_mark, lines_of}
 
 -- the most bytes that are read
 abbrev pub limit : ℕ
@@ -18,7 +19,24 @@ abbrev pub source_of : Question → List ℕ → List ℕ
 source_of (points_to asked) bytes = bytes
 source_of (alias asked) bytes = bytes
 source_of (run asked) bytes = bytes
+source_of (replay budget) bytes = bytes
 source_of (demo boxes) bytes = demo_source boxes
+
+-- the program among these bytes: for a replay it stands before the mark
+abbrev pub program_in : Question → List ℕ → List ℕ
+program_in (replay budget) text = before_mark (lines_of text)
+program_in (points_to asked) text = text
+program_in (alias asked) text = text
+program_in (run asked) text = text
+program_in (demo boxes) text = text
+
+-- what stands behind it: for a replay the certificate
+abbrev pub rest_in : Question → List ℕ → List ℕ
+rest_in (replay budget) text = behind_mark (lines_of text)
+rest_in (points_to asked) text = []
+rest_in (alias asked) text = []
+rest_in (run asked) text = []
+rest_in (demo boxes) text = []
 
 -- the question needs no bytes
 abbrev pub IsDemo : Question → Type 0
@@ -26,6 +44,7 @@ IsDemo (demo boxes) = Unit {0}
 IsDemo (points_to asked) = ⊥
 IsDemo (alias asked) = ⊥
 IsDemo (run asked) = ⊥
+IsDemo (replay budget) = ⊥
 
 -- what the parts of a question keep: the choices of a run are digits, and the demo has from 1 to 400 boxes
 abbrev pub IsFit : Question → Type 0
@@ -33,6 +52,7 @@ IsFit (run asked) = All IsAsciiDigit asked.choices
 IsFit (demo boxes) = (0 < boxes) × (boxes ≤ 400)
 IsFit (points_to asked) = Unit {0}
 IsFit (alias asked) = Unit {0}
+IsFit (replay budget) = Unit {0}
 
 -- the stand-ins for Java's own classes: the program that their text spells. It declares the nine classes that linking needs
 pub record IsPrelude (prelude : Program) : Type 0 where
@@ -49,10 +69,10 @@ pub record LinksTo (input : Program) (entry : List ℕ) (p : LinkedProgram) : Ty
   pub is_prelude : IsPrelude prelude
   pub links : Links input prelude entry p
 
--- the program that a request is about, among these bytes: they spell one, and it is linked
+-- the program that a request is about, among these bytes: they are within the limit, the program's part of them spells one, and it is linked
 pub record Accepted (r : Request) (bytes : List ℕ) : Type 0 where
   pub short : length (source_of r.question bytes) ≤ limit
   pub input : Program
-  pub spelled : Spells (source_of r.question bytes) input
+  pub spelled : Spells (program_in r.question (source_of r.question bytes)) input
   pub linked : LinkedProgram
   pub links : LinksTo input r.entry linked

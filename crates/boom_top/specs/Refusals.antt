@@ -8,7 +8,7 @@ use Rattle.link_rules.specs.declared.refusal.LinkKind.TheVariants as rule
 use Rattle.query_core.specs.declared.places.Which.{Which}
 use Rattle.query_core.specs.declared.places.Which.TheVariants.{Method, Index, Local, Second}
 use Rattle.boom_top.specs.declared.status.Status.{Status}
-use Rattle.boom_top.specs.declared.status.Status.TheVariants.{Done, Usage, ReadFault, TooLong, NotText, NotJimple, NotLinked, NoSuchPlace, OverBudget, WriteFault, NoMemory, BadPrelude}
+use Rattle.boom_top.specs.declared.status.Status.TheVariants.{Done, Usage, ReadFault, TooLong, NotText, NotJimple, NotLinked, NoSuchPlace, NotCertificate, Rejected, OverBudget, WriteFault, NoMemory, BadPrelude}
 
 -- the number with which the program ends
 abbrev pub number_of : Status → ℕ
@@ -20,6 +20,8 @@ number_of (NotText at) = 4
 number_of (NotJimple at) = 5
 number_of (NotLinked error) = 6
 number_of (NoSuchPlace which) = 7
+number_of (NotCertificate at) = 9
+number_of (Rejected line) = 10
 number_of (OverBudget budget) = 11
 number_of WriteFault = 12
 number_of NoMemory = 13
@@ -95,6 +97,8 @@ refusal (NotText at) = codes "refused NotText " ++ decimal at
 refusal (NotJimple at) = codes "refused NotJimple " ++ decimal at
 refusal (NotLinked error) = codes "refused NotLinked " ++ error_text error
 refusal (NoSuchPlace which) = codes "refused NoSuchPlace " ++ which_text which
+refusal (NotCertificate at) = codes "refused NotCertificate " ++ decimal at
+refusal (Rejected line) = codes "refused Rejected " ++ decimal line
 refusal (OverBudget budget) = codes "refused OverBudget " ++ decimal budget
 refusal BadPrelude = codes "refused BadPrelude"
 refusal Done = []

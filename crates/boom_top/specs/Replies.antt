@@ -9,20 +9,23 @@ use Rattle.link_rules.specs.declared.refusal.LinkError.TheVariants as link
 use Rattle.link_rules.specs.Linked.{IsRefused, LinkedProgram, Links}
 use Rattle.link_sites.specs.declared.site.Site.{Site}
 use Rattle.spds_rules.specs.declared.node.Node.{Node}
+use Rattle.cert_rules.specs.declared.certificate.Certificate.{Certificate}
+use Rattle.cert_rules.specs.Spelled.{IsFirstBadLine, SpellsCertificate}
+use Rattle.cert_query.specs.Replays.{IsAccepted, IsOverBudget, IsRejectedAt}
 use Rattle.query_core.specs.declared.places.Which.{Which}
 use Rattle.query_core.specs.Answers.{AreSharedBy, IsAnswerTo, IsOver}
 use Rattle.query_core.specs.Places.{ArePlacesOf, IsMissing, IsMissingOfTwo, IsPlaceOf}
 use Rattle.report_text.specs.Aliases.{IsAliasText}
-use Rattle.report_text.specs.Answers.{IsAnswerText}
+use Rattle.report_text.specs.Answers.{IsAcceptedText, IsAnswerText}
 use Rattle.report_text.specs.Lines.{text_of}
 use Rattle.run_report.specs.Named.{digits_of}
 use Rattle.run_report.specs.Reports.{IsRunText}
-use Rattle.boom_words.specs.Requests.{Alias, PointsTo, Question, Request, RunFor, IsRequest, NoRequest, alias, demo, points_to, run}
+use Rattle.boom_words.specs.Requests.{Alias, PointsTo, Question, Request, RunFor, IsRequest, NoRequest, alias, demo, points_to, replay, run}
 use Rattle.boom_top.specs.Demo.{IsDemoText, demo_asked}
-use Rattle.boom_top.specs.Queries.{HasNoPrelude, IsPrelude, limit, source_of}
+use Rattle.boom_top.specs.Queries.{HasNoPrelude, IsPrelude, limit, program_in, rest_in, source_of}
 use Rattle.boom_top.specs.Refusals.{refusal}
 use Rattle.boom_top.specs.declared.status.Status.{Status}
-use Rattle.boom_top.specs.declared.status.Status.TheVariants.{Done, Usage, ReadFault, TooLong, NotText, NotJimple, NotLinked, NoSuchPlace, OverBudget, WriteFault, NoMemory, BadPrelude}
+use Rattle.boom_top.specs.declared.status.Status.TheVariants.{Done, Usage, ReadFault, TooLong, NotText, NotJimple, NotLinked, NoSuchPlace, NotCertificate, Rejected, OverBudget, WriteFault, NoMemory, BadPrelude}
 
 -- the status is this one, and its refusal is the only line
 abbrev pub IsRefusedBy : Status → Status → List (List ℕ) → Type 0
@@ -67,12 +70,32 @@ IsAliasReply p asked status lines =
 abbrev pub IsRunReply : LinkedProgram → List ℕ → RunFor → Status → List (List ℕ) → Type 0
 IsRunReply p entry asked status lines = IsRunText p entry asked.steps (digits_of asked.choices) (text_of lines) × (status ≡ Done)
 
--- about a linked program
-abbrev pub IsLinkedReply : LinkedProgram → List ℕ → Question → Status → List (List ℕ) → Type 0
-IsLinkedReply p entry (points_to asked) = IsPlaceReply p asked (IsAnswerText p)
-IsLinkedReply p entry (alias asked) = IsAliasReply p asked
-IsLinkedReply p entry (run asked) = IsRunReply p entry asked
-IsLinkedReply p entry (demo boxes) = IsPlaceReply p (demo_asked boxes) (λ n. IsDemoText p boxes)
+-- the certificate is accepted, which is told by what it claims and the size of its demand
+pub record IsClaimTold (p : LinkedProgram) (budget : ℕ) (c : Certificate) (lines : List (List ℕ)) : Type 0 where
+  pub node : Node
+  pub site : Site
+  pub demanded : ℕ
+  pub accepted : IsAccepted p budget c node site demanded
+  pub told : IsAcceptedText p node site demanded (text_of lines)
+
+-- about a certificate: a line refuses it, its demand is over the budget, or it is accepted
+abbrev pub IsCertificateReply : LinkedProgram → ℕ → Certificate → Status → List (List ℕ) → Type 0
+IsCertificateReply p budget c status lines = ((line : ℕ) × IsRejectedAt p budget c line × IsRefusedBy (Rejected line) status lines)
+    ⊎ (IsOverBudget p budget c × IsRefusedBy (OverBudget budget) status lines)
+    ⊎ (IsClaimTold p budget c lines × (status ≡ Done))
+
+-- about a text: it spells no certificate, or one
+abbrev pub IsReplayReply : LinkedProgram → ℕ → List ℕ → Status → List (List ℕ) → Type 0
+IsReplayReply p budget text status lines = ((at : ℕ) × IsFirstBadLine text at × IsRefusedBy (NotCertificate at) status lines)
+    ⊎ ((c : Certificate) × SpellsCertificate text c × IsCertificateReply p budget c status lines)
+
+-- about a linked program, and what stands behind its text
+abbrev pub IsLinkedReply : LinkedProgram → List ℕ → List ℕ → Question → Status → List (List ℕ) → Type 0
+IsLinkedReply p entry rest (points_to asked) = IsPlaceReply p asked (IsAnswerText p)
+IsLinkedReply p entry rest (alias asked) = IsAliasReply p asked
+IsLinkedReply p entry rest (run asked) = IsRunReply p entry asked
+IsLinkedReply p entry rest (replay budget) = IsReplayReply p budget rest
+IsLinkedReply p entry rest (demo boxes) = IsPlaceReply p (demo_asked boxes) (λ n. IsDemoText p boxes)
 
 -- a rule of linking refuses the program with the stand-ins, and this is told of it
 abbrev pub IsNotLinked : Program → Program → List ℕ → LinkError → Type 0
@@ -80,14 +103,14 @@ IsNotLinked input prelude entry (link.Refused kind place index) = IsRefused inpu
 IsNotLinked input prelude entry link.NoMemory = ⊥
 
 -- of a program and the stand-ins: a rule of linking refuses it, or it is linked
-abbrev pub IsJoinedReply : Request → Program → Program → Status → List (List ℕ) → Type 0
-IsJoinedReply r input prelude status lines = ((error : LinkError) × IsNotLinked input prelude r.entry error × IsRefusedBy (NotLinked error) status lines)
-    ⊎ ((p : LinkedProgram) × Links input prelude r.entry p × IsLinkedReply p r.entry r.question status lines)
+abbrev pub IsJoinedReply : Request → List ℕ → Program → Program → Status → List (List ℕ) → Type 0
+IsJoinedReply r rest input prelude status lines = ((error : LinkError) × IsNotLinked input prelude r.entry error × IsRefusedBy (NotLinked error) status lines)
+    ⊎ ((p : LinkedProgram) × Links input prelude r.entry p × IsLinkedReply p r.entry rest r.question status lines)
 
 -- of a program: there are no stand-ins, or there are
-abbrev pub IsProgramReply : Request → Program → Status → List (List ℕ) → Type 0
-IsProgramReply r input status lines = (HasNoPrelude × IsRefusedBy BadPrelude status lines)
-    ⊎ ((prelude : Program) × IsPrelude prelude × IsJoinedReply r input prelude status lines)
+abbrev pub IsProgramReply : Request → List ℕ → Program → Status → List (List ℕ) → Type 0
+IsProgramReply r rest input status lines = (HasNoPrelude × IsRefusedBy BadPrelude status lines)
+    ⊎ ((prelude : Program) × IsPrelude prelude × IsJoinedReply r rest input prelude status lines)
 
 -- why bytes spell no program: no token begins at a byte, or no program goes on with a token
 abbrev pub IsUnread : List ℕ → Status → Type 0
@@ -99,20 +122,22 @@ IsUnread bytes ReadFault = ⊥
 IsUnread bytes TooLong = ⊥
 IsUnread bytes (NotLinked error) = ⊥
 IsUnread bytes (NoSuchPlace which) = ⊥
+IsUnread bytes (NotCertificate at) = ⊥
+IsUnread bytes (Rejected line) = ⊥
 IsUnread bytes (OverBudget budget) = ⊥
 IsUnread bytes WriteFault = ⊥
 IsUnread bytes NoMemory = ⊥
 IsUnread bytes BadPrelude = ⊥
 
--- of a text within the limit: it spells no program, or it spells one
-abbrev pub IsTextReply : Request → List ℕ → Status → List (List ℕ) → Type 0
-IsTextReply r text status lines = (IsUnread text status × (lines ≡ refusal status ∷ []))
-    ⊎ ((input : Program) × Spells text input × IsProgramReply r input status lines)
+-- of the program's part of a text, and of what stands behind it: the one spells no program, or it spells one
+abbrev pub IsTextReply : Request → List ℕ → List ℕ → Status → List (List ℕ) → Type 0
+IsTextReply r rest text status lines = (IsUnread text status × (lines ≡ refusal status ∷ []))
+    ⊎ ((input : Program) × Spells text input × IsProgramReply r rest input status lines)
 
--- of any text: it is too long, or within the limit
+-- of any text: it is too long, or within the limit, of which all of it counts
 abbrev pub IsSourceReply : Request → List ℕ → Status → List (List ℕ) → Type 0
 IsSourceReply r text status lines = ((limit < length text) × IsRefusedBy TooLong status lines)
-    ⊎ ((length text ≤ limit) × IsTextReply r text status lines)
+    ⊎ ((length text ≤ limit) × IsTextReply r (rest_in r.question text) (program_in r.question text) status lines)
 
 -- The status and the lines that answer a request over these bytes. The demo is about its own text.
 abbrev pub IsReplyTo : Request → List ℕ → Status → List (List ℕ) → Type 0
@@ -135,5 +160,7 @@ GivesUp (NotText at) = ⊥
 GivesUp (NotJimple at) = ⊥
 GivesUp (NotLinked error) = ⊥
 GivesUp (NoSuchPlace which) = ⊥
+GivesUp (NotCertificate at) = ⊥
+GivesUp (Rejected line) = ⊥
 GivesUp (OverBudget budget) = ⊥
 GivesUp BadPrelude = ⊥

@@ -4,20 +4,24 @@ use Rattle.std.specs.declared.option.Option.{Option}
 use Rattle.std.specs.Io.KnownBytes.{Appends}
 use Rattle.jim_ast.specs.Lists.{Has}
 use Rattle.link_rules.specs.Linked.{LinkedProgram}
+use Rattle.link_sites.specs.declared.site.Site.{Site}
 use Rattle.spds_rules.specs.declared.node.Node.{Node}
 use Rattle.spds_rules.specs.declared.node.Var.TheVariants.{Local}
 use Rattle.spds_rules.specs.Nodes.{at}
 use Rattle.step_rules.specs.Runs.{Run}
 use Rattle.step_rules.specs.States.{Frame, HeapObject, State, place_of}
 use Rattle.run_sound.specs.Simulated.{Holds}
+use Rattle.cert_rules.specs.declared.certificate.Certificate.{Certificate}
+use Rattle.cert_rules.specs.Spelled.{SpellsCertificate}
+use Rattle.cert_query.specs.Replays.{IsAccepted}
 use Rattle.query_core.specs.Answers.{IsAffordable}
 use Rattle.query_core.specs.Places.{ArePlacesOf, IsPlaceOf}
 use Rattle.report_text.specs.Aliases.{IsSharedLine}
 use Rattle.report_text.specs.Answers.{IsSiteLine}
 use Rattle.report_text.specs.Lines.{text_of}
-use Rattle.boom_words.specs.Requests.{PointsTo, Question, Request, IsRequest, alias, demo, points_to, run}
+use Rattle.boom_words.specs.Requests.{PointsTo, Question, Request, IsRequest, alias, demo, points_to, replay, run}
 use Rattle.boom_top.specs.Demo.{demo_asked}
-use Rattle.boom_top.specs.Queries.{Accepted, IsDemo}
+use Rattle.boom_top.specs.Queries.{Accepted, IsDemo, rest_in, source_of}
 
 -- one of the lines of a text
 pub record HasLine (text line : List ℕ) : Type 0 where
@@ -45,32 +49,38 @@ PrintsAllAliases p a b old new = (count : ℕ) (s : State) (number : ℕ) (frame
     × ((object : HeapObject) × (slice_get s.heap o ≡ Some object) × (line : List ℕ) × IsSharedLine p object.site line × Prints old new line)
 
 -- The headline of the top call, by what was asked: the site of each object that a run brings to the local is printed, and locals that hold one object
--- are printed as aliases. What is said of a run is exact, and what is said of the demo tells no sites.
+-- are printed as aliases. What is said of a run is exact, a replay tells one site, and what is said of the demo tells none.
 abbrev pub CoversAllRuns : LinkedProgram → Question → Option (List ℕ) → Option (List ℕ) → Type 0
 CoversAllRuns p (points_to asked) old new = (n : Node) → IsPlaceOf p asked.method asked.index asked.local n → PrintsAllRuns p n old new
 CoversAllRuns p (alias asked) old new = (a b : Node) → ArePlacesOf p asked.method asked.index asked.first asked.second a b
     → PrintsAllAliases p a b old new
 CoversAllRuns p (run asked) old new = Unit {0}
+CoversAllRuns p (replay budget) old new = Unit {0}
 CoversAllRuns p (demo boxes) old new = Unit {0}
 
 -- the place is there, and the budget is at least the size of its demand
 abbrev pub IsWithin : LinkedProgram → PointsTo → Type 0
 IsWithin p asked = (n : Node) × IsPlaceOf p asked.method asked.index asked.local n × IsAffordable p (n ∷ []) asked.budget
 
--- what is asked of a linked program can be answered
-abbrev pub HasAnswer : LinkedProgram → Question → Type 0
-HasAnswer p (points_to asked) = IsWithin p asked
-HasAnswer p (alias asked) = (a : Node) × (b : Node) × ArePlacesOf p asked.method asked.index asked.first asked.second a b
+-- a text spells a certificate for a site, within the budget
+abbrev pub IsCertificateOf : LinkedProgram → ℕ → List ℕ → Type 0
+IsCertificateOf p budget text = (c : Certificate) × SpellsCertificate text c × ((n : Node) × (o : Site) × (demanded : ℕ) × IsAccepted p budget c n o demanded)
+
+-- what is asked of a linked program, with what stands behind its text, can be answered
+abbrev pub HasAnswer : LinkedProgram → List ℕ → Question → Type 0
+HasAnswer p rest (points_to asked) = IsWithin p asked
+HasAnswer p rest (alias asked) = (a : Node) × (b : Node) × ArePlacesOf p asked.method asked.index asked.first asked.second a b
     × IsAffordable p (a ∷ b ∷ []) asked.budget
-HasAnswer p (run asked) = Unit {0}
-HasAnswer p (demo boxes) = IsWithin p (demo_asked boxes)
+HasAnswer p rest (run asked) = Unit {0}
+HasAnswer p rest (replay budget) = IsCertificateOf p budget rest
+HasAnswer p rest (demo boxes) = IsWithin p (demo_asked boxes)
 
 -- the words ask for what can be answered, of a program that the bytes spell and that is linked
 pub record IsAnswerable (words : List (List ℕ)) (bytes : List ℕ) : Type 0 where
   pub request : Request
   pub requested : IsRequest words request
   pub accepted : Accepted request bytes
-  pub answer : HasAnswer accepted.linked request.question
+  pub answer : HasAnswer accepted.linked (rest_in request.question (source_of request.question bytes)) request.question
 
 -- the words ask nothing that is read: they are no command, or the demo's
 abbrev pub ReadsNothing : List (List ℕ) → Type 0

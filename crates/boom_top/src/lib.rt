@@ -2,11 +2,13 @@
 #![tactic(auto)]
 
 mod aliases;
+mod cutting;
 mod demo;
 mod linked;
 mod query;
 mod reading;
 mod refusal;
+mod replays;
 mod status;
 mod top;
 

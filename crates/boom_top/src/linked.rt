@@ -5,10 +5,11 @@ ghost use Rattle.jim_prelude.specs.Text.{prelude_text};
 ghost use Rattle.link_rules.specs.Conditions.{DeclaresNine, IsRead};
 ghost use Rattle.boom_words.specs.Commands.{question_of, request_of};
 ghost use Rattle.boom_top.specs.Parts.{Makes, Tells};
-ghost use Rattle.boom_top.specs.Queries.{IsFit, limit};
+ghost use Rattle.boom_top.specs.Queries.{IsFit, limit, program_in, rest_in};
 ghost use Rattle.boom_top.specs.Replies.{IsJoinedReply, IsProgramReply, IsSourceReply, IsTextReply};
 ghost use Rattle.boom_top.specs.declared.status.Status.TheVariants as status;
 
+use super::cutting::parts_of;
 use super::query::{Reply, linked_reply, refused};
 use super::reading::{LIMIT, Unread, read};
 use super::status::Status;
@@ -31,10 +32,11 @@ fn not_linked(alloc: Global, error: LinkError) -> Result<Reply, NoMemory>
     refused(alloc, Status::NotLinked(error))
 }
 
-// The reply to a command about a program and the stand-ins.
+// The reply to a command about a program and the stand-ins, with what stands behind the program.
 fn joined_reply(
     alloc: Global,
     command: &Command<'_>,
+    rest: &[u8],
     input: &Program,
     prelude: &Program,
 ) -> Result<Reply, NoMemory>
@@ -42,10 +44,10 @@ fn joined_reply(
     requires prelude { IsRead prelude.now }
     requires nine { DeclaresNine prelude.now }
     requires fit { IsFit (question_of command.now.query) }
-    ensures { IfOk result (Makes (IsJoinedReply (request_of command.now) input.now prelude.now)) }
+    ensures { IfOk result (Makes (IsJoinedReply (request_of command.now) rest.now input.now prelude.now)) }
 {
     match link(alloc, input, prelude, command.entry) {
-        Ok(linked) => linked_reply(alloc, command, &linked),
+        Ok(linked) => linked_reply(alloc, command, rest, &linked),
         Err(error) => not_linked(alloc, error),
     }
 }
@@ -54,50 +56,72 @@ fn joined_reply(
 fn checked_reply(
     alloc: Global,
     command: &Command<'_>,
+    rest: &[u8],
     input: &Program,
     prelude: &Program,
 ) -> Result<Reply, NoMemory>
     requires input { IsRead input.now }
     requires prelude { Spells prelude_text prelude.now }
     requires fit { IsFit (question_of command.now.query) }
-    ensures { IfOk result (Makes (IsProgramReply (request_of command.now) input.now)) }
+    ensures { IfOk result (Makes (IsProgramReply (request_of command.now) rest.now input.now)) }
 {
     spelled_programs_are_read();
     if declares_named(prelude) {
-        joined_reply(alloc, command, input, prelude)
+        joined_reply(alloc, command, rest, input, prelude)
     } else {
         refused(alloc, Status::BadPrelude)
     }
 }
 
-// The reply to a command about a program.
-fn program_reply(alloc: Global, command: &Command<'_>, input: &Program) -> Result<Reply, NoMemory>
+// The reply to a command about a program, with what stands behind it.
+fn program_reply(
+    alloc: Global,
+    command: &Command<'_>,
+    rest: &[u8],
+    input: &Program,
+) -> Result<Reply, NoMemory>
     requires input { IsRead input.now }
     requires fit { IsFit (question_of command.now.query) }
-    ensures { IfOk result (Makes (IsProgramReply (request_of command.now) input.now)) }
+    ensures { IfOk result (Makes (IsProgramReply (request_of command.now) rest.now input.now)) }
 {
     prelude_is_whole();
     match read(alloc, PRELUDE.as_bytes()) {
-        Ok(prelude) => checked_reply(alloc, command, input, &prelude),
+        Ok(prelude) => checked_reply(alloc, command, rest, input, &prelude),
         Err(Unread::NoMemory) => Err(AllocError),
         Err(Unread::NotText { .. }) => refused(alloc, Status::BadPrelude),
         Err(Unread::NotJimple { .. }) => refused(alloc, Status::BadPrelude),
     }
 }
 
-// The reply to a command about a text within the limit.
-fn short_reply(alloc: Global, command: &Command<'_>, bytes: &[u8]) -> Result<Reply, NoMemory>
-    requires short { length bytes.now ≤ limit }
+// The reply to a command about a program's text, with what stands behind it.
+fn parts_reply(
+    alloc: Global,
+    command: &Command<'_>,
+    rest: &[u8],
+    text: &[u8],
+) -> Result<Reply, NoMemory>
+    requires short { length text.now ≤ limit }
     requires fit { IsFit (question_of command.now.query) }
-    ensures { IfOk result (Makes (IsTextReply (request_of command.now) bytes.now)) }
+    ensures { IfOk result (Makes (IsTextReply (request_of command.now) rest.now text.now)) }
 {
     spelled_programs_are_read();
-    match read(alloc, bytes) {
-        Ok(input) => program_reply(alloc, command, &input),
+    match read(alloc, text) {
+        Ok(input) => program_reply(alloc, command, rest, &input),
         Err(Unread::NotText { at }) => refused(alloc, Status::NotText { at }),
         Err(Unread::NotJimple { at }) => refused(alloc, Status::NotJimple { at }),
         Err(Unread::NoMemory) => Err(AllocError),
     }
+}
+
+// The reply to a command about a text within the limit, which is cut.
+fn short_reply(alloc: Global, command: &Command<'_>, bytes: &[u8]) -> Result<Reply, NoMemory>
+    requires short { length bytes.now ≤ limit }
+    requires fit { IsFit (question_of command.now.query) }
+    ensures { IfOk result (Makes (IsTextReply (request_of command.now) (rest_in (question_of command.now.query) bytes.now)
+        (program_in (question_of command.now.query) bytes.now))) }
+{
+    let parts = parts_of(&command.query, bytes);
+    parts_reply(alloc, command, parts.rest, parts.program)
 }
 
 /// The reply to a command about a text.

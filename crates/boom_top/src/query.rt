@@ -15,6 +15,7 @@ ghost use Rattle.boom_top.specs.Replies.{IsLinkedReply, IsPlaceReply, IsRunReply
 use super::aliases::alias_reply;
 use super::demo::demo_reply;
 use super::refusal::refusal_text;
+use super::replays::replay_reply;
 use super::status::Status;
 use boom_words::{Asked, Command, Query, Running};
 use jim_ast::NoMemory;
@@ -136,20 +137,22 @@ fn run_reply(
     Ok(Reply { status, text })
 }
 
-/// The reply to what a command asks of a linked program.
+/// The reply to what a command asks of a linked program, with what stands behind the program.
 pub(crate) fn linked_reply(
     alloc: Global,
     command: &Command<'_>,
+    rest: &[u8],
     linked: &Linked,
 ) -> Result<Reply, NoMemory>
     requires well { IsWellLinked linked.now }
     requires fit { IsFit (question_of command.now.query) }
-    ensures { IfOk result (Makes (IsLinkedReply linked.now command.now.entry.now (question_of command.now.query))) }
+    ensures { IfOk result (Makes (IsLinkedReply linked.now command.now.entry.now rest.now (question_of command.now.query))) }
 {
     match &command.query {
         Query::PointsTo(asked) => points_to_reply(alloc, asked, linked),
         Query::Alias(asked) => alias_reply(alloc, asked, linked),
         Query::Run(asked) => run_reply(alloc, command.entry, asked, linked),
+        Query::Replay { budget } => replay_reply(alloc, *budget, rest, linked),
         Query::Demo { boxes } => demo_reply(alloc, *boxes, linked),
     }
 }

@@ -90,6 +90,18 @@ fn over_budget(alloc: Global, budget: u32) -> Result<String, NoMemory>
     format!(in alloc; "refused OverBudget {budget}\n")
 }
 
+fn no_certificate(alloc: Global, at: u32) -> Result<String, NoMemory>
+    ensures { IfOk result (λ text. string_bytes text ≡ text_of (refusal (status.NotCertificate at) ∷ [])) }
+{
+    format!(in alloc; "refused NotCertificate {at}\n")
+}
+
+fn rejected(alloc: Global, line: u32) -> Result<String, NoMemory>
+    ensures { IfOk result (λ text. string_bytes text ≡ text_of (refusal (status.Rejected line) ∷ [])) }
+{
+    format!(in alloc; "refused Rejected {line}\n")
+}
+
 fn no_text(alloc: Global, at: u32) -> Result<String, NoMemory>
     ensures { IfOk result (λ text. string_bytes text ≡ text_of (refusal (status.NotText at) ∷ [])) }
 {
@@ -116,6 +128,8 @@ pub(crate) fn refusal_text(alloc: Global, status: &Status) -> Result<String, NoM
             let word = word_of(*which);
             format!(in alloc; "refused NoSuchPlace {word}\n")
         }
+        Status::NotCertificate { at } => no_certificate(alloc, *at),
+        Status::Rejected { line } => rejected(alloc, *line),
         Status::OverBudget { budget } => over_budget(alloc, *budget),
         Status::BadPrelude => String::from_str(alloc, "refused BadPrelude\n"),
         _ => String::from_str(alloc, "\n"),

@@ -25,6 +25,11 @@ pub enum Status {
     NotLinked(LinkError),
     /// A part of the place that the command names isn't there: the first in the order of `Which`.
     NoSuchPlace { which: Which },
+    /// What stands behind the mark is no certificate: this is the first line, from 0, that isn't one of a certificate; 0 where there is none.
+    NotCertificate { at: u32 },
+    /// The certificate isn't accepted: this is the first line, from 1, that isn't justified; where each is and the last is no claim of the target, the
+    /// number behind it; and 0 where the target is no local just before a statement of the program.
+    Rejected { line: u32 },
     /// More nodes than this budget are demanded.
     OverBudget { budget: u32 },
     /// A write failed.
@@ -50,6 +55,8 @@ impl Status {
             Status::NotJimple { .. } => 5,
             Status::NotLinked(_) => 6,
             Status::NoSuchPlace { .. } => 7,
+            Status::NotCertificate { .. } => 9,
+            Status::Rejected { .. } => 10,
             Status::OverBudget { .. } => 11,
             Status::WriteFault => 12,
             Status::NoMemory => 13,

@@ -9,7 +9,7 @@ ghost use Rattle.demo_text.specs.Demo.{demo_source};
 ghost use Rattle.report_text.specs.Lines.{text_of};
 ghost use Rattle.boom_top.specs.Evidence.{HasEvidence};
 ghost use Rattle.boom_top.specs.Parts.{IsGiven, Makes, Sends, status_of};
-ghost use Rattle.boom_top.specs.Queries.{Accepted, IsDemo, IsFit};
+ghost use Rattle.boom_top.specs.Queries.{Accepted, IsDemo, IsFit, rest_in, source_of};
 ghost use Rattle.boom_top.specs.Replies.{GivesUp, IsReply, IsReplyTo, IsSourceReply};
 ghost use Rattle.boom_top.specs.Runs.{AreAbout, CoversAllRuns, IsAnswerable, ReadsNothing};
 
@@ -119,12 +119,14 @@ fn words_reply<S: Source>(alloc: Global, words: &[String], source: &mut S) -> Re
 /// - `points-to ENTRY METHOD INDEX LOCAL BUDGET`: which sites may be those of the object that LOCAL holds just before the statement?
 /// - `alias ENTRY METHOD INDEX LOCAL LOCAL BUDGET`: which sites may be those of one object that both locals hold there?
 /// - `run ENTRY STEPS CHOICES`: how does the machine stand after so many steps of the run that the digits name?
+/// - `replay ENTRY BUDGET`: does the certificate behind the program show that a local may hold an object of a site? The program is what stands before the
+///   first line that is `%certificate`, and the certificate is what stands behind it; the length is that of the whole.
 /// - `demo BOXES`: how large is a program of so many boxes, and what does a query of it demand? It reads nothing; its own text stands in the place of
 ///   the bytes.
 ///
 /// The program is linked, with the stand-ins for Java's own classes that are built in, from the `main` of the class ENTRY on. The checks come in this
-/// order: words, length, tokens, grammar, stand-ins, linking, place, budget. The first that fails is the status, and its line is the reply; else the
-/// status is `Done`. The reply is made whole before it is written.
+/// order: words, length, tokens, grammar, stand-ins, linking, place or certificate, budget, lines of the certificate. The first that fails is the status,
+/// and its line is the reply; else the status is `Done`. The reply is made whole before it is written.
 ///
 /// The clauses on replies speak of a source that tells the bytes it has left, and of any source where nothing is read.
 pub fn boomer<S: Source, K: Sink>(
@@ -145,10 +147,11 @@ pub fn boomer<S: Source, K: Sink>(
     ensures sound { (bytes : List ℕ) → AreAbout (map string_bytes words.now) (S.left source.old) bytes → result ≡ Status.Done
         → (r : Request) → IsRequest (map string_bytes words.now) r
         → (a : Accepted r bytes) → CoversAllRuns a.linked r.question (K.written sink.old) (K.written sink.new) }
-    // The evidence: for each site that an answer prints some list of lines is certified.
+    // The evidence: for each site that an answer prints some list of lines is certified; and a replay prints the site for which the lines that it was
+    // given are.
     ensures evident { (bytes : List ℕ) → AreAbout (map string_bytes words.now) (S.left source.old) bytes → result ≡ Status.Done
-        → (r : Request) → IsRequest (map string_bytes words.now) r
-        → (a : Accepted r bytes) → HasEvidence a.linked r.question (K.written sink.old) (K.written sink.new) }
+        → (r : Request) → IsRequest (map string_bytes words.now) r → (a : Accepted r bytes)
+        → HasEvidence a.linked (rest_in r.question (source_of r.question bytes)) r.question (K.written sink.old) (K.written sink.new) }
     // What is there, with a budget of at least its demand's size, is answered where no read and no write fails and memory is found.
     ensures complete { (bytes : List ℕ) → AreAbout (map string_bytes words.now) (S.left source.old) bytes → IsAnswerable (map string_bytes words.now) bytes
         → ¬ Rose (S.faults source.old) (S.faults source.new) → ¬ Rose (K.faults sink.old) (K.faults sink.new) → (result ≡ Status.Done) ⊎ (result ≡ Status.NoMemory) }

@@ -2,7 +2,13 @@
 use Rattle.std.proofs.Common.{◌≡◌, ℕ, ◌^◌, ◌<◌, ◌≤◌, List, [], ◌∷◌, Some, sym, ◌∙◌, map, length, get_or, codes, arith, refl}
 use Rattle.std.proofs.lemmas.List.{length-map}
 use Rattle.std.specs.Fmt.{decimal}
-use Rattle.boom_words.specs.Requests.{AreChoices, IsQuestion, IsRequest, Question, Request, alias, demo, points_to, run}
+use Rattle.boom_words.specs.Requests.{AreChoices, IsQuestion, IsRequest, Question, Request, alias, demo, points_to, replay, run}
+
+-- a list of one element is its element
+pub one : {X : Type 0} (xs : List X) (a : X) → length xs ≡ 1 → a ≡ get_or xs 0 a → xs ≡ a ∷ []
+one [] a h p = absurd (omega arith)
+one (x0 ∷ []) a h p = cc
+one (x0 ∷ x1 ∷ xs) a h p = absurd (omega arith)
 
 -- a list of two elements is its elements
 pub two : {X : Type 0} (xs : List X) (a b : X) → length xs ≡ 2 → a ≡ get_or xs 0 a → b ≡ get_or xs 1 b → xs ≡ a ∷ b ∷ []
@@ -70,6 +76,7 @@ points_to_numbers entry method index local budget named (points_to asked) h =
     }
 points_to_numbers entry method index local budget named (alias asked) h = absurd (let same = h.in_order in cc)
 points_to_numbers entry method index local budget named (run asked) h = absurd (let same = h.in_order in cc)
+points_to_numbers entry method index local budget named (replay most) h = absurd (let same = h.in_order in cc)
 points_to_numbers entry method index local budget named (demo count) h = absurd (let same = h.in_order in cc)
 
 -- the `points-to` command with the numbers that its words spell is what the words ask for
@@ -128,6 +135,7 @@ alias_numbers entry method index first second budget named (alias asked) h =
       asks = rw (method_same, first_same, second_same) refl;
     }
 alias_numbers entry method index first second budget named (run asked) h = absurd (let same = h.in_order in cc)
+alias_numbers entry method index first second budget named (replay most) h = absurd (let same = h.in_order in cc)
 alias_numbers entry method index first second budget named (demo count) h = absurd (let same = h.in_order in cc)
 
 -- the `alias` command with the numbers that its words spell is what the words ask for
@@ -181,6 +189,7 @@ run_numbers entry steps word named (run asked) h =
       is_entry = cc;
       asks = refl;
     }
+run_numbers entry steps word named (replay most) h = absurd (let same = h.in_order in cc)
 run_numbers entry steps word named (demo count) h = absurd (let same = h.in_order in cc)
 
 -- the `run` command with the steps and the choices that its words spell is what the words ask for
@@ -221,6 +230,7 @@ points_to_counted entry words named (points_to asked) h =
     rw behind refl
 points_to_counted entry words named (alias asked) h = absurd (let same = h.in_order in cc)
 points_to_counted entry words named (run asked) h = absurd (let same = h.in_order in cc)
+points_to_counted entry words named (replay most) h = absurd (let same = h.in_order in cc)
 points_to_counted entry words named (demo count) h = absurd (let same = h.in_order in cc)
 
 -- a `points-to` command has four words behind its entry
@@ -236,6 +246,7 @@ alias_counted entry words named (alias asked) h =
     let behind : words ≡ asked.method ∷ decimal asked.index ∷ asked.first ∷ asked.second ∷ decimal asked.budget ∷ [] = cc in
     rw behind refl
 alias_counted entry words named (run asked) h = absurd (let same = h.in_order in cc)
+alias_counted entry words named (replay most) h = absurd (let same = h.in_order in cc)
 alias_counted entry words named (demo count) h = absurd (let same = h.in_order in cc)
 
 -- an `alias` command has five words behind its entry
@@ -251,9 +262,66 @@ run_counted entry words named (run asked) h =
     let same = h.in_order in
     let behind : words ≡ decimal asked.steps ∷ h.word ∷ [] = cc in
     rw behind refl
+run_counted entry words named (replay most) h = absurd (let same = h.in_order in cc)
 run_counted entry words named (demo count) h = absurd (let same = h.in_order in cc)
 
 -- a `run` command has two words behind its entry
 pub run_count : {X : Type 0} (bytes : X → List ℕ) (entry : List ℕ) (words : List X) (r : Request)
     → IsRequest (codes "run" ∷ entry ∷ map bytes words) r → length words ≡ 2
 run_count bytes entry words r h = sym (length-map words bytes) ∙ run_counted entry (map bytes words) r.entry r.question h
+
+-- the budget of a `replay` command, by its words
+record ReplayNumbers (entry budget : List ℕ) (named : List ℕ) (q : Question) : Type 0 where
+  pub most : ℕ
+  pub small_budget : most < 2 ^ 32
+  pub is_budget : budget ≡ decimal most
+  pub is_entry : entry ≡ named
+  pub asks : replay most ≡ q
+
+-- words that begin with `replay` ask for a replay
+replay_numbers : (entry budget : List ℕ) (named : List ℕ) (q : Question) → IsQuestion (codes "replay" ∷ entry ∷ budget ∷ []) named q
+    → ReplayNumbers entry budget named q
+replay_numbers entry budget named (points_to asked) h = absurd (let same = h.in_order in cc)
+replay_numbers entry budget named (alias asked) h = absurd (let same = h.in_order in cc)
+replay_numbers entry budget named (run asked) h = absurd (let same = h.in_order in cc)
+replay_numbers entry budget named (replay most) h =
+    let same = h.in_order in
+    record {
+      most = most;
+      small_budget = h.small_budget;
+      is_budget = cc;
+      is_entry = cc;
+      asks = refl;
+    }
+replay_numbers entry budget named (demo count) h = absurd (let same = h.in_order in cc)
+
+-- the `replay` command with the budget that its word spells is what the words ask for
+pub replay_only : (entry budget : List ℕ) (most : ℕ) (r : Request) → IsRequest (codes "replay" ∷ entry ∷ budget ∷ []) r → Spells budget most
+    → record { entry = entry; question = replay most } ≡ r
+replay_only entry budget most r h spells_budget =
+    let n = replay_numbers entry budget r.entry r.question h in
+    let most_same : most ≡ n.most = (let e = spells_budget n.most n.small_budget n.is_budget in cc) in
+    request_same entry _ r n.is_entry (rw most_same n.asks)
+
+-- a `replay` command has a budget
+pub replay_has_budget : (entry budget : List ℕ) (r : Request) → IsRequest (codes "replay" ∷ entry ∷ budget ∷ []) r
+    → ((n : ℕ) → n < 2 ^ 32 → ¬ (budget ≡ decimal n)) → ⊥
+replay_has_budget entry budget r h none =
+    let n = replay_numbers entry budget r.entry r.question h in
+    none n.most n.small_budget n.is_budget
+
+-- the words behind the entry of `replay`, by the question
+replay_counted : (entry : List ℕ) (words : List (List ℕ)) (named : List ℕ) (q : Question) → IsQuestion (codes "replay" ∷ entry ∷ words) named q → length words ≡ 1
+replay_counted entry words named (points_to asked) h = absurd (let same = h.in_order in cc)
+replay_counted entry words named (alias asked) h = absurd (let same = h.in_order in cc)
+replay_counted entry words named (run asked) h = absurd (let same = h.in_order in cc)
+replay_counted entry words named (replay most) h =
+    let same = h.in_order in
+    let behind : words ≡ decimal most ∷ [] = cc in
+    rw behind refl
+replay_counted entry words named (demo count) h = absurd (let same = h.in_order in cc)
+
+-- a `replay` command has one word behind its entry
+pub replay_count : {X : Type 0} (bytes : X → List ℕ) (entry : List ℕ) (words : List X) (r : Request)
+    → IsRequest (codes "replay" ∷ entry ∷ map bytes words) r → length words ≡ 1
+replay_count bytes entry words r h = sym (length-map words bytes) ∙ replay_counted entry (map bytes words) r.entry r.question h

@@ -1,5 +1,5 @@
 -- What a command's fields are.
-use Rattle.boom_words.specs.Requests.{Alias, PointsTo, Question, Request, RunFor, alias, demo, points_to, run}
+use Rattle.boom_words.specs.Requests.{Alias, PointsTo, Question, Request, RunFor, alias, demo, points_to, replay, run}
 use Rattle.boom_words.specs.declared.request.Asked.{Asked}
 use Rattle.boom_words.specs.declared.request.AskedBoth.{AskedBoth}
 use Rattle.boom_words.specs.declared.request.Command.{Command}
@@ -24,6 +24,7 @@ abbrev pub question_of : Query → Question
 question_of (query.PointsTo asked) = points_to (points_to_of asked)
 question_of (query.Alias asked) = alias (alias_of asked)
 question_of (query.Run asked) = run (run_of asked)
+question_of (query.Replay budget) = replay budget
 question_of (query.Demo boxes) = demo boxes
 
 -- the request that a command is

@@ -23,11 +23,13 @@ pub record RunFor : Type 0 where
   pub steps : ℕ
   pub choices : List ℕ
 
--- what is asked of a linked program. The demo, of so many boxes, is asked of a program of its own
+-- what is asked of a linked program. A replay asks whether the certificate behind the program is one, where so many nodes may be demanded. The demo, of
+-- so many boxes, is asked of a program of its own
 pub data Question : Type 0 where
   points_to : PointsTo → Question
   alias : Alias → Question
   run : RunFor → Question
+  replay : ℕ → Question
   demo : ℕ → Question
 
 -- a question, and the class from which the program is linked
@@ -60,6 +62,11 @@ pub record IsRun (words : List (List ℕ)) (entry : List ℕ) (asked : RunFor) :
   pub few_steps : asked.steps ≤ 1000000
   pub are_choices : AreChoices word asked.choices
 
+-- the words of a `replay` command, by position: the number is decimal digits without a leading zero, below 2^32
+pub record IsReplay (words : List (List ℕ)) (entry : List ℕ) (budget : ℕ) : Type 0 where
+  pub in_order : words ≡ codes "replay" ∷ entry ∷ decimal budget ∷ []
+  pub small_budget : budget < 2 ^ 32
+
 -- the words of a `demo` command: the number of boxes is decimal digits without a leading zero, from 1 to 400. Its program begins in its class Demo
 pub record IsDemo (words : List (List ℕ)) (entry : List ℕ) (boxes : ℕ) : Type 0 where
   pub in_order : words ≡ codes "demo" ∷ decimal boxes ∷ []
@@ -72,6 +79,7 @@ abbrev pub IsQuestion : List (List ℕ) → List ℕ → Question → Type 0
 IsQuestion words entry (points_to asked) = IsPointsTo words entry asked
 IsQuestion words entry (alias asked) = IsAlias words entry asked
 IsQuestion words entry (run asked) = IsRun words entry asked
+IsQuestion words entry (replay budget) = IsReplay words entry budget
 IsQuestion words entry (demo boxes) = IsDemo words entry boxes
 
 -- the words are this request

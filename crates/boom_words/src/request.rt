@@ -43,6 +43,8 @@ pub enum Query<'a> {
     Alias(AskedBoth<'a>),
     /// How does a run stand after some steps?
     Run(Running<'a>),
+    /// Is the certificate behind the program one, where no more nodes may be demanded?
+    Replay { budget: u32 },
     /// Which sites may the last local of the demo's program hold, which has this many boxes?
     Demo { boxes: u32 },
 }
@@ -198,6 +200,29 @@ fn run<'a>(
     }))
 }
 
+// The `replay` command with this entry and these words behind it.
+fn replay<'a>(
+    alloc: Global,
+    entry: &'a str,
+    words: &'a [String],
+) -> Result<Option<Command<'a>>, NoMemory>
+    ensures some { IfOk result (λ found. IfSome found (λ c.
+        IsRequest (codes "replay" ∷ entry.now ∷ map string_bytes words.now) (request_of c))) }
+    ensures only { IfOk result (λ found. (r : Request) → IsRequest (codes "replay" ∷ entry.now ∷ map string_bytes words.now) r
+        → IsSomeAnd found (λ c. request_of c ≡ r)) }
+{
+    let [budget] = words else {
+        return Ok(None);
+    };
+    let Some(budget) = number(alloc, budget.as_str())? else {
+        return Ok(None);
+    };
+    Ok(Some(Command {
+        entry,
+        query: Query::Replay { budget },
+    }))
+}
+
 // The `demo` command with this number and these words behind it.
 fn demo<'a>(
     alloc: Global,
@@ -225,7 +250,7 @@ fn demo<'a>(
 }
 
 /// The command that the words are, if they are one: `points-to ENTRY METHOD INDEX LOCAL BUDGET`,
-/// `alias ENTRY METHOD INDEX LOCAL LOCAL BUDGET`, `run ENTRY STEPS CHOICES` or `demo BOXES`.
+/// `alias ENTRY METHOD INDEX LOCAL LOCAL BUDGET`, `run ENTRY STEPS CHOICES`, `replay ENTRY BUDGET` or `demo BOXES`.
 ///
 /// INDEX, BUDGET, STEPS and BOXES are decimal digits without a leading zero, at most 4,294,967,295, STEPS at most 1,000,000 and BOXES from 1 to 400.
 /// CHOICES is a dash for none, or 1 to 1,000 decimal digits. The other words are any texts. The entry of `demo` is its program's class `Demo`.
@@ -240,6 +265,7 @@ pub fn read_words(alloc: Global, words: &[String]) -> Result<Option<Command<'_>>
         "points-to" => points_to(alloc, second.as_str(), rest),
         "alias" => alias(alloc, second.as_str(), rest),
         "run" => run(alloc, second.as_str(), rest),
+        "replay" => replay(alloc, second.as_str(), rest),
         "demo" => demo(alloc, second.as_str(), rest),
         _ => Ok(None),
     }

@@ -5,3 +5,4 @@ pub mod LineWords
 pub mod TextLines
 pub mod ListWords
 pub mod Same
+pub mod OneText

@@ -12,6 +12,7 @@ use Rattle.cert_rules.specs.declared.certificate.Certificate.{Certificate}
 use Rattle.cert_rules.specs.declared.line.Line.{Line}
 use Rattle.cert_rules.specs.Spelled.{AreLines, FitsLine, FitsNode, HasLineForm, IsFirstBadLine, SpellsCertificate, SpellsLine, SpellsTarget, ended_lines, line_text, node_text}
 use Rattle.cert_text.specs.Words.{IsFirstUnread, texts}
+use Rattle.cert_text.specs.Written.{written_lines}
 use Rattle.cert_text.proofs.LineWords.{line_above, target_above}
 use Rattle.cert_text.proofs.ListWords.{take-next}
 use Rattle.cert_text.proofs.NodeWords.{some_one}
@@ -186,7 +187,7 @@ lines_next lines i l there = ap (λ k. ended_lines (map line_text k)) (take-next
     map_push (x ∷ ls) = ap (λ k. line_text x ∷ k) (map_push ls)
 
 -- the text that is written spells the certificate
-pub written_spells : (bytes : List ℕ) (c : Certificate) → bytes ≡ ended_lines ((codes "query " ++ node_text c.target) ∷ map line_text c.lines) → FitsNode c.target → All FitsLine c.lines → SpellsCertificate bytes c
+pub written_spells : (bytes : List ℕ) (c : Certificate) → bytes ≡ ended_lines (written_lines c) → FitsNode c.target → All FitsLine c.lines → SpellsCertificate bytes c
 written_spells bytes c is target lines = record {
   first = codes "query " ++ node_text c.target;
   others = map line_text c.lines;
@@ -319,11 +320,13 @@ written_next lines i d old before with_line new less a b c =
     line_at (x ∷ ls) zero below = refl
     line_at (x ∷ ls) (suc k) below = line_at ls k (omega arith)
 
--- the whole text
-pub written_all : (c : Certificate) (b0 b1 b2 b3 b4 : List ℕ) (lines : List Line) → b0 ≡ [] → b1 ≡ b0 ++ codes "query " → b2 ≡ b1 ++ node_text c.target → b3 ≡ b2 ++ 10 ∷ [] → lines ≡ c.lines
-    → b4 ≡ b3 ++ ended_lines (map line_text lines) → FitsNode c.target → All FitsLine c.lines → SpellsCertificate b4 c
-written_all c b0 b1 b2 b3 b4 lines e0 e1 e2 e3 same e4 target fits =
-    let head : b2 ≡ codes "query " ++ node_text c.target = e2 ∙ ap (λ l. l ++ node_text c.target) (e1 ∙ ap (λ l. l ++ codes "query ") e0) in
-    written_spells b4 c (e4 ∙ ap (λ l. b3 ++ ended_lines (map line_text l)) same
+-- the whole text is added
+pub written_all : (c : Certificate) (b0 b1 b2 b3 b4 : List ℕ) (lines : List Line) → b1 ≡ b0 ++ codes "query " → b2 ≡ b1 ++ node_text c.target → b3 ≡ b2 ++ 10 ∷ [] → lines ≡ c.lines
+    → b4 ≡ b3 ++ ended_lines (map line_text lines) → b4 ≡ b0 ++ ended_lines (written_lines c)
+written_all c b0 b1 b2 b3 b4 lines e1 e2 e3 same e4 =
+    let first = codes "query " ++ node_text c.target in
+    let head : b2 ≡ b0 ++ first = e2 ∙ ap (λ l. l ++ node_text c.target) e1 ∙ append_assoc b0 (codes "query ") (node_text c.target) in
+    e4 ∙ ap (λ l. b3 ++ ended_lines (map line_text l)) same
     ∙ ap (λ l. l ++ ended_lines (map line_text c.lines)) (e3 ∙ ap (λ l. l ++ 10 ∷ []) head)
-    ∙ append_assoc (codes "query " ++ node_text c.target) (10 ∷ []) (ended_lines (map line_text c.lines))) target fits
+    ∙ append_assoc (b0 ++ first) (10 ∷ []) (ended_lines (map line_text c.lines))
+    ∙ append_assoc b0 first (10 ∷ ended_lines (map line_text c.lines))

@@ -1,4 +1,4 @@
-//! Certificates as texts: the call that reads one and the call that writes one.
+//! Certificates as texts: the call that reads one and the calls that write one.
 #![tactic(auto)]
 
 mod commas;
@@ -13,4 +13,4 @@ mod writing;
 
 pub use error::CertError;
 pub use reading::read_cert;
-pub use writing::cert_text;
+pub use writing::{cert_text, push_certificate};

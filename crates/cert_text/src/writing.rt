@@ -2,6 +2,7 @@
 ghost use Rattle.std.specs.Prelude.{◌≡◌, ◌++◌, ◌∷◌, All, IfOk, OnOk, codes, flat_map, map, string_bytes};
 ghost use Rattle.std.specs.Fmt.{decimal};
 ghost use Rattle.cert_rules.specs.Spelled.{FitsLine, FitsNode, SpellsCertificate, call_text, ended_lines, line_text, node_text, numbers_text, side_text, string_text, var_text};
+ghost use Rattle.cert_text.specs.Written.{written_lines};
 
 use cert_rules::{Certificate, Line, Side};
 use jim_ast::NoMemory;
@@ -208,16 +209,24 @@ fn push_lines(text: &mut String, lines: &[Line]) -> Result<(), NoMemory>
     Ok(())
 }
 
-/// The text of a certificate: the line `query NODE`, and then its lines, each with a line feed behind it. `read_cert` reads the certificate back.
+/// Adds the text of a certificate: the line `query NODE`, and then its lines, each with a line feed behind it. After want of memory what stands there is
+/// open.
+pub fn push_certificate(text: &mut String, certificate: &Certificate) -> Result<(), NoMemory>
+    ensures { OnOk result (string_bytes text.new ≡ string_bytes text.old ++ ended_lines (written_lines certificate.now)) }
+{
+    text.push_str("query ")?;
+    push_node(text, certificate.target)?;
+    text.push_str("\n")?;
+    push_lines(text, certificate.lines.as_slice())
+}
+
+/// The text of a certificate, as `push_certificate` adds it. `read_cert` reads the certificate back.
 pub fn cert_text(alloc: Global, certificate: &Certificate) -> Result<Vec<u8>, NoMemory>
     requires target { FitsNode certificate.now.target }
     requires lines { All FitsLine certificate.now.lines }
     ensures { IfOk result (λ text. SpellsCertificate text.items certificate.now) }
 {
     let mut text = String::new(alloc);
-    text.push_str("query ")?;
-    push_node(&mut text, certificate.target)?;
-    text.push_str("\n")?;
-    push_lines(&mut text, certificate.lines.as_slice())?;
+    push_certificate(&mut text, certificate)?;
     Ok(text.into_bytes())
 }

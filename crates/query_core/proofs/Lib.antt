@@ -1,8 +1,8 @@
 pub mod NamedPlaces
-mod Refused
+pub mod Refused
 pub mod Ordered
 pub mod OneWay
 pub mod Determined
 mod Kept
-mod Posed
+pub mod Posed
 pub mod Sound

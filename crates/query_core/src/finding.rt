@@ -1,14 +1,15 @@
 //! What both queries find: the sites of one node, or of two, over their demand.
-ghost use Rattle.std.specs.Prelude.{◌≡◌, ◌≢◌, ◌↔◌, ◌≤◌, ◌<◌, ◌^◌, ℕ, Err, IfOk, IfSome, IsErr, IsTrue, Option, Some, length, slice_get};
+ghost use Rattle.std.specs.Prelude.{◌≡◌, ◌≢◌, ◌↔◌, ◌≤◌, ◌<◌, ◌^◌, ◌∷◌, [], ℕ, Err, IfOk, IfSome, IsErr, IsTrue, Option, Some, length, slice_get};
 ghost use Rattle.jim_ast.specs.Lists.{Has};
 ghost use Rattle.link_rules.specs.Linked.{LinkedProgram};
 ghost use Rattle.link_rules.specs.WellLinked.{IsWellLinked};
 ghost use Rattle.link_sites.specs.declared.site.Site.{Site as ASite};
 ghost use Rattle.spds_rules.specs.declared.node.Node.{Node as ANode};
-ghost use Rattle.spds_rules.specs.Answers.{AreSites};
+ghost use Rattle.spds_rules.specs.Answers.{AreAnswered, AreSites};
 ghost use Rattle.spds_rules.specs.Nodes.{IsNode};
 ghost use Rattle.demand_set.specs.Demands.{DemandParts, IsDemandOf};
-ghost use Rattle.query_core.specs.Answers.{IsAffordable, IsOver};
+ghost use Rattle.spds_solve.specs.Solved.{IsSolved};
+ghost use Rattle.query_core.specs.Answers.{IsAffordable, IsOver, asked};
 ghost use Rattle.query_core.specs.Sought.{AreFound, IsNumbered, IsPosed, IsSought, asked_of, nodes_of};
 
 use demand_set::{Demand, DemandError, Reach, demand};
@@ -65,6 +66,20 @@ fn sought_sites(
         }
     }
     Ok(sites)
+}
+
+/// The sites whose objects the node with this number may hold, in the order in which they are printed, over its demand.
+pub fn answer_sites(
+    alloc: Global,
+    demand: &Demand,
+    solved: &Solved,
+    node: u32,
+) -> Result<Vec<Site>, NoMemory>
+    requires few { length demand.now.sites < 2 ^ 32 }
+    ensures { IfOk result (λ sites. (p : LinkedProgram) (n : ANode) → IsDemandOf p (asked (n ∷ [])) demand.now
+        → IsSolved p (asked (n ∷ [])) demand.now solved.now → slice_get demand.now.nodes node ≡ Some n → AreAnswered p (asked (n ∷ [])) n sites.items) }
+{
+    sought_sites(alloc, demand, solved, node, None)
 }
 
 // The number of the second node among those of the demand, where there is one.

@@ -12,5 +12,6 @@ mod sharing;
 
 pub use answers::{Answer, points_to};
 pub use error::QueryError;
+pub use finding::answer_sites;
 pub use places::{Which, place};
 pub use sharing::{Shared, aliases};

@@ -69,3 +69,11 @@ pub record IsAnswerText (p : LinkedProgram) (n : Node) (sites : List Site) (dema
   pub query_is : IsQueryLine p (codes "points-to") n query
   pub lines_are : Each (IsSiteLine p) sites lines
   pub text_is : text ≡ text_of (query ∷ (lines ++ count_lines (length sites) demanded))
+
+-- the reply that accepts a certificate: a line for the target, one for the site that is claimed, one with the size of the demand
+pub record IsAcceptedText (p : LinkedProgram) (n : Node) (site : Site) (demanded : ℕ) (text : List ℕ) : Type 0 where
+  pub query : List ℕ
+  pub line : List ℕ
+  pub query_is : IsQueryLine p (codes "accepted") n query
+  pub line_is : IsSiteLine p site line
+  pub text_is : text ≡ text_of (query ∷ line ∷ (codes "demanded " ++ decimal demanded) ∷ [])

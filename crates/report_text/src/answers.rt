@@ -1,9 +1,10 @@
 //! The texts of answers.
-ghost use Rattle.std.specs.Prelude.{◌≡◌, ◌++◌, All, IfOk, OnOk, codes, length, string_bytes};
+ghost use Rattle.std.specs.Prelude.{◌≡◌, ◌++◌, ◌∷◌, [], All, IfOk, OnOk, codes, length, string_bytes};
+ghost use Rattle.std.specs.Fmt.{decimal};
 ghost use Rattle.link_rules.specs.Lists.{Each};
 ghost use Rattle.link_sites.specs.Sites.{IsSite};
 ghost use Rattle.report_text.specs.Aliases.{IsAliasLine, IsAliasText, verdict_lines};
-ghost use Rattle.report_text.specs.Answers.{IsAnswerText, IsQueryLine, IsQueryNode, IsTargetText, IsVarName, IsWordedSite, count_lines};
+ghost use Rattle.report_text.specs.Answers.{IsAcceptedText, IsAnswerText, IsQueryLine, IsQueryNode, IsTargetText, IsVarName, IsWordedSite, count_lines};
 ghost use Rattle.report_text.specs.Lines.{AddsLine, AddsLines, text_of};
 ghost use Rattle.report_text.specs.Texts.{AddsText};
 
@@ -37,8 +38,8 @@ fn push_target(text: &mut String, linked: &Linked, target: Node) -> Result<(), N
     push_local_name(text, linked, target)
 }
 
-// Adds the line that repeats a query of one local.
-fn push_query_line(
+/// Adds the line that repeats a query of one local: a word, `PLACE LOCAL`, and a line feed.
+pub fn push_query_line(
     text: &mut String,
     linked: &Linked,
     word: &str,
@@ -70,8 +71,8 @@ fn push_alias_line(
     text.push_str("\n")
 }
 
-// Adds the line of a site, behind a word and its space.
-fn push_site_line(
+/// Adds the line of a site, behind a word and its space, with a line feed.
+pub fn push_site_line(
     text: &mut String,
     linked: &Linked,
     word: &str,
@@ -101,8 +102,8 @@ fn push_site_lines(
     Ok(())
 }
 
-// Adds the two lines with the counts.
-fn push_counts(text: &mut String, sites: usize, demanded: u32) -> Result<(), NoMemory>
+/// Adds the two lines with the number of sites and with the size of the demand.
+pub fn push_counts(text: &mut String, sites: usize, demanded: u32) -> Result<(), NoMemory>
     ensures { OnOk result (string_bytes text.new ≡ string_bytes text.old ++ text_of (count_lines sites demanded)) }
 {
     write!(text, "sites {sites}\ndemanded {demanded}\n")
@@ -158,5 +159,32 @@ pub fn alias_text(
     push_alias_line(&mut text, linked, first, second)?;
     push_site_lines(&mut text, linked, "shared ", sites)?;
     push_verdict(&mut text, sites.len(), demanded)?;
+    Ok(text.into_bytes())
+}
+
+// Adds the line with the size of a demand.
+fn push_demanded(text: &mut String, demanded: u32) -> Result<(), NoMemory>
+    ensures { OnOk result (string_bytes text.new ≡ string_bytes text.old ++ text_of ((codes "demanded " ++ decimal demanded) ∷ [])) }
+{
+    write!(text, "demanded {demanded}\n")
+}
+
+/// The reply that accepts a certificate: `accepted PLACE LOCAL` for its target, `site S` for the site that it claims, and `demanded` with the given size
+/// of the demand. Each line ends with a line feed.
+pub fn accepted_text(
+    alloc: Global,
+    linked: &Linked,
+    target: Node,
+    site: Site,
+    demanded: u32,
+) -> Result<Vec<u8>, NoMemory>
+    requires target { IsQueryNode linked.now target }
+    requires site { IsSite linked.now site }
+    ensures { IfOk result (λ text. IsAcceptedText linked.now target site demanded text.items) }
+{
+    let mut text = String::new(alloc);
+    push_query_line(&mut text, linked, "accepted", target)?;
+    push_site_line(&mut text, linked, "site ", site)?;
+    push_demanded(&mut text, demanded)?;
     Ok(text.into_bytes())
 }

@@ -7,6 +7,8 @@ mod answers;
 mod places;
 mod sites;
 
-pub use answers::{alias_text, answer_text};
+pub use answers::{
+    accepted_text, alias_text, answer_text, push_counts, push_query_line, push_site_line,
+};
 pub use places::{place_text, push_place_text};
 pub use sites::{push_site_text, site_text};

@@ -19,7 +19,7 @@ joined_reply-requires-clause-nine c = c.if-declares_named.ensures.0 refl
 
 pub returns-then-declares_named : goal.returns-then-declares_named
 returns-then-declares_named c =
-    passed (IsJoinedReply (request_of c.args.command.now) c.args.input.now c.args.prelude.now) (IsProgramReply (request_of c.args.command.now) c.args.input.now)
+    passed (IsJoinedReply (request_of c.args.command.now) c.args.rest.now c.args.input.now c.args.prelude.now) (IsProgramReply (request_of c.args.command.now) c.args.rest.now c.args.input.now)
     c.joined_reply.result
     (λ s lines h. inr (c.args.prelude.now, record { spelled = c.requires.prelude; nine = c.if-declares_named.ensures.0 refl }, h)) c.joined_reply.ensures
 
@@ -27,4 +27,4 @@ pub returns-else-declares_named : goal.returns-else-declares_named
 returns-else-declares_named c =
     let none : HasNoPrelude = λ other is.
     true≢false (sym (c.if-declares_named.ensures.1 (subst DeclaresNine (spells_one _ other c.args.prelude.now is.spelled c.requires.prelude) is.nine))) in
-    told (IsProgramReply (request_of c.args.command.now) c.args.input.now) c.refused.result status.BadPrelude c.refused.ensures (inl (none, (refl, refl)))
+    told (IsProgramReply (request_of c.args.command.now) c.args.rest.now c.args.input.now) c.refused.result status.BadPrelude c.refused.ensures (inl (none, (refl, refl)))

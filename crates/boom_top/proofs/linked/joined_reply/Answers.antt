@@ -23,7 +23,7 @@ refusal_of input prelude entry link.NoMemory refused real = real refl
 
 pub returns-in-Ok : goal.returns-in-Ok
 returns-in-Ok c =
-    passed (IsLinkedReply c.in-Ok.linked c.args.command.now.entry.now (question_of c.args.command.now.query)) (IsJoinedReply (request_of c.args.command.now) c.args.input.now c.args.prelude.now)
+    passed (IsLinkedReply c.in-Ok.linked c.args.command.now.entry.now c.args.rest.now (question_of c.args.command.now.query)) (IsJoinedReply (request_of c.args.command.now) c.args.rest.now c.args.input.now c.args.prelude.now)
     c.linked_reply.result (λ s lines h. inr (c.in-Ok.linked, c.in-Ok.ensures.ok, h)) c.linked_reply.ensures
 
 pub returns-in-Err : goal.returns-in-Err

@@ -1,23 +1,18 @@
-use Rattle.std.proofs.Common.{Err, ap, refl, inl, inr}
-use Rattle.boom_words.specs.Commands.{request_of}
-use Rattle.boom_top.specs.Replies.{IsProgramReply, IsTextReply}
-use Rattle.boom_top.specs.declared.status.Status.TheVariants as status
-use Rattle.boom_top.proofs.Replied.{passed, told}
+use Rattle.std.proofs.Common.{ℕ, List, arith, subst}
+use Rattle.std.specs.Result.{IfOk}
+use Rattle.boom_words.specs.Commands.{question_of, request_of}
+use Rattle.boom_top.specs.Parts.{Makes}
+use Rattle.boom_top.specs.Queries.{rest_in}
+use Rattle.boom_top.specs.Replies.{IsTextReply}
 use Rattle.boom_top.proofs.linked.short_reply.Goals as goal
 
-pub returns-in-Ok : goal.returns-in-Ok
-returns-in-Ok c =
-    passed (IsProgramReply (request_of c.args.command.now) c.in-Ok.input) (IsTextReply (request_of c.args.command.now) c.args.bytes.now) c.program_reply.result
-    (λ s lines h. inr (c.in-Ok.input, c.in-Ok.ensures.spelled, h)) c.program_reply.ensures
+pub parts_reply-requires-clause-short : goal.parts_reply-requires-clause-short
+parts_reply-requires-clause-short c = let part = c.parts_of-parts.ensures.part in let short = c.requires.short in omega (arith, part, short)
 
-pub returns-in-Err-NotText : goal.returns-in-Err-NotText
-returns-in-Err-NotText c =
-    let unread = c.in-Err-NotText.ensures.text c.in-Err-NotText.at (ap Err c.in-Err-NotText.field-0-is) in
-    told (IsTextReply (request_of c.args.command.now) c.args.bytes.now) c.refused.result (status.NotText c.in-Err-NotText.at) c.refused.ensures
-    (inl (unread, refl))
-
-pub returns-in-Err-NotJimple : goal.returns-in-Err-NotJimple
-returns-in-Err-NotJimple c =
-    let unread = c.in-Err-NotJimple.ensures.jimple c.in-Err-NotJimple.at (ap Err c.in-Err-NotJimple.field-0-is) in
-    told (IsTextReply (request_of c.args.command.now) c.args.bytes.now) c.refused-in-Err-NotJimple.result (status.NotJimple c.in-Err-NotJimple.at)
-    c.refused-in-Err-NotJimple.ensures (inl (unread, refl))
+pub returns : goal.returns
+returns c =
+    let made = subst (λ (rest : List ℕ). IfOk c.parts_reply.result (Makes (IsTextReply (request_of c.args.command.now) rest c.parts_of-parts.result.program.now)))
+    c.parts_of-parts.ensures.rest c.parts_reply.ensures in
+    subst (λ (text : List ℕ). IfOk c.parts_reply.result
+    (Makes (IsTextReply (request_of c.args.command.now) (rest_in (question_of c.args.command.now.query) c.args.bytes.now) text)))
+    c.parts_of-parts.ensures.program made

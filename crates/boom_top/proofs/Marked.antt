@@ -1,0 +1,87 @@
+-- A text that is looked at line by line, up to its mark.
+use Rattle.std.proofs.Common.{◌≡◌, ℕ, ◌+◌, ◌<◌, ◌≤◌, ◌==◌, Bool, true, false, cond, List, [], ◌∷◌, ◌++◌, length, take, refl, sym, ap, ◌∙◌, arith, append_assoc, append-nil, length-append}
+use Rattle.std.specs.List.{join_with_byte}
+use Rattle.std.proofs.Math.Seq.{take-append_seam}
+use Rattle.std.proofs.lemmas.List.Splits.{join_with_byte-slice_split, length-slice_split}
+use Rattle.jim_ast.specs.Lists.{Has}
+use Rattle.cert_text.proofs.Marks.{cut_next, cut_none}
+use Rattle.boom_top.specs.Cuts.{before_mark, behind_mark, is_mark, lines_of}
+
+-- the lines before and behind one that is the mark, or that isn't
+found_before : (line : List ℕ) (lines : List (List ℕ)) → is_mark line ≡ true → before_mark (line ∷ lines) ≡ []
+found_before line [] marks = ap (λ b. cond b [] line) marks
+found_before line (next ∷ lines) marks = ap (λ b. cond b [] (line ++ 10 ∷ before_mark (next ∷ lines))) marks
+
+found_behind : (line : List ℕ) (lines : List (List ℕ)) → is_mark line ≡ true → behind_mark (line ∷ lines) ≡ join_with_byte 10 lines
+found_behind line lines marks = ap (λ b. cond b (join_with_byte 10 lines) (behind_mark lines)) marks
+
+next_before : (line : List ℕ) (lines : List (List ℕ)) → 0 < length lines → is_mark line ≡ false → before_mark (line ∷ lines) ≡ line ++ 10 ∷ before_mark lines
+next_before line [] some other = absurd (omega arith)
+next_before line (next ∷ lines) some other = ap (λ b. cond b [] (line ++ 10 ∷ before_mark (next ∷ lines))) other
+
+next_behind : (line : List ℕ) (lines : List (List ℕ)) → is_mark line ≡ false → behind_mark (line ∷ lines) ≡ behind_mark lines
+next_behind line lines other = ap (λ b. cond b (join_with_byte 10 lines) (behind_mark lines)) other
+
+-- so far none of the lines is the mark
+pub record IsLeft (text left : List ℕ) (at : ℕ) : Type 0 where
+  pub done : List ℕ
+  pub whole : text ≡ done ++ left
+  pub count : length done ≡ at
+  pub before : before_mark (lines_of text) ≡ done ++ before_mark (lines_of left)
+  pub behind : behind_mark (lines_of text) ≡ behind_mark (lines_of left)
+
+pub none_done : (text : List ℕ) → IsLeft text text 0
+none_done text = record { done = []; whole = refl; count = refl; before = refl; behind = refl }
+
+module _ (text left : List ℕ) (at : ℕ) (is : IsLeft text left at) where
+  -- what was looked at
+  taken : take at text ≡ is.done
+  taken = ap (λ n. take n text) (sym is.count) ∙ ap (take (length is.done)) is.whole ∙ take-append_seam is.done left
+
+  pub within : at ≤ length text
+  within = let whole = ap length is.whole in omega (arith, whole, length-append is.done left, is.count)
+
+  module _ (line behind : List ℕ) (cut : left ≡ line ++ 10 ∷ behind) (lacks : Has line 10 → ⊥) where
+    lines : lines_of left ≡ line ∷ lines_of behind
+    lines = cut_next 10 left line behind cut lacks
+
+    -- one line more
+    pub one_more : is_mark line ≡ false → (next : ℕ) → next ≡ at + (length line + 1) → IsLeft text behind next
+    one_more other next e = record {
+      done = is.done ++ (line ++ 10 ∷ []);
+      whole = is.whole ∙ ap (λ l. is.done ++ l) (cut ∙ sym (append_assoc line (10 ∷ []) behind)) ∙ sym (append_assoc is.done (line ++ 10 ∷ []) behind);
+      count = omega (arith, length-append is.done (line ++ 10 ∷ []), length-append line (10 ∷ []), is.count, e);
+      before = is.before
+          ∙ ap (λ l. is.done ++ l)
+          (ap before_mark lines ∙ next_before line (lines_of behind) (omega (arith, length-slice_split (λ b. b == 10) behind)) other
+          ∙ sym (append_assoc line (10 ∷ []) (before_mark (lines_of behind))))
+          ∙ sym (append_assoc is.done (line ++ 10 ∷ []) (before_mark (lines_of behind)));
+      behind = is.behind ∙ ap behind_mark lines ∙ next_behind line (lines_of behind) other;
+    }
+
+    -- the line is the mark
+    pub marked_before : is_mark line ≡ true → take at text ≡ before_mark (lines_of text)
+    marked_before marks =
+        taken ∙ sym (append-nil is.done) ∙ ap (λ l. is.done ++ l) (sym (ap before_mark lines ∙ found_before line (lines_of behind) marks)) ∙ sym is.before
+
+    pub marked_behind : is_mark line ≡ true → behind ≡ behind_mark (lines_of text)
+    marked_behind marks =
+        sym (join_with_byte-slice_split 10 behind) ∙ sym (found_behind line (lines_of behind) marks) ∙ sym (ap behind_mark lines) ∙ sym is.behind
+
+  -- no line feed is left
+  module _ (lacks : Has left 10 → ⊥) where
+    last : lines_of left ≡ left ∷ []
+    last = cut_none 10 left lacks
+
+    pub last_before : is_mark left ≡ true → take at text ≡ before_mark (lines_of text)
+    last_before marks = taken ∙ sym (append-nil is.done) ∙ ap (λ l. is.done ++ l) (sym (ap before_mark last ∙ found_before left [] marks)) ∙ sym is.before
+
+    pub none_before : is_mark left ≡ false → text ≡ before_mark (lines_of text)
+    none_before other = is.whole ∙ ap (λ l. is.done ++ l) (sym (ap before_mark last ∙ ap (λ b. cond b [] left) other)) ∙ sym is.before
+
+    pub last_behind : behind_mark (lines_of text) ≡ []
+    last_behind = is.behind ∙ ap behind_mark last ∙ either (is_mark left)
+      where
+        either : (b : Bool) → cond b (join_with_byte 10 []) (behind_mark []) ≡ []
+        either true = refl
+        either false = refl

@@ -1,0 +1,3 @@
+pub mod OneFact
+pub mod Rejections
+pub mod Outcomes
