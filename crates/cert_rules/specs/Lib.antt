@@ -1,3 +1,4 @@
 pub mod Given
 pub mod Certified
 pub mod Spelled
+pub mod Lengths

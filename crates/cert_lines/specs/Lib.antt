@@ -1,0 +1,4 @@
+pub mod Spread
+pub mod SameKeys
+pub mod Filed
+pub mod Noted

@@ -1,0 +1,175 @@
+//! What facts and lines are looked for by.
+ghost use Rattle.std.specs.Prelude.{◌≡◌};
+ghost use Rattle.cert_lines.specs.Spread.{entry_spread, fact_spread, mix, place_spread, site_spread, store_spread};
+
+use cert_rules::{Entry, Fact, Side};
+use link_sites::{Place, Site};
+use lists::Key;
+use spds_rules::{Node, StoreAt};
+
+/// A fact.
+#[derive(Clone, Copy, Debug, PartialEq, Eq)]
+pub struct Known {
+    pub fact: Fact,
+}
+
+/// The words under which objects of a site are, by their entry.
+#[derive(Clone, Copy, Debug, PartialEq, Eq)]
+pub struct Word {
+    pub side: Side,
+    pub site: Site,
+    pub entry: Entry,
+}
+
+/// Where objects of a site are.
+#[derive(Clone, Copy, Debug, PartialEq, Eq)]
+pub struct Spot {
+    pub site: Site,
+    pub node: Node,
+}
+
+/// Where objects come from.
+#[derive(Clone, Copy, Debug, PartialEq, Eq)]
+pub struct Origin {
+    pub site: Site,
+}
+
+// A number for two numbers, in their order.
+fn mix(first: u64, second: u64) -> u64
+    ensures { result ≡ mix first second }
+{
+    first
+        .wrapping_mul(11_400_714_819_323_198_485)
+        .wrapping_add(second)
+}
+
+fn place_spread(place: Place) -> u64
+    ensures { result ≡ place_spread place }
+{
+    place.method as u64 * 4_294_967_296 + place.index as u64
+}
+
+fn site_spread(site: Site) -> u64
+    ensures { result ≡ site_spread site }
+{
+    match site {
+        Site::New(place) => place_spread(place),
+        Site::Nested(place, level) => mix(place_spread(place), level as u64 + 1),
+        Site::Raised(place, kind) => mix(place_spread(place), kind as u64 + 512),
+        Site::Text(number) => mix(1, number as u64),
+        Site::Class(number) => mix(2, number as u64),
+    }
+}
+
+fn entry_spread(entry: Entry) -> u64
+    ensures { result ≡ entry_spread entry }
+{
+    match entry {
+        Entry::Base => 1,
+        Entry::Field { node, field } => mix(node.spread(), field as u64),
+        Entry::Call { node, call } => mix(node.spread(), place_spread(call)),
+    }
+}
+
+fn store_spread(store: StoreAt) -> u64
+    ensures { result ≡ store_spread store }
+{
+    mix(store.base.spread(), store.arg.spread())
+}
+
+fn fact_spread(fact: Fact) -> u64
+    ensures { result ≡ fact_spread fact }
+{
+    match fact {
+        Fact::At {
+            side,
+            site,
+            entry,
+            node,
+        } => mix(Word { side, site, entry }.spread(), node.spread()),
+        Fact::Link {
+            side,
+            site,
+            entry,
+            below,
+        } => mix(Word { side, site, entry }.spread(), entry_spread(below)),
+        Fact::Shared {
+            object,
+            arg,
+            base,
+            at,
+        } => {
+            let arg = Spot {
+                site: object,
+                node: arg,
+            };
+            let base = Spot {
+                site: base,
+                node: at,
+            };
+            mix(arg.spread(), base.spread())
+        }
+        Fact::Met {
+            object,
+            base,
+            store,
+        } => mix(
+            mix(site_spread(object), site_spread(base)),
+            store_spread(store),
+        ),
+    }
+}
+
+impl Key for Word {
+    ghost use Rattle.cert_lines.specs.Spread.{word_spread};
+    ghost use Rattle.cert_lines.specs.SameKeys.{same_word};
+
+    ghost spread = { word_spread };
+
+    fn spread(self) -> u64 {
+        let word = mix(site_spread(self.site), entry_spread(self.entry));
+        match self.side {
+            Side::Field => word,
+            Side::Call => mix(word, 1),
+        }
+    }
+
+    ghost same = { same_word };
+}
+
+impl Key for Spot {
+    ghost use Rattle.cert_lines.specs.Spread.{spot_spread};
+    ghost use Rattle.cert_lines.specs.SameKeys.{same_spot};
+
+    ghost spread = { spot_spread };
+
+    fn spread(self) -> u64 {
+        mix(site_spread(self.site), self.node.spread())
+    }
+
+    ghost same = { same_spot };
+}
+
+impl Key for Origin {
+    ghost use Rattle.cert_lines.specs.SameKeys.{same_origin};
+
+    ghost spread = { λ o. site_spread o.site };
+
+    fn spread(self) -> u64 {
+        site_spread(self.site)
+    }
+
+    ghost same = { same_origin };
+}
+
+impl Key for Known {
+    ghost use Rattle.cert_lines.specs.SameKeys.{same_known};
+
+    ghost spread = { λ k. fact_spread k.fact };
+
+    fn spread(self) -> u64 {
+        fact_spread(self.fact)
+    }
+
+    ghost same = { same_known };
+}

@@ -1,0 +1,5 @@
+mod Selecting
+mod Marking
+mod Anew
+mod Written
+mod Sums

@@ -1,0 +1,172 @@
+-- Marked elements, and how many of them stand before a place.
+use Rattle.std.proofs.Common.{◌≡◌, ℕ, zero, suc, ◌+◌, ◌<◌, ◌≤◌, ◌^◌, Bool, true, false, List, [], ◌∷◌, ◌++◌, Some, get_or, length, slice_get, take, refl, sym, ap, ◌∙◌, arith, length-append}
+use Rattle.std.proofs.lemmas.List.{length-take}
+use Rattle.std.proofs.lemmas.Option.{get_or_from_slice_get, slice_get-get_or}
+use borrow.Author.Count.{below_more}
+use Rattle.lists.proofs.Places.{slice_get-append_left, slice_get-below, slice_get-push, take-next}
+use Rattle.cert_make.specs.Marks.{IsAnew, numbered, rank, selected}
+
+-- up to a place there are no more than places
+pub rank_within : (marks : List Bool) (i : ℕ) → rank marks i ≤ i
+rank_within [] i = omega arith
+rank_within (mark ∷ marks) zero = omega arith
+rank_within (true ∷ marks) (suc i) = omega (arith, rank_within marks i)
+rank_within (false ∷ marks) (suc i) = omega (arith, rank_within marks i)
+
+-- a marked place counts itself
+pub rank_less : (marks : List Bool) (i j : ℕ) → slice_get marks i ≡ Some true → i < j → rank marks i < rank marks j
+rank_less [] i j at less = cc
+rank_less (mark ∷ marks) i zero at less = absurd (omega arith)
+rank_less (true ∷ marks) zero (suc j) at less = omega arith
+rank_less (false ∷ marks) zero (suc j) at less = cc
+rank_less (true ∷ marks) (suc i) (suc j) at less = omega (arith, rank_less marks i j at (omega arith))
+rank_less (false ∷ marks) (suc i) (suc j) at less = rank_less marks i j at (omega arith)
+
+-- marked places with as many before them are one
+pub rank_apart : (marks : List Bool) (i j : ℕ) → slice_get marks i ≡ Some true → slice_get marks j ≡ Some true → rank marks i ≡ rank marks j → i ≡ j
+rank_apart [] i j p q same = cc
+rank_apart (mark ∷ marks) zero zero p q same = refl
+rank_apart (true ∷ marks) zero (suc j) p q same = absurd (omega arith)
+rank_apart (false ∷ marks) zero (suc j) p q same = cc
+rank_apart (true ∷ marks) (suc i) zero p q same = absurd (omega arith)
+rank_apart (false ∷ marks) (suc i) zero p q same = cc
+rank_apart (true ∷ marks) (suc i) (suc j) p q same = ap suc (rank_apart marks i j p q (omega arith))
+rank_apart (false ∷ marks) (suc i) (suc j) p q same = ap suc (rank_apart marks i j p q same)
+
+pub rank-none : (marks : List Bool) → rank marks 0 ≡ 0
+rank-none [] = refl
+rank-none (mark ∷ marks) = refl
+
+-- one place more
+rank-suc_marked : (marks : List Bool) (i : ℕ) → slice_get marks i ≡ Some true → rank marks (suc i) ≡ suc (rank marks i)
+rank-suc_marked [] i at = cc
+rank-suc_marked (true ∷ marks) zero at = ap suc (rank-none marks)
+rank-suc_marked (false ∷ marks) zero at = cc
+rank-suc_marked (true ∷ marks) (suc i) at = ap suc (rank-suc_marked marks i at)
+rank-suc_marked (false ∷ marks) (suc i) at = rank-suc_marked marks i at
+
+rank-suc_other : (marks : List Bool) (i : ℕ) → slice_get marks i ≡ Some false → rank marks (suc i) ≡ rank marks i
+rank-suc_other [] i at = cc
+rank-suc_other (true ∷ marks) zero at = cc
+rank-suc_other (false ∷ marks) zero at = rank-none marks
+rank-suc_other (true ∷ marks) (suc i) at = ap suc (rank-suc_other marks i at)
+rank-suc_other (false ∷ marks) (suc i) at = rank-suc_other marks i at
+
+-- the numbers of the elements before a place, and the next
+pub record AreNumbered (marks : List Bool) (i next : ℕ) (numbers : List ℕ) : Type 0 where
+  pub as_many : length numbers ≡ i
+  pub count : next ≡ suc (rank marks i)
+  pub each : (k : ℕ) → k < i → slice_get numbers k ≡ Some (suc (rank marks k))
+
+pub numbered_none : (marks : List Bool) (numbers : List ℕ) → numbers ≡ [] → AreNumbered marks 0 1 numbers
+numbered_none marks numbers none = record { as_many = ap length none; count = ap suc (sym (rank-none marks)); each = λ k less. absurd (omega arith) }
+
+module _ (marks : List Bool) (i next : ℕ) (numbers : List ℕ) (are : AreNumbered marks i next numbers) where
+  each_more : (k : ℕ) → k < i + 1 → slice_get (numbers ++ next ∷ []) k ≡ Some (suc (rank marks k))
+  each_more = below_more (λ (k : ℕ). slice_get (numbers ++ next ∷ []) k ≡ Some (suc (rank marks k))) i
+      (λ k less. slice_get-append_left numbers (next ∷ []) k (suc (rank marks k)) (are.each k less))
+      (ap (slice_get (numbers ++ next ∷ [])) (sym are.as_many) ∙ slice_get-push numbers next ∙ ap Some are.count)
+
+  one_more : suc i ≡ i + 1
+  one_more = omega arith
+
+  more : (after : ℕ) → after ≡ suc (rank marks (i + 1)) → AreNumbered marks (i + 1) after (numbers ++ next ∷ [])
+  more after count = record { as_many = omega (arith, are.as_many, length-append numbers (next ∷ [])); count = count; each = each_more }
+
+  pub numbered_marked : slice_get marks i ≡ Some true → AreNumbered marks (i + 1) (suc next) (numbers ++ next ∷ [])
+  numbered_marked at = more (suc next) (ap suc (are.count ∙ sym (rank-suc_marked marks i at) ∙ ap (rank marks) one_more))
+
+  pub numbered_other : slice_get marks i ≡ Some false → AreNumbered marks (i + 1) next (numbers ++ next ∷ [])
+  numbered_other at = more next (are.count ∙ ap suc (sym (rank-suc_other marks i at) ∙ ap (rank marks) one_more))
+
+  -- all of them
+  pub numbered_all : length marks ≤ i → IsAnew marks (numbered numbers)
+  numbered_all all k at = get_or_from_slice_get numbers k (suc (rank marks k)) 0 (are.each k (omega (arith, slice_get-below marks k true at)))
+
+-- a mark as indexing reads it
+pub mark_at : (marks : List Bool) (i : ℕ) (mark : Bool) → i < length marks → get_or marks i false ≡ mark → slice_get marks i ≡ Some mark
+mark_at marks i mark less read = slice_get-get_or marks i false less ∙ ap Some read
+
+-- numbers of 32 bits
+pub numbered_roomy : (numbers : List ℕ) → ((i : ℕ) → get_or numbers i 0 < 2 ^ 32) → (number : ℕ) → numbered numbers number < 2 ^ 32
+numbered_roomy numbers roomy zero = omega arith
+numbered_roomy numbers roomy (suc i) = roomy i
+
+module _ {X : Type 0} where
+  pub selected-none : (marks : List Bool) → selected {X = X} marks [] ≡ []
+  selected-none [] = refl
+  selected-none (mark ∷ marks) = refl
+
+  -- a marked element stands behind those that are marked before it
+  pub selected_at : (marks : List Bool) (xs : List X) (i : ℕ) (x : X) → slice_get marks i ≡ Some true → slice_get xs i ≡ Some x → slice_get (selected marks xs) (rank marks i) ≡ Some x
+  selected_at [] xs i x at there = cc
+  selected_at (mark ∷ marks) [] i x at there = cc
+  selected_at (true ∷ marks) (y ∷ xs) zero x at there = there
+  selected_at (false ∷ marks) (y ∷ xs) zero x at there = cc
+  selected_at (true ∷ marks) (y ∷ xs) (suc i) x at there = selected_at marks xs i x at there
+  selected_at (false ∷ marks) (y ∷ xs) (suc i) x at there = selected_at marks xs i x at there
+
+  -- which element was selected to a place
+  pub record IsChosen (marks : List Bool) (xs : List X) (j : ℕ) (x : X) : Type 0 where
+    pub from : ℕ
+    pub at : slice_get marks from ≡ Some true
+    pub there : slice_get xs from ≡ Some x
+    pub place : j ≡ rank marks from
+
+  pub chosen : (marks : List Bool) (xs : List X) (j : ℕ) (x : X) → slice_get (selected marks xs) j ≡ Some x → IsChosen marks xs j x
+  chosen [] xs j x there = cc
+  chosen (mark ∷ marks) [] j x there = cc
+  chosen (true ∷ marks) (y ∷ xs) zero x there = record { from = zero; at = refl; there = there; place = refl }
+  chosen (true ∷ marks) (y ∷ xs) (suc j) x there =
+      let c = chosen marks xs j x there in
+      record { from = suc c.from; at = c.at; there = c.there; place = ap suc c.place }
+  chosen (false ∷ marks) (y ∷ xs) j x there =
+      let c = chosen marks xs j x there in
+      record { from = suc c.from; at = c.at; there = c.there; place = c.place }
+
+  pub length-selected : (marks : List Bool) (xs : List X) → length (selected marks xs) ≡ rank marks (length xs)
+  length-selected [] xs = refl
+  length-selected (mark ∷ marks) [] = refl
+  length-selected (true ∷ marks) (x ∷ xs) = ap suc (length-selected marks xs)
+  length-selected (false ∷ marks) (x ∷ xs) = length-selected marks xs
+
+  take-none : (i : ℕ) → ◌≡◌ {A = List X} (take i []) []
+  take-none zero = refl
+  take-none (suc i) = refl
+
+  -- a front of the marked elements
+  pub take-selected : (marks : List Bool) (xs : List X) (i : ℕ) → take (rank marks i) (selected marks xs) ≡ selected marks (take i xs)
+  take-selected [] xs i = refl
+  take-selected (mark ∷ marks) [] zero = refl
+  take-selected (mark ∷ marks) (x ∷ xs) zero = refl
+  take-selected (true ∷ marks) [] (suc i) = refl
+  take-selected (false ∷ marks) [] (suc i) = take-none (rank marks i)
+  take-selected (true ∷ marks) (x ∷ xs) (suc i) = ap (λ (ys : List X). x ∷ ys) (take-selected marks xs i)
+  take-selected (false ∷ marks) (x ∷ xs) (suc i) = take-selected marks xs i
+
+  -- one element more
+  pub selected-push_marked : (marks : List Bool) (xs : List X) (x : X) → slice_get marks (length xs) ≡ Some true → selected marks (xs ++ x ∷ []) ≡ selected marks xs ++ x ∷ []
+  selected-push_marked [] xs x at = cc
+  selected-push_marked (true ∷ marks) [] x at = ap (λ (ys : List X). x ∷ ys) (selected-none marks)
+  selected-push_marked (false ∷ marks) [] x at = cc
+  selected-push_marked (true ∷ marks) (y ∷ xs) x at = ap (λ (ys : List X). y ∷ ys) (selected-push_marked marks xs x at)
+  selected-push_marked (false ∷ marks) (y ∷ xs) x at = selected-push_marked marks xs x at
+
+  pub selected-push_other : (marks : List Bool) (xs : List X) (x : X) → slice_get marks (length xs) ≡ Some false → selected marks (xs ++ x ∷ []) ≡ selected marks xs
+  selected-push_other [] xs x at = refl
+  selected-push_other (true ∷ marks) [] x at = cc
+  selected-push_other (false ∷ marks) [] x at = selected-none marks
+  selected-push_other (true ∷ marks) (y ∷ xs) x at = ap (λ (ys : List X). y ∷ ys) (selected-push_other marks xs x at)
+  selected-push_other (false ∷ marks) (y ∷ xs) x at = selected-push_other marks xs x at
+
+  front_count : (xs : List X) (i : ℕ) (x : X) → slice_get xs i ≡ Some x → length (take i xs) ≡ i
+  front_count xs i x there = omega (arith, length-take i xs, slice_get-below xs i x there)
+
+  -- the elements before a place, and the one there
+  pub selected-next_marked : (marks : List Bool) (xs : List X) (i : ℕ) (x : X) → slice_get marks i ≡ Some true → slice_get xs i ≡ Some x → selected marks (take (i + 1) xs) ≡ selected marks (take i xs) ++ x ∷ []
+  selected-next_marked marks xs i x at there =
+      ap (selected marks) (take-next xs i x there) ∙ selected-push_marked marks (take i xs) x (ap (slice_get marks) (front_count xs i x there) ∙ at)
+
+  pub selected-next_other : (marks : List Bool) (xs : List X) (i : ℕ) (x : X) → slice_get marks i ≡ Some false → slice_get xs i ≡ Some x → selected marks (take (i + 1) xs) ≡ selected marks (take i xs)
+  selected-next_other marks xs i x at there =
+      ap (selected marks) (take-next xs i x there) ∙ selected-push_other marks (take i xs) x (ap (slice_get marks) (front_count xs i x there) ∙ at)

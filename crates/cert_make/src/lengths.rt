@@ -1,0 +1,56 @@
+//! How long the field derivation is that a certificate writes down.
+ghost use Rattle.std.specs.Prelude.{◌≡◌, ℕ, IfOk, List, map};
+ghost use Rattle.cert_rules.specs.Lengths.{HasLength, length_by, lengths_of};
+ghost use Rattle.cert_make.specs.Lengths.{as_told};
+
+use super::renumber::by_number;
+use cert_rules::{Certificate, Line, Side};
+use jim_ast::NoMemory;
+use std::alloc::Global;
+
+// The length of a line behind lines of these lengths, as far as 32 bits tell.
+fn length_behind(lengths: &[u32], line: &Line) -> u32
+    ensures { (before : List ℕ) → lengths.now ≡ map as_told before → result ≡ as_told (length_by before line.now) }
+{
+    match line {
+        Line::Flow {
+            side: Side::Field,
+            from,
+            ..
+        }
+        | Line::LinkField { from, .. } => by_number(lengths, *from).saturating_add(1),
+        Line::Pop {
+            side: Side::Field,
+            from,
+            link,
+            ..
+        } => by_number(lengths, *from)
+            .saturating_add(by_number(lengths, *link))
+            .saturating_add(1),
+        _ => 0,
+    }
+}
+
+// The lengths of lines, one after another, as far as 32 bits tell.
+fn lengths_told(alloc: Global, lines: &[Line]) -> Result<Vec<u32>, NoMemory>
+    ensures { IfOk result (λ lengths. lengths.items ≡ map as_told (lengths_of lines.now)) }
+{
+    let mut lengths = Vec::new(alloc);
+    for line in lines {
+        let length = length_behind(lengths.as_slice(), line);
+        lengths.push(length)?;
+    }
+    Ok(lengths)
+}
+
+/// How many rules the field derivation has that a certificate writes down; 2 ^ 32 - 1 where it has more, and 0 where the certificate ends in no claim.
+pub fn field_length(alloc: Global, certificate: &Certificate) -> Result<u32, NoMemory>
+    ensures { IfOk result (λ told. (length : ℕ) → HasLength certificate.now.lines length → told ≡ as_told length) }
+{
+    let lines = certificate.lines.as_slice();
+    let Some(Line::Claim { field, .. }) = lines.last() else {
+        return Ok(0);
+    };
+    let lengths = lengths_told(alloc, lines)?;
+    Ok(by_number(lengths.as_slice(), *field))
+}

@@ -1,0 +1,10 @@
+//! Certificates from a trace: the lines that a claim needs, under new numbers, and how long the field derivation is that they write down.
+#![tactic(auto)]
+
+mod lengths;
+mod marks;
+mod renumber;
+mod writing;
+
+pub use lengths::field_length;
+pub use writing::{ClaimLines, certificate_of};
