@@ -4,3 +4,4 @@ pub mod Acting
 pub mod Asking
 pub mod Closing
 pub mod Entering
+pub mod Searching

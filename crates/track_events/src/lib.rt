@@ -3,6 +3,7 @@
 
 mod call;
 mod laws;
+mod loud;
 mod query;
 mod shared;
 mod star;
@@ -10,7 +11,8 @@ mod statement;
 mod statements;
 
 pub use laws::loud_calls_enter;
+pub use loud::loud_methods;
 pub use query::receivers;
-pub use star::reach_of;
+pub use star::{closure, event_relation};
 pub use statement::EventStatement;
 pub use statements::event_statements;

@@ -1,20 +1,13 @@
 //! Which states events lead to.
-ghost use Rattle.std.specs.Prelude.{◌≡◌, ◌<◌, ◌↔◌, ℕ, IsTrue};
+ghost use Rattle.std.specs.Prelude.{◌≡◌, ◌<◌, ◌↔◌, ℕ};
 ghost use Rattle.track_rules.specs.Protocols.{HasRow};
 ghost use Rattle.track_systems.specs.Values.{IsWeight};
-ghost use Rattle.weight_laws.specs.Rel.{Relates};
-ghost use Rattle.track_events.specs.Leading.{IsAmong, Leads};
+ghost use Rattle.weight_laws.specs.declared.rel.Rel.{Rel as ARel};
+ghost use Rattle.weight_laws.specs.Rel.{Relates, rel_domain};
+ghost use Rattle.track_events.specs.Leading.{Leads};
 
 use protocol_words::{Protocol, ProtocolRow};
 use weight_laws::{Rel, Weight};
-
-// Whether the event is one of those that are told by their numbers.
-fn is_among(events: &[bool], event: u32) -> bool
-    ensures { IsTrue result ↔ IsAmong events.now event }
-{
-    let at = event as usize;
-    at < events.len() && events[at]
-}
 
 // What a row does: it leads its first state to its second.
 fn relation_of(row: ProtocolRow) -> Rel
@@ -27,27 +20,25 @@ fn relation_of(row: ProtocolRow) -> Rel
     Rel(words)
 }
 
-// What the events do, each once.
-fn step_of(protocol: &Protocol, events: &[bool]) -> Rel
-    ensures { (i j : ℕ) → i < 16 → Relates result i j ↔ ((event : ℕ) × IsAmong events.now event × HasRow protocol.now i event j) }
+/// What the event with the number does: by each of its rows it leads a state to another. Takes no memory.
+pub fn event_relation(protocol: &Protocol, event: u32) -> Rel
+    ensures { IsWeight result (λ i j. HasRow protocol.now i event j) }
 {
     protocol.tell_form();
-    let mut step = Rel::zero();
+    let mut relation = Rel::zero();
     for row in protocol.rows() {
-        if is_among(events, row.event) {
-            step = step.combine(relation_of(*row));
+        if row.event == event {
+            relation = relation.combine(relation_of(*row));
         }
     }
-    step
+    relation.told();
+    relation
 }
 
-/// Which states some events lead to, in any order and each any number of times, none at all too. `events` tells by an event's number whether it is one of
-/// them. Takes no memory.
-pub fn reach_of(protocol: &Protocol, events: &[bool]) -> Rel
-    ensures { IsWeight result (Leads protocol.now (IsAmong events.now)) }
+/// Which states a relation leads to, over any number of its steps, none at all too. Takes no memory.
+pub fn closure(step: Rel) -> Rel
+    ensures { IsWeight result (Leads (Relates step)) }
 {
-    protocol.tell_form();
-    let step = step_of(protocol, events);
     step.told();
     let mut reach = Rel::one();
     let mut further = step;

@@ -1,0 +1,4 @@
+pub mod Statements
+pub mod Tables
+pub mod Events
+pub mod Sites

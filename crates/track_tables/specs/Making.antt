@@ -1,0 +1,115 @@
+-- How the system of a site is made.
+use Rattle.std.specs.Prelude.{◌≡◌, ◌↔◌, ◌⊎◌, ℕ, ◌<◌, List, [], Some, slice_get}
+use Rattle.auto_table.specs.declared.rule.Rule.{Rule}
+use Rattle.auto_table.specs.declared.rule.Rule.TheVariants as rule
+use Rattle.call_side.specs.Bases.{AreLed, AreStrings, IsLast}
+use Rattle.call_side.specs.Calls.{AreTheCalls}
+use Rattle.call_side.specs.Indexed.{IsFiledBy}
+use Rattle.call_side.specs.Trails.{AreKept}
+use Rattle.demand_set.specs.Demands.{DemandParts}
+use Rattle.demand_walk.specs.declared.numbered.EdgeAt.{EdgeAt}
+use Rattle.demand_walk.specs.Numbers.{AreEdgesAt}
+use Rattle.jim_ast.specs.Lists.{Has}
+use Rattle.link_rules.specs.Linked.{LinkedProgram}
+use Rattle.link_sites.specs.declared.place.Place.{Place}
+use Rattle.link_sites.specs.declared.site.Site.{Site}
+use Rattle.post_star.specs.declared.bases.Start.{Start}
+use Rattle.post_star.specs.declared.key.Key.{Key}
+use Rattle.post_star.specs.declared.key.Key.TheVariants as key
+use Rattle.post_star.specs.Measures.{to_of}
+use Rattle.spds_rules.specs.declared.edge.EdgeKind.{EdgeKind}
+use Rattle.spds_rules.specs.declared.edge.EdgeKind.TheVariants.{Flow, Load, Call, Return, Jump}
+use Rattle.spds_rules.specs.declared.node.Node.{Node}
+use Rattle.spds_rules.specs.Answers.{IsAnswered}
+use Rattle.spds_rules.specs.Demand.{Asked}
+use Rattle.spds_rules.specs.Nodes.{IsNode}
+use Rattle.spds_solve.specs.Solved.{IsSolved, SolvedParts}
+use Rattle.track_rules.specs.Protocols.{ProtocolParts}
+use Rattle.track_systems.specs.Track.{IsLoaded}
+use Rattle.track_systems.specs.Values.{IsWeight}
+use Rattle.track_tables.specs.declared.growth.Growth.{Growth}
+use Rattle.track_tables.specs.declared.parts.TrackParts.{TrackParts}
+use Rattle.track_tables.specs.Systems.{HasStep, LeadsAlong}
+use Rattle.weight_laws.specs.declared.rel.Rel.{Rel}
+
+-- the rule of an edge of this kind with the weight
+abbrev pub IsRuleBy : List Place → EdgeKind → ℕ → ℕ → Rel → Rule Rel → Type 0
+IsRuleBy calls Flow from to weight r = r ≡ rule.Flow from to weight
+IsRuleBy calls (Call call) from to weight r = (mark : ℕ) × (slice_get calls mark ≡ Some call) × (r ≡ rule.Push from to mark weight)
+IsRuleBy calls (Return call) from to weight r = (mark : ℕ) × (slice_get calls mark ≡ Some call) × (r ≡ rule.Pop from mark to weight)
+IsRuleBy calls (Load field) from to weight r = ⊥
+IsRuleBy calls Jump from to weight r = ⊥
+
+-- a rule of this kind of edge leads the first state to the second
+abbrev pub HasStepBy : List Place → List (Rule Rel) → EdgeKind → ℕ → ℕ → ℕ → ℕ → Type 0
+HasStepBy calls rules Flow from to i j = HasStep rules (λ w. rule.Flow from to w) i j
+HasStepBy calls rules (Call call) from to i j = (mark : ℕ) → slice_get calls mark ≡ Some call → HasStep rules (λ w. rule.Push from to mark w) i j
+HasStepBy calls rules (Return call) from to i j = (mark : ℕ) → slice_get calls mark ≡ Some call → HasStep rules (λ w. rule.Pop from mark to w) i j
+HasStepBy calls rules (Load field) from to i j = Unit {0}
+HasStepBy calls rules Jump from to i j = Unit {0}
+
+module _ (p : LinkedProgram) (k : ProtocolParts) (q : Asked) (a : Site) (nodes : List Node) (calls : List Place) where
+  -- the rule is that of the edge, and its weight is how states change along it
+  pub record IsRuleOf (e : EdgeAt) (r : Rule Rel) : Type 0 where
+    pub source : Node
+    pub target : Node
+    pub from_is : slice_get nodes e.from ≡ Some source
+    pub to_is : slice_get nodes e.to ≡ Some target
+    pub weight : Rel
+    pub is_weight : IsWeight weight (LeadsAlong p k q a source e.kind target)
+    pub is_rule : IsRuleBy calls e.kind e.from e.to weight r
+
+  -- where states lead along the edge, a rule leads them
+  abbrev pub IsTaken : EdgeAt → List (Rule Rel) → Type 0
+  IsTaken e rules = (source target : Node) (i j : ℕ) → slice_get nodes e.from ≡ Some source → slice_get nodes e.to ≡ Some target → i < 16 → j < 16
+      → LeadsAlong p k q a source e.kind target i j → HasStepBy calls rules e.kind e.from e.to i j
+
+-- a start with the weight at the node with the number, if the program has it
+pub record IsStartAt (p : LinkedProgram) (nodes : List Node) (number : ℕ) (weight : Rel) (s : Start Rel) : Type 0 where
+  pub node : Node
+  pub there : slice_get nodes number ≡ Some node
+  pub is_node : IsNode p node
+  pub start_is : s ≡ record { base = node.place.method; node = number; weight = weight }
+
+-- rules came, and nodes that they lead to
+pub record IsGrown (old new : Growth) : Type 0 where
+  pub steps : new.work.steps ≡ old.work.steps
+  pub last : new.work.last ≡ old.work.last
+  pub starts : new.work.starts ≡ old.work.starts
+  pub rules : (r : Rule Rel) → Has old.work.rules r → Has new.work.rules r
+  pub reached : AreKept old.reached.keys new.reached.keys
+  pub within : (r : Rule Rel) → Has new.work.rules r → Has old.work.rules r ⊎ Has new.reached.keys (to_of r)
+
+-- starts with the weight came, at the nodes with these numbers, which are reached
+pub record HasBegun (p : LinkedProgram) (nodes : List Node) (numbers : List ℕ) (weight : Rel) (old new : Growth) : Type 0 where
+  pub steps : new.work.steps ≡ old.work.steps
+  pub last : new.work.last ≡ old.work.last
+  pub rules : new.work.rules ≡ old.work.rules
+  pub starts : (s : Start Rel) → Has new.work.starts s ↔ (Has old.work.starts s ⊎ ((number : ℕ) × Has numbers number × IsStartAt p nodes number weight s))
+  pub reached : AreKept old.reached.keys new.reached.keys
+  pub within : (s : Start Rel) → Has new.work.starts s → Has old.work.starts s ⊎ Has new.reached.keys s.node
+
+-- those of the nodes with these numbers that may hold an object of the site with the number
+abbrev pub AreAnswering : SolvedParts → ℕ → List ℕ → List ℕ → Type 0
+AreAnswering solved site numbers found = (p : LinkedProgram) (q : Asked) (d : DemandParts) (a : Site) → IsSolved p q d solved → slice_get d.sites site ≡ Some a
+    → (number : ℕ) (n : Node) → slice_get d.nodes number ≡ Some n → Has found number ↔ (Has numbers number × IsAnswered p q n a)
+
+-- the key of an edge by its source
+abbrev pub source_key : EdgeAt → Key
+source_key e = key.Node e.from
+
+-- the numbers of the nodes that these edges load or that a static field comes to along one
+abbrev pub AreLoaded : List EdgeAt → List ℕ → Type 0
+AreLoaded edges numbers = (number : ℕ) → Has numbers number ↔ ((e : EdgeAt) × Has edges e × IsLoaded e.kind × (e.to ≡ number))
+
+-- what the systems of all sites share
+pub record AreTrackParts (p : LinkedProgram) (d : DemandParts) (parts : TrackParts) : Type 0 where
+  pub edges : List EdgeAt
+  pub numbered : AreEdgesAt d.nodes d.edges edges
+  pub filed : IsFiledBy source_key edges parts.edges
+  pub loaded : AreLoaded edges parts.loaded.keys
+  pub are_calls : AreTheCalls p parts.calls
+  pub none : parts.strings.value.rules ≡ []
+  pub strings : AreStrings p parts.calls parts.strings.value.steps
+  pub last : IsLast p parts.strings.value.last
+  pub led : AreLed p parts.strings.value.steps

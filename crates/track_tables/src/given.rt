@@ -1,0 +1,32 @@
+//! What the sites of a demand are asked over.
+ghost use Rattle.std.specs.Prelude.{◌≡◌, slice_get};
+
+use super::parts::TrackParts;
+use demand_set::Demand;
+use link_program::Linked;
+use link_sites::Site;
+use spds_rules::Node;
+use spds_solve::Solved;
+
+/// A program, what is demanded of it, what was solved, and what the systems of all sites share.
+#[derive(Clone, Copy)]
+pub struct SolvedDemand<'a> {
+    pub linked: &'a Linked,
+    pub demand: &'a Demand,
+    pub solved: &'a Solved,
+    pub parts: &'a TrackParts,
+}
+
+/// The node with the number.
+pub fn node_at(nodes: &[Node], number: u32) -> Option<Node>
+    ensures { result ≡ slice_get nodes.now number }
+{
+    nodes.get(number as usize).copied()
+}
+
+/// The site with the number.
+pub fn site_at(sites: &[Site], number: u32) -> Option<Site>
+    ensures { result ≡ slice_get sites.now number }
+{
+    sites.get(number as usize).copied()
+}

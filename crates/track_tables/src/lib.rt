@@ -1,0 +1,16 @@
+//! The weighted pushdown system of a site under a protocol, settled: in which states of the protocol the objects of the site may be at each node.
+//!
+//! Nodes and calls go by their numbers, and each node of the demand is a node of the table. A rule is made for each edge along which states lead, from
+//! each node that the system reaches.
+#![tactic(auto)]
+
+mod given;
+mod growth;
+mod parts;
+mod rules;
+mod starts;
+mod states;
+
+pub use given::SolvedDemand;
+pub use parts::TrackParts;
+pub use states::SiteStates;

@@ -1,0 +1,4 @@
+pub mod Holding
+pub mod Joining
+pub mod Weighed
+pub mod Changing
