@@ -1,22 +1,13 @@
 -- The reply that tells a verdict.
-use Rattle.std.specs.Prelude.{◌≡◌, ℕ, zero, suc, ◌<◌, ◌++◌, List, [], ◌∷◌, Some, codes, length, slice_get}
+use Rattle.std.specs.Prelude.{◌≡◌, ℕ, zero, suc, ◌++◌, List, [], ◌∷◌, Some, codes, length, slice_get}
 use Rattle.std.specs.Fmt.{decimal}
 use Rattle.link_rules.specs.Linked.{LinkedClass, LinkedProgram}
 use Rattle.link_rules.specs.Lists.{Each}
-use Rattle.link_sites.specs.Places.{IsPlace}
-use Rattle.link_sites.specs.Sites.{IsSite}
 use Rattle.report_text.specs.Lines.{text_of}
 use Rattle.report_text.specs.Texts.{IsPlaceText, IsSiteText}
 use Rattle.track_rules.specs.Protocols.{ProtocolParts}
 use Rattle.track_verdicts.specs.declared.verdict.Finding.{Finding}
 use Rattle.track_verdicts.specs.declared.verdict.Verdict.{Verdict}
-
--- what telling of a finding takes: its site and its place are of the program, its state and its event of the protocol
-pub record IsTellable (p : LinkedProgram) (k : ProtocolParts) (f : Finding) : Type 0 where
-  pub site : IsSite p f.site
-  pub place : IsPlace p f.place
-  pub state : f.state < length k.states
-  pub event : f.event < length k.events
 
 -- the line with the class that the program begins with and with the class of the protocol
 pub record IsHeadLine (p : LinkedProgram) (k : ProtocolParts) (entry line : List ℕ) : Type 0 where

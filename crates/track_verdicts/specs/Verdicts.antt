@@ -1,11 +1,14 @@
 -- What an analysis of a program under a protocol answers.
-use Rattle.std.specs.Prelude.{ℕ, map}
+use Rattle.std.specs.Prelude.{ℕ, ◌<◌, length, map}
 use Rattle.demand_walk.specs.Walks.{HasAtMost}
 use Rattle.link_rules.specs.Linked.{LinkedProgram}
+use Rattle.link_sites.specs.Places.{IsPlace}
+use Rattle.link_sites.specs.Sites.{IsSite}
 use Rattle.spds_rules.specs.Demand.{Asked, Counts, Demand, HasMore}
 use Rattle.track_events.specs.Statements.{IsQuery}
 use Rattle.track_rules.specs.Protocols.{ProtocolParts}
 use Rattle.track_systems.specs.Findings.{AreFindings}
+use Rattle.track_verdicts.specs.declared.verdict.Finding.{Finding}
 use Rattle.track_verdicts.specs.declared.verdict.Verdict.{Verdict}
 use Rattle.track_verdicts.specs.Found.{found_of}
 
@@ -15,6 +18,13 @@ pub record IsVerdict (p : LinkedProgram) (k : ProtocolParts) (verdict : Verdict)
   pub query : IsQuery p k q
   pub findings : AreFindings p k q (map found_of verdict.findings)
   pub size : Counts (Demand p q) verdict.demanded
+
+-- what telling of a finding takes: its site and its place are of the program, its state and its event of the protocol
+pub record IsTellable (p : LinkedProgram) (k : ProtocolParts) (f : Finding) : Type 0 where
+  pub site : IsSite p f.site
+  pub place : IsPlace p f.place
+  pub state : f.state < length k.states
+  pub event : f.event < length k.events
 
 -- the query demands more nodes than the budget allows
 abbrev pub IsBeyond : LinkedProgram → ProtocolParts → ℕ → Type 0

@@ -1,0 +1,24 @@
+-- Event statements with the numbers of their receivers.
+use Rattle.std.proofs.Common.{false, List, [], ◌∷◌, ◌++◌, inl, inr, refl, sym, ap, ◌∙◌, subst}
+use Rattle.std.proofs.lemmas.List.{map-append}
+use Rattle.link_indexes.proofs.Grown.{Has-push}
+use Rattle.spds_rules.specs.declared.node.Node.{Node}
+use Rattle.track_events.specs.declared.statement.EventStatement.{EventStatement}
+use Rattle.type_track.specs.declared.receivers.Receiver.{Receiver}
+use Rattle.type_track.specs.Receivers.{AreReceivers, IsNumbered}
+
+module _ (nodes : List Node) where
+  pub receivers_none : AreReceivers nodes [] []
+  receivers_none = record { in_order = refl; numbered = λ r has. cc has.1 }
+
+  -- one more
+  pub receivers_more : (statements : List EventStatement) (receivers : List Receiver) (r : Receiver) → AreReceivers nodes statements receivers → IsNumbered nodes r
+      → AreReceivers nodes (statements ++ r.statement ∷ []) (receivers ++ r ∷ [])
+  receivers_more statements receivers r are is = record {
+    in_order = map-append (λ (x : Receiver). x.statement) receivers (r ∷ []) ∙ ap (λ (ss : List EventStatement). ss ++ r.statement ∷ []) are.in_order;
+    numbered = λ x has. elim ((Has-push receivers r x).0 has) [ inl was ↦ are.numbered x was | inr e ↦ subst (IsNumbered nodes) (sym e) is ];
+  }
+
+-- what is read where no receiver is
+abbrev pub no_receiver : Receiver
+no_receiver = record { statement = record { place = record { method = 0; index = 0; raised = false }; event = 0; receiver = 0 }; node = 0 }

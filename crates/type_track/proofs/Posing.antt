@@ -1,0 +1,82 @@
+-- What is known in a search.
+use Rattle.std.proofs.Common.{◌≡◌, ◌↔◌, ℕ, ◌<◌, List, Some, get_or, map, slice_get, sym, ap, ◌∙◌, subst, arith}
+use Rattle.std.proofs.lemmas.Option.{get_or_from_slice_get}
+use Rattle.jim_ast.specs.Lists.{Has}
+use Rattle.link_program.proofs.Found.{at_map, from_map}
+use Rattle.link_rules.specs.Linked.{LinkedProgram}
+use Rattle.link_sites.specs.declared.place.Place.{Place}
+use Rattle.link_sites.specs.declared.site.Site.{Site}
+use Rattle.spds_rules.specs.Answers.{IsAnswered}
+use Rattle.spds_rules.specs.Demand.{Asked}
+use Rattle.track_events.specs.declared.statement.EventStatement.{EventStatement}
+use Rattle.track_events.specs.Statements.{IsEventStatement, receiver_node}
+use Rattle.track_rules.specs.Protocols.{IsProtocol, ProtocolParts}
+use Rattle.track_systems.specs.Events.{IsTrackedSite}
+use Rattle.track_systems.specs.Laws.{IsAmongSixteen}
+use Rattle.track_systems.specs.Track.{Tracks}
+use Rattle.track_verdicts.specs.declared.verdict.Finding.{Finding}
+use Rattle.weight_laws.specs.declared.rel.Rel.{Rel}
+use Rattle.weight_laws.specs.Rel.{Relates}
+use Rattle.type_track.specs.declared.receivers.Receiver.{Receiver}
+use Rattle.type_track.specs.declared.search.Search.{Search}
+use Rattle.type_track.specs.Findings.{IsBarred, IsKeptBefore, IsFindingAt, IsFindingOf}
+use Rattle.type_track.specs.Growing.{GrowsBy}
+use Rattle.type_track.specs.Searches.{IsPosed}
+use Rattle.type_track.proofs.Findings.{barred_at, none_at, none_of}
+use Rattle.type_track.proofs.Growing.{grows_none, grows_same}
+
+-- the site that is read
+pub site_read : (read all : List Site) (i : ℕ) (a d : Site) → read ≡ all → slice_get all i ≡ Some a → get_or read i d ≡ a
+site_read read all i a d same there = ap (λ (sites : List Site). get_or sites i d) same ∙ get_or_from_slice_get all i a d there
+
+-- the states of a protocol are among sixteen
+pub sixteen : (k : ProtocolParts) → IsProtocol k → IsAmongSixteen k
+sixteen k form row has = let range = form.rows row has in let few = form.few in let from = range.from in let to = range.to in (omega arith, omega arith)
+
+module _ (q : Asked) (s : Search) (posed : IsPosed q s) where
+  abbrev p : LinkedProgram
+  p = s.given.linked.now
+
+  abbrev k : ProtocolParts
+  k = s.protocol.now
+
+  -- the statement of a receiver is one of the event statements
+  statement_has : (r : Receiver) → Has s.receivers.now r → Has posed.statements r.statement
+  statement_has r has = (
+    has.0,
+    subst (λ (ss : List EventStatement). slice_get ss has.0 ≡ Some r.statement) posed.receivers.in_order
+        (at_map (λ (x : Receiver). x.statement) s.receivers.now has.0 r has.1),
+  )
+
+  is_event : (r : Receiver) → Has s.receivers.now r → IsEventStatement p k r.statement
+  is_event r has = (posed.are_events.each r.statement).0 (statement_has r has)
+
+  -- where no receiver may hold an object of the site there is no finding
+  pub grows_quiet : (a : Site) (findings : List Finding)
+      → ((r : Receiver) → Has s.receivers.now r → IsAnswered p q (receiver_node r.statement) a → ⊥)
+      → GrowsBy (IsKeptBefore p) (IsFindingOf p k q a) findings findings
+  grows_quiet a findings none = grows_none (IsKeptBefore p) findings (λ f h. none_of p k q posed.statements posed.are_events a held f h.0 h.1)
+    where
+      held : (e : EventStatement) → Has posed.statements e → IsAnswered p q (receiver_node e) a → ⊥
+      held e has answered =
+          let listed : slice_get (map (λ (x : Receiver). x.statement) s.receivers.now) has.0 ≡ Some e = subst (λ (ss : List EventStatement). slice_get ss has.0 ≡ Some e) (sym posed.receivers.in_order) has.1 in
+          let r = from_map (λ (x : Receiver). x.statement) s.receivers.now has.0 e listed in
+          none r.0 (has.0, r.1) (subst (λ (x : EventStatement). IsAnswered p q (receiver_node x) a) (sym r.2) answered)
+
+  -- nor where the protocol doesn't speak of its objects
+  pub grows_untracked : (a : Site) (findings : List Finding) → (IsTrackedSite p k a → ⊥) → GrowsBy (IsKeptBefore p) (IsFindingOf p k q a) findings findings
+  grows_untracked a findings none = grows_none (IsKeptBefore p) findings (λ f h. none (subst (λ (b : Site). IsTrackedSite p k b) h.1 h.0.tracked))
+
+  module _ (a : Site) (r : Receiver) (has : Has s.receivers.now r) where
+    -- the same at one event statement
+    pub grows_unheld : (findings : List Finding) → (IsAnswered p q (receiver_node r.statement) a → ⊥)
+        → GrowsBy (IsKeptBefore p) (IsFindingAt p k q a r.statement) findings findings
+    grows_unheld findings none = grows_none (IsKeptBefore p) findings (λ f h. none_at p k q a r.statement (is_event r has) none f h)
+
+    -- where it may hold one, the value of the receiver tells the findings
+    pub grows_barred : (b : Site) (value : Rel) (old new : List Finding) → b ≡ a → IsTrackedSite p k a → IsAnswered p q (receiver_node r.statement) a
+        → ((i : ℕ) → i < 16 → Relates value 0 i ↔ ((string : List Place) × Tracks p k q a (receiver_node r.statement) string i))
+        → GrowsBy (IsKeptBefore p) (IsBarred k b r.statement value) old new → GrowsBy (IsKeptBefore p) (IsFindingAt p k q a r.statement) old new
+    grows_barred b value old new same tracked answered leads grown =
+        grows_same (IsKeptBefore p) (subst (λ (x : Site). GrowsBy (IsKeptBefore p) (IsBarred k x r.statement value) old new) same grown)
+        (barred_at p k q a r.statement (is_event r has) tracked posed.events.form answered value leads)

@@ -1,0 +1,4 @@
+pub mod Findings
+pub mod Growing
+pub mod Receivers
+pub mod Searches

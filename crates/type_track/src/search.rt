@@ -1,0 +1,143 @@
+//! The search for findings over a solved demand.
+ghost use Rattle.std.specs.Prelude.{◌≡◌, ◌↔◌, ◌<◌, Some, length, map, slice_get, IfOk, IsTrue, OnOk};
+ghost use Rattle.jim_ast.specs.Lists.{Has};
+ghost use Rattle.link_sites.specs.declared.site.Site.{Site as ASite};
+ghost use Rattle.spds_rules.specs.Answers.{IsAnswered};
+ghost use Rattle.spds_rules.specs.Demand.{Asked};
+ghost use Rattle.track_events.specs.Statements.{receiver_node};
+ghost use Rattle.track_systems.specs.Events.{IsTrackedSite};
+ghost use Rattle.track_systems.specs.Findings.{AreFindings};
+ghost use Rattle.track_verdicts.specs.Found.{found_of};
+ghost use Rattle.type_track.specs.declared.receivers.Receiver.{Receiver as AReceiver};
+ghost use Rattle.type_track.specs.Growing.{GrowsBy};
+ghost use Rattle.type_track.specs.Findings.{IsKeptBefore, IsFindingAt, IsFindingOf};
+ghost use Rattle.type_track.specs.Searches.{IsPosed, IsSiteAt, IsTrackedIn};
+
+use super::barred::add_barred;
+use super::receivers::Receiver;
+use super::tracked::is_tracked;
+use jim_ast::NoMemory;
+use protocol_words::Protocol;
+use site_events::{Events, site_events};
+use std::alloc::Global;
+use track_tables::{SiteStates, SolvedDemand};
+use track_verdicts::Finding;
+
+/// What is searched: a solved demand, a protocol, what its events do, and the event statements.
+#[derive(Clone, Copy)]
+pub(crate) struct Search<'a> {
+    pub(crate) protocol: &'a Protocol,
+    pub(crate) given: SolvedDemand<'a>,
+    pub(crate) events: &'a Events,
+    pub(crate) receivers: &'a [Receiver],
+}
+
+/// Whether some event may come on objects of the site with the number.
+fn may_come(search: &Search<'_>, site: u32) -> bool
+    ensures { (q : Asked) (a : ASite) → IsPosed q search.now → IsSiteAt search.now site a
+        → IsTrue result ↔ ((r : AReceiver) × Has search.now.receivers.now r × IsAnswered search.now.given.linked.now q (receiver_node r.statement) a) }
+{
+    for receiver in search.receivers {
+        if search.given.solved.holds(site, receiver.node) {
+            return true;
+        }
+    }
+    false
+}
+
+/// Puts in the findings on objects of the site with the number at one event statement. Where its receiver may hold none of them, there is none.
+fn add_at(
+    alloc: Global,
+    search: &Search<'_>,
+    states: &SiteStates,
+    number: u32,
+    receiver: Receiver,
+    findings: &mut Vec<Finding>,
+) -> Result<(), NoMemory>
+    requires { number < length search.now.given.demand.now.sites }
+    ensures { OnOk result ((q : Asked) (a : ASite) → IsTrackedIn q a search.now number states.now → Has search.now.receivers.now receiver
+        → GrowsBy (IsKeptBefore search.now.given.linked.now) (IsFindingAt search.now.given.linked.now search.now.protocol.now q a receiver.statement)
+        findings.old.items findings.new.items) }
+{
+    if !search.given.solved.holds(number, receiver.node) {
+        return Ok(());
+    }
+    let relation = states.value(alloc, receiver.node)?;
+    let site = search.given.demand.sites()[number as usize];
+    add_barred(
+        search.protocol,
+        site,
+        receiver.statement,
+        relation,
+        findings,
+    )
+}
+
+/// Puts in the findings on objects of the site with the number, whose system this is, by event statement.
+fn add_all_at(
+    alloc: Global,
+    search: &Search<'_>,
+    states: &SiteStates,
+    number: u32,
+    findings: &mut Vec<Finding>,
+) -> Result<(), NoMemory>
+    requires { number < length search.now.given.demand.now.sites }
+    ensures { OnOk result ((q : Asked) (a : ASite) → IsTrackedIn q a search.now number states.now
+        → GrowsBy (IsKeptBefore search.now.given.linked.now) (IsFindingOf search.now.given.linked.now search.now.protocol.now q a) findings.old.items findings.new.items) }
+{
+    for receiver in search.receivers {
+        add_at(alloc, search, states, number, *receiver, findings)?;
+    }
+    Ok(())
+}
+
+/// The same of a site of whose objects the protocol speaks.
+fn add_tracked(
+    alloc: Global,
+    search: &Search<'_>,
+    number: u32,
+    findings: &mut Vec<Finding>,
+) -> Result<(), NoMemory>
+    requires posed { (q : Asked) × IsPosed q search.now }
+    requires site { number < length search.now.given.demand.now.sites }
+    ensures { OnOk result ((q : Asked) (a : ASite) → IsPosed q search.now → IsSiteAt search.now number a
+        → IsTrackedSite search.now.given.linked.now search.now.protocol.now a
+        → GrowsBy (IsKeptBefore search.now.given.linked.now) (IsFindingOf search.now.given.linked.now search.now.protocol.now q a) findings.old.items findings.new.items) }
+{
+    let given = &search.given;
+    let events = site_events(alloc, given.linked, search.events, given.solved, number)?;
+    let states = SiteStates::of(alloc, given, &events, number)?;
+    add_all_at(alloc, search, &states, number, findings)
+}
+
+/// The same of any site. No table is made where the protocol doesn't speak of its objects, and where no event may come on one.
+fn add_site(
+    alloc: Global,
+    search: &Search<'_>,
+    number: u32,
+    findings: &mut Vec<Finding>,
+) -> Result<(), NoMemory>
+    requires posed { (q : Asked) × IsPosed q search.now }
+    requires site { number < length search.now.given.demand.now.sites }
+    ensures { OnOk result ((q : Asked) (a : ASite) → IsPosed q search.now → IsSiteAt search.now number a
+        → GrowsBy (IsKeptBefore search.now.given.linked.now) (IsFindingOf search.now.given.linked.now search.now.protocol.now q a) findings.old.items findings.new.items) }
+{
+    let site = search.given.demand.sites()[number as usize];
+    if is_tracked(search.given.linked, search.protocol, site) && may_come(search, number) {
+        add_tracked(alloc, search, number, findings)?;
+    }
+    Ok(())
+}
+
+/// All findings, by site, statement and state.
+pub(crate) fn find_all(alloc: Global, search: &Search<'_>) -> Result<Vec<Finding>, NoMemory>
+    requires { (q : Asked) × IsPosed q search.now }
+    ensures { IfOk result (λ findings. (q : Asked) → IsPosed q search.now
+        → AreFindings search.now.given.linked.now search.now.protocol.now q (map found_of findings.items)) }
+{
+    let mut findings = Vec::new(alloc);
+    for site in 0..search.given.demand.sites().len() as u32 {
+        add_site(alloc, search, site, &mut findings)?;
+    }
+    Ok(findings)
+}

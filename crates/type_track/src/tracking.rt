@@ -1,0 +1,148 @@
+//! The verdict on a program.
+ghost use Rattle.std.specs.Prelude.{◌≡◌, ◌≢◌, ◌≤◌, ◌<◌, ◌^◌, ℕ, [], All, Err, length, map, IfOk, IsErr};
+ghost use Rattle.demand_set.specs.Demands.{IsDemandOf};
+ghost use Rattle.link_rules.specs.WellLinked.{IsWellLinked};
+ghost use Rattle.run_covers.specs.Covers.{IsCovered};
+ghost use Rattle.spds_solve.specs.Solved.{IsSolved};
+ghost use Rattle.track_events.specs.Statements.{AreEventStatements};
+ghost use Rattle.track_runs.specs.Monitor.{IsSafe};
+ghost use Rattle.track_systems.specs.Findings.{AreFindings};
+ghost use Rattle.track_verdicts.specs.Found.{found_of};
+ghost use Rattle.track_verdicts.specs.Verdicts.{IsBeyond, IsTellable, IsVerdict, IsWithin};
+ghost use Rattle.type_track.specs.Receivers.{asked_for};
+ghost use Rattle.type_track.specs.Searches.{IsGiven};
+
+use super::receivers::receivers_in;
+use super::search::{Search, find_all};
+use demand_set::{Demand, DemandError, Reach, demand};
+use jim_ast::{List, NoMemory};
+use link_program::Linked;
+use protocol_words::Protocol;
+use site_events::events_of;
+use spds_solve::{Solved, solve};
+use std::alloc::Global;
+use track_events::{EventStatement, event_statements, receivers};
+use track_tables::{SolvedDemand, TrackParts};
+use track_verdicts::{Finding, Verdict};
+
+/// The findings over a solved demand of the receivers of all event statements.
+fn findings_in(
+    alloc: Global,
+    protocol: &Protocol,
+    statements: &[EventStatement],
+    given: &SolvedDemand<'_>,
+) -> Result<Vec<Finding>, NoMemory>
+    requires given { IsGiven protocol.now (asked_for statements.now) given.now }
+    requires statements { AreEventStatements given.now.linked.now protocol.now statements.now }
+    ensures { IfOk result (λ findings. AreFindings given.now.linked.now protocol.now (asked_for statements.now) (map found_of findings.items)) }
+{
+    let events = events_of(alloc, protocol, statements, given.demand)?;
+    let receivers = receivers_in(alloc, statements, given.demand)?;
+    let search = Search {
+        protocol,
+        given: *given,
+        events: &events,
+        receivers: &receivers,
+    };
+    find_all(alloc, &search)
+}
+
+/// The same over what was solved.
+fn findings_by(
+    alloc: Global,
+    linked: &Linked,
+    protocol: &Protocol,
+    statements: &[EventStatement],
+    demand: &Demand,
+    solved: &Solved,
+) -> Result<Vec<Finding>, NoMemory>
+    requires well { IsWellLinked linked.now }
+    requires class { protocol.now.class < length linked.now.classes }
+    requires statements { AreEventStatements linked.now protocol.now statements.now }
+    requires demand { IsDemandOf linked.now (asked_for statements.now) demand.now }
+    requires few { length demand.now.sites < 2 ^ 32 }
+    requires solved { IsSolved linked.now (asked_for statements.now) demand.now solved.now }
+    ensures { IfOk result (λ findings. AreFindings linked.now protocol.now (asked_for statements.now) (map found_of findings.items)) }
+{
+    let parts = TrackParts::new(alloc, linked, demand)?;
+    let given = SolvedDemand {
+        linked,
+        demand,
+        solved,
+        parts: &parts,
+    };
+    findings_in(alloc, protocol, statements, &given)
+}
+
+/// The same over a demand that isn't solved yet.
+fn findings_over(
+    alloc: Global,
+    linked: &Linked,
+    protocol: &Protocol,
+    statements: &[EventStatement],
+    demand: &Demand,
+) -> Result<Vec<Finding>, NoMemory>
+    requires well { IsWellLinked linked.now }
+    requires class { protocol.now.class < length linked.now.classes }
+    requires statements { AreEventStatements linked.now protocol.now statements.now }
+    requires demand { IsDemandOf linked.now (asked_for statements.now) demand.now }
+    requires few { length demand.now.sites < 2 ^ 32 }
+    ensures { IfOk result (λ findings. AreFindings linked.now protocol.now (asked_for statements.now) (map found_of findings.items)) }
+{
+    let solved = solve(alloc, linked, demand)?;
+    findings_by(alloc, linked, protocol, statements, demand, &solved)
+}
+
+/// The verdict over this demand.
+fn verdict_over(
+    alloc: Global,
+    linked: &Linked,
+    protocol: &Protocol,
+    statements: &[EventStatement],
+    demand: &Demand,
+) -> Result<Verdict, NoMemory>
+    requires well { IsWellLinked linked.now }
+    requires class { protocol.now.class < length linked.now.classes }
+    requires statements { AreEventStatements linked.now protocol.now statements.now }
+    requires demand { IsDemandOf linked.now (asked_for statements.now) demand.now }
+    requires few { length demand.now.nodes < 2 ^ 32 }
+    ensures verdict { IfOk result (IsVerdict linked.now protocol.now) }
+    ensures size { IfOk result (λ v. v.demanded ≡ length demand.now.nodes) }
+{
+    let findings = findings_over(alloc, linked, protocol, statements, demand)?;
+    let demanded = demand.nodes().len() as u32;
+    Ok(Verdict {
+        findings: List::from_vec(findings),
+        demanded,
+    })
+}
+
+/// The verdict on a program under a protocol: each event that may come in a state in which no row allows it, by site, place and state, and the size of
+/// the demand of the receivers of all event statements.
+///
+/// The error is `OverBudget` exactly where more nodes are demanded than `budget`, and else `NoMemory`. Where the targets of calls cover what runs do and
+/// there is no finding, no run, of any length, breaks the protocol.
+pub fn track(
+    alloc: Global,
+    linked: &Linked,
+    protocol: &Protocol,
+    budget: u32,
+) -> Result<Verdict, DemandError>
+    requires well { IsWellLinked linked.now }
+    requires class { protocol.now.class < length linked.now.classes }
+    ensures verdict { IfOk result (IsVerdict linked.now protocol.now) }
+    ensures tellable { IfOk result (λ v. All (IsTellable linked.now protocol.now) v.findings) }
+    ensures within { IfOk result (λ v. v.demanded ≤ budget) }
+    ensures over { (spent : ℕ) → result ≡ Err (DemandError.OverBudget spent) → (spent ≡ budget) × IsBeyond linked.now protocol.now budget }
+    ensures beyond { IsBeyond linked.now protocol.now budget → IsErr result }
+    ensures enough { (spent : ℕ) → IsWithin linked.now protocol.now budget → result ≢ Err (DemandError.OverBudget spent) }
+    ensures safe { IsCovered linked.now → IfOk result (λ v. v.findings ≡ [] → IsSafe linked.now protocol.now) }
+{
+    protocol.tell_form();
+    let statements = event_statements(alloc, linked, protocol)?;
+    let nodes = receivers(alloc, &statements)?;
+    match demand(alloc, linked, &nodes, Reach::Tracked, budget) {
+        Ok(demand) => Ok(verdict_over(alloc, linked, protocol, &statements, &demand)?),
+        Err(error) => Err(error),
+    }
+}
