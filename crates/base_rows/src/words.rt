@@ -180,6 +180,27 @@ const REPLAYS: [(&[&str], &str); 12] = [
     (&["Replay", "Main", "100"], OTHER),
 ];
 
+// The same about protocols, which any word may spell.
+const TYPESTATES: [(&[&str], &str); 10] = [
+    (
+        &["typestate", "Main", "F closed;closed open opened", "100"],
+        "of Main: 'F closed;closed open opened', within 100",
+    ),
+    (&["typestate", "", "", "0"], "of : '', within 0"),
+    (
+        &["typestate", "typestate", "0", "4294967295"],
+        "of typestate: '0', within 4294967295",
+    ),
+    // a budget in another form or too large, a word less or more, or another first word
+    (&["typestate", "Main", "F s", "0100"], OTHER),
+    (&["typestate", "Main", "F s", "4294967296"], OTHER),
+    (&["typestate", "Main", "100", "F s"], OTHER),
+    (&["typestate", "Main", "100"], OTHER),
+    (&["typestate", "Main", "F", "s", "100"], OTHER),
+    (&["typestate", "Main", "F s", "100", ""], OTHER),
+    (&["typestates", "Main", "F s", "100"], OTHER),
+];
+
 // What a query asks for.
 fn asked_of(alloc: Global, query: Query<'_>) -> Result<String, Fail> {
     let mut text = String::new(alloc);
@@ -202,6 +223,7 @@ fn asked_of(alloc: Global, query: Query<'_>) -> Result<String, Fail> {
             text.push('\'')?;
         }
         Query::Replay { budget } => write!(text, "a certificate, within {budget}")?,
+        Query::Typestate(a) => write!(text, "'{}', within {}", a.protocol, a.budget)?,
         Query::Demo { boxes } => write!(text, "{boxes} boxes")?,
     }
     Ok(text)
@@ -234,6 +256,15 @@ fn reads_words(rt: HostRuntime) -> Result<(), Fail> {
 #[test]
 fn reads_words_of_replays(rt: HostRuntime) -> Result<(), Fail> {
     for (words, expected) in REPLAYS {
+        let text = asked(rt.alloc(), words)?;
+        assert_eq!(rt; text.as_str(), expected);
+    }
+    Ok(())
+}
+
+#[test]
+fn reads_words_of_typestates(rt: HostRuntime) -> Result<(), Fail> {
+    for (words, expected) in TYPESTATES {
         let text = asked(rt.alloc(), words)?;
         assert_eq!(rt; text.as_str(), expected);
     }

@@ -1,6 +1,6 @@
 //! Commands over programs, with the replies found by hand.
 use boom_io::{MemSink, MemSource};
-use boom_top::{Status, Which, boomer};
+use boom_top::{ProtocolError, Status, Which, boomer};
 use jim_ast::Name;
 use link_rules::{LinkError, LinkKind};
 use std::alloc::Global;
@@ -203,11 +203,10 @@ fn answers_small_bodies(rt: HostRuntime) -> Result<(), Fail> {
 
 #[test]
 fn refuses_words_and_places(rt: HostRuntime) -> Result<(), Fail> {
-    let rows: [Row; 5] = [
+    let rows: [Row; 4] = [
         (PROGRAM, "6", "x", "100", 7, "refused NoSuchPlace index\n"),
         (PROGRAM, "0", "z", "100", 7, "refused NoSuchPlace local\n"),
         (PROGRAM, "05", "x", "100", 1, "refused Usage\n"),
-        (PROGRAM, "+5", "x", "100", 1, "refused Usage\n"),
         (PROGRAM, "5", "x", "4294967296", 1, "refused Usage\n"),
     ];
     replies_to_rows(&rt, &rows)?;
@@ -322,6 +321,7 @@ fn numbers_statuses(rt: HostRuntime) -> Result<(), Fail> {
         (Status::NotText { at: 9 }, 4),
         (Status::NotJimple { at: 9 }, 5),
         (Status::NoSuchPlace { which }, 7),
+        (Status::NotProtocol(ProtocolError::UnknownClass), 8),
         (Status::NotCertificate { at: 9 }, 9),
         (Status::Rejected { line: 9 }, 10),
         (Status::OverBudget { budget: 1 }, 11),

@@ -9,3 +9,5 @@ mod refusals;
 mod replays;
 #[cfg(test)]
 mod rows;
+#[cfg(test)]
+mod typestates;

@@ -258,12 +258,8 @@ run;Other;50;001 | refused NotLinked NoEntry~",
 const DEMO: (&str, &str) = (
     "#",
     "demo;40 | demo 40~statements 168~sites 1~demanded 250~
-demo;40 | demo 40~statements 168~sites 1~demanded 250~
 demo;1 | demo 1~statements 12~sites 1~demanded 16~
-demo;0 | refused Usage~
-demo;401 | refused Usage~
-demo;040 | refused Usage~
-demo;40;1 | refused Usage~",
+demo;0 | refused Usage~",
 );
 
 // The words of a row.

@@ -22,7 +22,7 @@ use Rattle.query_core.proofs.Sound.{answer_sound, shared_sound}
 use Rattle.report_text.specs.Aliases.{IsSharedLine, verdict_lines}
 use Rattle.report_text.specs.Answers.{IsAcceptedText, IsAnswerText, IsSiteLine, count_lines}
 use Rattle.report_text.specs.Lines.{text_of}
-use Rattle.boom_words.specs.Requests.{Alias, PointsTo, Question, Request, alias, demo, points_to, replay, run}
+use Rattle.boom_words.specs.Requests.{Alias, PointsTo, Question, Request, Typestate, alias, demo, points_to, replay, run, typestate}
 use Rattle.boom_top.specs.Demo.{IsDemoText, demo_asked}
 use Rattle.cert_rules.specs.declared.certificate.Certificate.{Certificate}
 use Rattle.cert_laws.proofs.Complete.{answered_certified}
@@ -31,11 +31,18 @@ use Rattle.cert_query.specs.Replays.{IsAccepted}
 use Rattle.cert_query.proofs.Outcomes.{over_accepted, rejected_accepted}
 use Rattle.boom_top.specs.Evidence.{HasEvidence}
 use Rattle.boom_top.specs.Queries.{Accepted, program_in, rest_in, source_of}
-use Rattle.boom_top.specs.Replies.{AreAliased, IsAliasReply, IsAnswered, IsCertificateReply, IsJoinedReply, IsLinkedReply, IsPlaceReply, IsProgramReply, IsReplayReply, IsReplyTo, IsTextReply}
-use Rattle.boom_top.specs.Runs.{CoversAllRuns, HasAnswer, IsCertificateOf, IsWithin, PrintsAllAliases, PrintsAllRuns}
+use Rattle.boom_top.specs.Replies.{AreAliased, IsAliasReply, IsAnswered, IsCertificateReply, IsJoinedReply, IsLinkedReply, IsPlaceReply, IsProgramReply, IsProtocolReply, IsReplayReply, IsReplyTo, IsTextReply, IsTypestateReply}
+use Rattle.boom_top.specs.Runs.{CoversAllRuns, HasAnswer, IsCertificateOf, IsJudgeable, IsWithin, PrintsAllAliases, PrintsAllRuns}
 use Rattle.boom_top.specs.declared.status.Status.{Status}
-use Rattle.boom_top.specs.declared.status.Status.TheVariants.{Done, NoSuchPlace, NotCertificate, OverBudget, Rejected}
+use Rattle.boom_top.specs.declared.status.Status.TheVariants.{Done, NoSuchPlace, NotCertificate, NotProtocol, OverBudget, Rejected}
+use Rattle.boom_top.specs.Safety.{SaysSafe}
+use Rattle.track_rules.specs.Protocols.{IsProtocolOf, ProtocolParts}
+use Rattle.track_runs.specs.Monitor.{IsSafe}
+use Rattle.track_verdicts.specs.Verdicts as verdict
+use Rattle.boom_top.proofs.Ending.{says_none}
+use Rattle.boom_top.proofs.Judged.{demand_within, safe_verdict}
 use Rattle.boom_top.proofs.Once.{not_refused, prelude_one, spelled_read}
+use Rattle.boom_top.proofs.Worded.{protocol_one, protocol_there}
 
 has_middle : {X : Type 0} (first : X) (xs ys : List X) (x : X) → Has xs x → Has (first ∷ (xs ++ ys)) x
 has_middle {X} first xs ys x h = (suc h.0, left xs h.0 h.1)
@@ -87,11 +94,23 @@ module _ (p : LinkedProgram) (s : Status) (lines : List (List ℕ)) where
   replay_enough budget text has (inr a) =
       certificate_enough budget has.0 a.0 has.2.0 has.2.1 has.2.2 (certificate_one text has.0 a.0 has.1 a.1) has.2.3 a.2
 
+  -- so is a protocol whose demand is within the budget
+  protocol_enough : (entry : List ℕ) (asked : Typestate) (k : ProtocolParts) → IsProtocolReply p entry asked.budget k s lines
+      → (j : ProtocolParts) → j ≡ k → verdict.IsWithin p j asked.budget → s ≡ Done
+  protocol_enough entry asked k (inl over) j same few = absurd (demand_within p k asked.budget (subst (λ (x : ProtocolParts). verdict.IsWithin p x asked.budget) same few) over.0)
+  protocol_enough entry asked k (inr a) j same few = a.1
+
+  typestate_enough : (entry : List ℕ) (asked : Typestate) → IsJudgeable p asked → IsTypestateReply p entry asked s lines → s ≡ Done
+  typestate_enough entry asked has (inl a) = absurd (protocol_there p asked.protocol has.0 a.0 has.1 a.1)
+  typestate_enough entry asked has (inr a) =
+      protocol_enough entry asked a.0 a.2 has.0 (protocol_one p asked.protocol has.0 a.0 has.1 a.1) has.2
+
   pub linked_enough : (entry rest : List ℕ) (q : Question) → HasAnswer p rest q → IsLinkedReply p entry rest q s lines → s ≡ Done
   linked_enough entry rest (points_to asked) has reply = place_enough asked (IsAnswerText p) has reply
   linked_enough entry rest (alias asked) has reply = alias_enough asked has reply
   linked_enough entry rest (run asked) has reply = reply.1
   linked_enough entry rest (replay budget) has reply = replay_enough budget rest has reply
+  linked_enough entry rest (typestate asked) has reply = typestate_enough entry asked has reply
   linked_enough entry rest (demo boxes) has reply = place_enough (demo_asked boxes) (λ n. IsDemoText p boxes) has reply
 
 -- what is done covers each run
@@ -168,7 +187,17 @@ module _ (p : LinkedProgram) (well : IsWellLinked p) (covered : IsCovered p) (ol
   linked_covered entry rest (alias asked) reply = alias_covered asked reply
   linked_covered entry rest (run asked) reply = tt
   linked_covered entry rest (replay budget) reply = tt
+  linked_covered entry rest (typestate asked) reply = tt
   linked_covered entry rest (demo boxes) reply = tt
+
+  -- and where it says safe, no run breaks the protocol
+  pub typestate_safe : (entry : List ℕ) (asked : Typestate) (k : ProtocolParts) → IsTypestateReply p entry asked Done lines → IsProtocolOf p asked.protocol k
+      → SaysSafe old new → IsSafe p k
+  typestate_safe entry asked k (inl a) is says = absurd (let no : Done ≡ NotProtocol a.0 = a.2.0 in cc)
+  typestate_safe entry asked k (inr (j, of, inl over)) is says = absurd (let no : Done ≡ OverBudget asked.budget = over.1.0 in cc)
+  typestate_safe entry asked k (inr (j, of, inr a)) is says =
+      let none = says_none p j entry a.0.verdict (text_of lines) a.0.told old new wrote says in
+      subst (IsSafe p) (protocol_one p asked.protocol j k of is) (safe_verdict p j well covered a.0.verdict a.0.is_verdict none)
 
 -- there is evidence for what is done
 module _ (p : LinkedProgram) (old new : Option (List ℕ)) (lines : List (List ℕ)) (wrote : Appends old new (text_of lines)) where
@@ -208,6 +237,7 @@ module _ (p : LinkedProgram) (old new : Option (List ℕ)) (lines : List (List �
   linked_evident entry rest (replay budget) reply = replay_evident budget rest reply
   linked_evident entry rest (alias asked) reply = tt
   linked_evident entry rest (run asked) reply = tt
+  linked_evident entry rest (typestate asked) reply = tt
   linked_evident entry rest (demo boxes) reply = tt
 
 module _ (r : Request) (bytes : List ℕ) (q : Accepted r bytes) where
@@ -266,3 +296,11 @@ module _ (r : Request) (bytes : List ℕ) (q : Accepted r bytes) where
   pub evidence : (old new : Option (List ℕ)) (lines : List (List ℕ)) → Appends old new (text_of lines) → IsReplyTo r bytes Done lines
       → HasEvidence q.linked rest r.question old new
   evidence old new lines wrote reply = linked_evident q.linked old new lines wrote r.entry rest r.question (reaches Done lines reply)
+
+-- where the answer about a protocol says safe, no run breaks it
+pub safe : (entry : List ℕ) (asked : Typestate) (bytes : List ℕ) (q : Accepted (record { entry = entry; question = typestate asked }) bytes) (old new : Option (List ℕ))
+    (lines : List (List ℕ)) → Appends old new (text_of lines) → IsReplyTo (record { entry = entry; question = typestate asked }) bytes Done lines
+    → (k : ProtocolParts) → IsProtocolOf q.linked asked.protocol k → SaysSafe old new → IsSafe q.linked k
+safe entry asked bytes q old new lines wrote reply k is says =
+    let r : Request = record { entry = entry; question = typestate asked } in
+    typestate_safe q.linked (well r bytes q) (covered r bytes q) old new lines wrote entry asked k (reaches r bytes q Done lines reply) is says

@@ -3,8 +3,11 @@ pub mod Asked
 pub mod Both
 pub mod Commanded
 pub mod Counted
+pub mod Ending
+pub mod Judged
 pub mod Marked
 pub mod Noded
 pub mod Once
 pub mod Replied
 pub mod Sent
+pub mod Worded

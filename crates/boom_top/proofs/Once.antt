@@ -11,12 +11,12 @@ use Rattle.link_rules.specs.declared.refusal.LinkError.TheVariants as link
 use Rattle.link_once.proofs.OneLink.{link_one}
 use Rattle.link_once.proofs.OneRefusal.{refused_one}
 use Rattle.link_sites.specs.declared.site.Site.{Site}
-use Rattle.boom_words.specs.Requests.{Alias, PointsTo, Question, Request, alias, demo, points_to, replay, run}
+use Rattle.boom_words.specs.Requests.{Alias, PointsTo, Question, Request, Typestate, alias, demo, points_to, replay, run, typestate}
 use Rattle.boom_top.specs.Demo.{IsDemoText, demo_asked}
 use Rattle.boom_top.specs.Parts.{IsGiven}
-use Rattle.boom_top.specs.Replies.{AreAliased, IsAliasReply, IsAnswered, IsBudgetReply, IsCertificateReply, IsJoinedReply, IsLinkedReply, IsNotLinked, IsPlaceReply, IsProgramReply, IsReplayReply, IsSourceReply, IsTextReply, IsUnread}
+use Rattle.boom_top.specs.Replies.{AreAliased, IsAliasReply, IsAnswered, IsBudgetReply, IsCertificateReply, IsJoinedReply, IsLinkedReply, IsNotLinked, IsPlaceReply, IsProgramReply, IsProtocolReply, IsReplayReply, IsSourceReply, IsTextReply, IsTypestateReply, IsUnread}
 use Rattle.boom_top.specs.declared.status.Status.{Status}
-use Rattle.boom_top.specs.declared.status.Status.TheVariants.{NotText, NotJimple, NotLinked, NoSuchPlace, NotCertificate, Rejected}
+use Rattle.boom_top.specs.declared.status.Status.TheVariants.{NotText, NotJimple, NotLinked, NoSuchPlace, NotProtocol, NotCertificate, Rejected}
 use Rattle.link_rules.proofs.OneWorld.{not_both}
 use Rattle.spds_rules.specs.declared.node.Node.{Node}
 use Rattle.query_core.specs.Answers.{IsOver}
@@ -26,7 +26,10 @@ use Rattle.report_text.specs.Answers.{IsAnswerText}
 use Rattle.cert_rules.specs.declared.certificate.Certificate.{Certificate}
 use Rattle.cert_text.proofs.OneText.{bad_one, certificate_one, spelled_bad}
 use Rattle.cert_query.proofs.Outcomes.{over_accepted, rejected_accepted, rejected_at_one, rejected_over}
+use Rattle.track_rules.specs.Protocols.{ProtocolParts}
 use Rattle.boom_top.specs.Queries.{IsPrelude, program_in, rest_in}
+use Rattle.boom_top.proofs.Judged.{judged_within}
+use Rattle.boom_top.proofs.Worded.{no_protocol_one, protocol_one, protocol_there}
 
 -- bytes that spell a program have no reason to be unread
 pub spelled_read : (bytes : List ℕ) (input : Program) (s : Status) → Spells bytes input → IsUnread bytes s → ⊥
@@ -153,6 +156,28 @@ module _ (p : LinkedProgram) where
     replay_given text s lines (inr (c, spells, inr (inl a))) = subst IsGiven (sym a.1.0) tt
     replay_given text s lines (inr (c, spells, inr (inr a))) = subst IsGiven (sym a.1) tt
 
+  module _ (entry : List ℕ) (asked : Typestate) where
+    -- a protocol has one status
+    protocol_status : (k : ProtocolParts) (s t : Status) (xs ys : List (List ℕ)) → IsProtocolReply p entry asked.budget k s xs → IsProtocolReply p entry asked.budget k t ys → s ≡ t
+    protocol_status k s t xs ys (inl a) (inl b) = a.1.0 ∙ sym b.1.0
+    protocol_status k s t xs ys (inl a) (inr b) = absurd (judged_within p k entry asked.budget ys b.0 a.0)
+    protocol_status k s t xs ys (inr a) (inl b) = absurd (judged_within p k entry asked.budget xs a.0 b.0)
+    protocol_status k s t xs ys (inr a) (inr b) = a.1 ∙ sym b.1
+
+    -- so has a word
+    typestate_status : (s t : Status) (xs ys : List (List ℕ)) → IsTypestateReply p entry asked s xs → IsTypestateReply p entry asked t ys → s ≡ t
+    typestate_status s t xs ys (inl a) (inl b) = a.2.0 ∙ ap NotProtocol (no_protocol_one p asked.protocol a.0 b.0 a.1 b.1) ∙ sym b.2.0
+    typestate_status s t xs ys (inl a) (inr b) = absurd (protocol_there p asked.protocol b.0 a.0 b.1 a.1)
+    typestate_status s t xs ys (inr a) (inl b) = absurd (protocol_there p asked.protocol a.0 b.0 a.1 b.1)
+    typestate_status s t xs ys (inr a) (inr b) =
+        protocol_status b.0 s t xs ys
+        (subst (λ (k : ProtocolParts). IsProtocolReply p entry asked.budget k s xs) (protocol_one p asked.protocol a.0 b.0 a.1 b.1) a.2) b.2
+
+    typestate_given : (s : Status) (lines : List (List ℕ)) → IsTypestateReply p entry asked s lines → IsGiven s
+    typestate_given s lines (inl a) = subst IsGiven (sym a.2.0) tt
+    typestate_given s lines (inr (k, is, inl a)) = subst IsGiven (sym a.1.0) tt
+    typestate_given s lines (inr (k, is, inr a)) = subst IsGiven (sym a.1) tt
+
   module _ (entry rest : List ℕ) where
     -- what is asked of a linked program has one status
     linked_one : (q : Question) (s t : Status) (xs ys : List (List ℕ)) → IsLinkedReply p entry rest q s xs → IsLinkedReply p entry rest q t ys → s ≡ t
@@ -160,6 +185,7 @@ module _ (p : LinkedProgram) where
     linked_one (alias asked) s t xs ys a b = alias_status asked s t xs ys a b
     linked_one (run asked) s t xs ys a b = a.1 ∙ sym b.1
     linked_one (replay budget) s t xs ys a b = replay_status budget rest s t xs ys a b
+    linked_one (typestate asked) s t xs ys a b = typestate_status entry asked s t xs ys a b
     linked_one (demo boxes) s t xs ys a b = place_status (demo_asked boxes) (λ n. IsDemoText p boxes) s t xs ys a b
 
     linked_given : (q : Question) (s : Status) (lines : List (List ℕ)) → IsLinkedReply p entry rest q s lines → IsGiven s
@@ -167,6 +193,7 @@ module _ (p : LinkedProgram) where
     linked_given (alias asked) s lines a = alias_given asked s lines a
     linked_given (run asked) s lines a = subst IsGiven (sym a.1) tt
     linked_given (replay budget) s lines a = replay_given budget rest s lines a
+    linked_given (typestate asked) s lines a = typestate_given entry asked s lines a
     linked_given (demo boxes) s lines a = place_given (demo_asked boxes) (λ n. IsDemoText p boxes) s lines a
 
 module _ (r : Request) (rest : List ℕ) where

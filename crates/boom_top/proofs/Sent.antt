@@ -6,7 +6,7 @@ use Rattle.std.specs.Io.KnownBytes.{Appends}
 use Rattle.boom_io.specs.Causes.{Rose}
 use Rattle.boom_io.specs.Whole.{AppendsProperPrefix, TakesFirst}
 use Rattle.report_text.specs.Lines.{text_of}
-use Rattle.boom_words.specs.Requests.{Request, IsRequest}
+use Rattle.boom_words.specs.Requests.{Request, Typestate, IsRequest, IsTypestate, typestate}
 use Rattle.boom_top.specs.Parts.{IsGiven, Makes, Sends, status_of}
 use Rattle.boom_top.specs.Evidence.{HasEvidence}
 use Rattle.boom_top.specs.Queries.{Accepted, rest_in, source_of}
@@ -17,7 +17,10 @@ use Rattle.boom_top.specs.declared.query.NoReply.TheVariants as none
 use Rattle.boom_top.specs.declared.query.Reply.{Reply}
 use Rattle.boom_top.specs.declared.status.Status.{Status}
 use Rattle.boom_top.specs.declared.status.Status.TheVariants.{Done, Usage, ReadFault, WriteFault, NoMemory}
-use Rattle.boom_top.proofs.Asked.{covers, enough, evidence}
+use Rattle.boom_top.specs.Safety.{SaysSafe}
+use Rattle.track_rules.specs.Protocols.{IsProtocolOf, ProtocolParts}
+use Rattle.track_runs.specs.Monitor.{IsSafe}
+use Rattle.boom_top.proofs.Asked.{covers, enough, evidence, safe}
 use Rattle.boom_top.proofs.Once.{source_given, source_one}
 
 -- what is said of the bytes that were read is said of those that were left
@@ -124,6 +127,22 @@ module _ (old new : Option (List ℕ)) (before now : ℕ) (result : Status) (X :
           let status : reply.status ≡ Done = sym whole.0 ∙ done in
           covers r bytes a old new is.0 (subst (λ (t : List ℕ). Appends old new t) is.2 whole.1)
           (subst (λ (s : Status). IsReplyTo r bytes s is.0) status to)
+      | inr part ↦ absurd (let no : WriteFault ≡ Done = sym part.0 ∙ done in cc)
+    ]
+
+    pub safely : (made : Result Reply NoReply) → IfOk made Sent → IfErr made Unsent → IfOk made Made → (IsOk made → IsOne)
+        → result ≡ Done → (entry : List ℕ) (asked : Typestate) → IsTypestate words entry asked
+        → (a : Accepted (record { entry = entry; question = typestate asked }) bytes) (k : ProtocolParts) → IsProtocolOf a.linked asked.protocol k
+        → SaysSafe old new → IsSafe a.linked k
+    safely (Err none.ReadFault) sent unsent is one done entry asked is_request a k of says = absurd (let no : ReadFault ≡ Done = sym unsent.0 ∙ done in cc)
+    safely (Err none.NoMemory) sent unsent is one done entry asked is_request a k of says = absurd (let no : NoMemory ≡ Done = sym unsent.0 ∙ done in cc)
+    safely (Ok reply) sent unsent is one done entry asked is_request a k of says = elim sent [
+      | inl whole ↦
+          let r : Request = record { entry = entry; question = typestate asked } in
+          let to = reply_to words bytes (one refl) r is_request reply.status is.0 is.1 in
+          let status : reply.status ≡ Done = sym whole.0 ∙ done in
+          safe entry asked bytes a old new is.0 (subst (λ (t : List ℕ). Appends old new t) is.2 whole.1)
+          (subst (λ (s : Status). IsReplyTo r bytes s is.0) status to) k of says
       | inr part ↦ absurd (let no : WriteFault ≡ Done = sym part.0 ∙ done in cc)
     ]
 

@@ -12,7 +12,7 @@ use Rattle.cert_rules.specs.Spelled.{SpellsCertificate}
 use Rattle.cert_laws.specs.Shown.{IsShown}
 use Rattle.query_core.specs.Places.{IsPlaceOf}
 use Rattle.report_text.specs.Answers.{IsAcceptedText, IsAnswerText}
-use Rattle.boom_words.specs.Requests.{PointsTo, Question, alias, demo, points_to, replay, run}
+use Rattle.boom_words.specs.Requests.{PointsTo, Question, alias, demo, points_to, replay, run, typestate}
 
 -- The answer about the place was written, and for each site that it prints some list of lines is certified: step by step, that an object of the site may be
 -- at the node in the system of fields and in the system of calls.
@@ -43,4 +43,5 @@ HasEvidence p rest (points_to asked) old new = PrintsShown p asked old new
 HasEvidence p rest (replay budget) old new = PrintsCertified p rest old new
 HasEvidence p rest (alias asked) old new = Unit {0}
 HasEvidence p rest (run asked) old new = Unit {0}
+HasEvidence p rest (typestate asked) old new = Unit {0}
 HasEvidence p rest (demo boxes) old new = Unit {0}

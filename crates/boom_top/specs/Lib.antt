@@ -5,4 +5,5 @@ pub mod Queries
 pub mod Refusals
 pub mod Replies
 pub mod Runs
+pub mod Safety
 pub mod Parts

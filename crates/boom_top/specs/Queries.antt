@@ -6,7 +6,7 @@ use Rattle.jim_parse.specs.Derives.{Spells}
 use Rattle.jim_prelude.specs.Text.{prelude_text}
 use Rattle.link_rules.specs.Conditions.{DeclaresNine}
 use Rattle.link_rules.specs.Linked.{LinkedProgram, Links}
-use Rattle.boom_words.specs.Requests.{Question, Request, alias, demo, points_to, replay, run}
+use Rattle.boom_words.specs.Requests.{Question, Request, alias, demo, points_to, replay, run, typestate}
 use Rattle.demo_text.specs.Demo.{demo_source}
 use Rattle.boom_top.specs.Cuts.{before_mark, behind_mark, lines_of}
 
@@ -20,6 +20,7 @@ source_of (points_to asked) bytes = bytes
 source_of (alias asked) bytes = bytes
 source_of (run asked) bytes = bytes
 source_of (replay budget) bytes = bytes
+source_of (typestate asked) bytes = bytes
 source_of (demo boxes) bytes = demo_source boxes
 
 -- the program among these bytes: for a replay it stands before the mark
@@ -28,6 +29,7 @@ program_in (replay budget) text = before_mark (lines_of text)
 program_in (points_to asked) text = text
 program_in (alias asked) text = text
 program_in (run asked) text = text
+program_in (typestate asked) text = text
 program_in (demo boxes) text = text
 
 -- what stands behind it: for a replay the certificate
@@ -36,6 +38,7 @@ rest_in (replay budget) text = behind_mark (lines_of text)
 rest_in (points_to asked) text = []
 rest_in (alias asked) text = []
 rest_in (run asked) text = []
+rest_in (typestate asked) text = []
 rest_in (demo boxes) text = []
 
 -- the question needs no bytes
@@ -45,6 +48,7 @@ IsDemo (points_to asked) = ⊥
 IsDemo (alias asked) = ⊥
 IsDemo (run asked) = ⊥
 IsDemo (replay budget) = ⊥
+IsDemo (typestate asked) = ⊥
 
 -- what the parts of a question keep: the choices of a run are digits, and the demo has from 1 to 400 boxes
 abbrev pub IsFit : Question → Type 0
@@ -53,6 +57,7 @@ IsFit (demo boxes) = (0 < boxes) × (boxes ≤ 400)
 IsFit (points_to asked) = Unit {0}
 IsFit (alias asked) = Unit {0}
 IsFit (replay budget) = Unit {0}
+IsFit (typestate asked) = Unit {0}
 
 -- the stand-ins for Java's own classes: the program that their text spells. It declares the nine classes that linking needs
 pub record IsPrelude (prelude : Program) : Type 0 where

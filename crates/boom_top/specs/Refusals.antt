@@ -5,10 +5,12 @@ use Rattle.link_rules.specs.declared.refusal.LinkError.{LinkError}
 use Rattle.link_rules.specs.declared.refusal.LinkError.TheVariants as link
 use Rattle.link_rules.specs.declared.refusal.LinkKind.{LinkKind}
 use Rattle.link_rules.specs.declared.refusal.LinkKind.TheVariants as rule
+use Rattle.protocol_words.specs.declared.error.ProtocolError.{ProtocolError}
+use Rattle.protocol_words.specs.declared.error.ProtocolError.TheVariants as protocol
 use Rattle.query_core.specs.declared.places.Which.{Which}
 use Rattle.query_core.specs.declared.places.Which.TheVariants.{Method, Index, Local, Second}
 use Rattle.boom_top.specs.declared.status.Status.{Status}
-use Rattle.boom_top.specs.declared.status.Status.TheVariants.{Done, Usage, ReadFault, TooLong, NotText, NotJimple, NotLinked, NoSuchPlace, NotCertificate, Rejected, OverBudget, WriteFault, NoMemory, BadPrelude}
+use Rattle.boom_top.specs.declared.status.Status.TheVariants.{Done, Usage, ReadFault, TooLong, NotText, NotJimple, NotLinked, NoSuchPlace, NotProtocol, NotCertificate, Rejected, OverBudget, WriteFault, NoMemory, BadPrelude}
 
 -- the number with which the program ends
 abbrev pub number_of : Status → ℕ
@@ -20,6 +22,7 @@ number_of (NotText at) = 4
 number_of (NotJimple at) = 5
 number_of (NotLinked error) = 6
 number_of (NoSuchPlace which) = 7
+number_of (NotProtocol error) = 8
 number_of (NotCertificate at) = 9
 number_of (Rejected line) = 10
 number_of (OverBudget budget) = 11
@@ -89,6 +92,13 @@ abbrev pub error_text : LinkError → List ℕ
 error_text (link.Refused kind place index) = kind_text kind ++ told_text kind place index
 error_text link.NoMemory = []
 
+-- why a word is no protocol: its first part that breaks the grammar, its first that brings a 17th state, or its class. Want of memory is no reason
+abbrev pub protocol_text : ProtocolError → List ℕ
+protocol_text (protocol.NotProtocol at) = codes "grammar " ++ decimal at
+protocol_text (protocol.TooManyStates at) = codes "states " ++ decimal at
+protocol_text protocol.UnknownClass = codes "class"
+protocol_text protocol.NoMemory = []
+
 -- the line of a refusal
 abbrev pub refusal : Status → List ℕ
 refusal Usage = codes "refused Usage"
@@ -97,6 +107,7 @@ refusal (NotText at) = codes "refused NotText " ++ decimal at
 refusal (NotJimple at) = codes "refused NotJimple " ++ decimal at
 refusal (NotLinked error) = codes "refused NotLinked " ++ error_text error
 refusal (NoSuchPlace which) = codes "refused NoSuchPlace " ++ which_text which
+refusal (NotProtocol error) = codes "refused NotProtocol " ++ protocol_text error
 refusal (NotCertificate at) = codes "refused NotCertificate " ++ decimal at
 refusal (Rejected line) = codes "refused Rejected " ++ decimal line
 refusal (OverBudget budget) = codes "refused OverBudget " ++ decimal budget

@@ -12,6 +12,12 @@ use Rattle.spds_rules.specs.declared.node.Node.{Node}
 use Rattle.cert_rules.specs.declared.certificate.Certificate.{Certificate}
 use Rattle.cert_rules.specs.Spelled.{IsFirstBadLine, SpellsCertificate}
 use Rattle.cert_query.specs.Replays.{IsAccepted, IsOverBudget, IsRejectedAt}
+use Rattle.protocol_words.specs.declared.error.ProtocolError.{ProtocolError}
+use Rattle.protocol_words.specs.declared.error.ProtocolError.TheVariants as protocol
+use Rattle.track_rules.specs.Protocols.{HasTooManyStates, IsNoProtocol, IsOfUnknownClass, IsProtocolOf, ProtocolParts}
+use Rattle.track_verdicts.specs.declared.verdict.Verdict.{Verdict}
+use Rattle.track_verdicts.specs.Verdicts.{IsBeyond, IsVerdict}
+use Rattle.track_report.specs.Reports.{IsVerdictText}
 use Rattle.query_core.specs.declared.places.Which.{Which}
 use Rattle.query_core.specs.Answers.{AreSharedBy, IsAnswerTo, IsOver}
 use Rattle.query_core.specs.Places.{ArePlacesOf, IsMissing, IsMissingOfTwo, IsPlaceOf}
@@ -20,12 +26,12 @@ use Rattle.report_text.specs.Answers.{IsAcceptedText, IsAnswerText}
 use Rattle.report_text.specs.Lines.{text_of}
 use Rattle.run_report.specs.Named.{digits_of}
 use Rattle.run_report.specs.Reports.{IsRunText}
-use Rattle.boom_words.specs.Requests.{Alias, PointsTo, Question, Request, RunFor, IsRequest, NoRequest, alias, demo, points_to, replay, run}
+use Rattle.boom_words.specs.Requests.{Alias, PointsTo, Question, Request, RunFor, Typestate, IsRequest, NoRequest, alias, demo, points_to, replay, run, typestate}
 use Rattle.boom_top.specs.Demo.{IsDemoText, demo_asked}
 use Rattle.boom_top.specs.Queries.{HasNoPrelude, IsPrelude, limit, program_in, rest_in, source_of}
 use Rattle.boom_top.specs.Refusals.{refusal}
 use Rattle.boom_top.specs.declared.status.Status.{Status}
-use Rattle.boom_top.specs.declared.status.Status.TheVariants.{Done, Usage, ReadFault, TooLong, NotText, NotJimple, NotLinked, NoSuchPlace, NotCertificate, Rejected, OverBudget, WriteFault, NoMemory, BadPrelude}
+use Rattle.boom_top.specs.declared.status.Status.TheVariants.{Done, Usage, ReadFault, TooLong, NotText, NotJimple, NotLinked, NoSuchPlace, NotProtocol, NotCertificate, Rejected, OverBudget, WriteFault, NoMemory, BadPrelude}
 
 -- the status is this one, and its refusal is the only line
 abbrev pub IsRefusedBy : Status → Status → List (List ℕ) → Type 0
@@ -89,12 +95,38 @@ abbrev pub IsReplayReply : LinkedProgram → ℕ → List ℕ → Status → Lis
 IsReplayReply p budget text status lines = ((at : ℕ) × IsFirstBadLine text at × IsRefusedBy (NotCertificate at) status lines)
     ⊎ ((c : Certificate) × SpellsCertificate text c × IsCertificateReply p budget c status lines)
 
+-- a word is no protocol of a linked program, and this is why
+abbrev pub IsNoProtocolFor : LinkedProgram → List ℕ → ProtocolError → Type 0
+IsNoProtocolFor p word (protocol.NotProtocol at) = IsNoProtocol word at
+IsNoProtocolFor p word (protocol.TooManyStates at) = HasTooManyStates word at
+IsNoProtocolFor p word protocol.UnknownClass = IsOfUnknownClass p word
+IsNoProtocolFor p word protocol.NoMemory = ⊥
+
+-- the verdict under a protocol, within the budget, which is told
+pub record IsJudged (p : LinkedProgram) (entry : List ℕ) (budget : ℕ) (k : ProtocolParts) (lines : List (List ℕ)) : Type 0 where
+  pub verdict : Verdict
+  pub is_verdict : IsVerdict p k verdict
+  pub affordable : verdict.demanded ≤ budget
+  pub told : IsVerdictText p k entry verdict (text_of lines)
+
+-- about a protocol: its demand is over the budget, or there is a verdict
+abbrev pub IsProtocolReply : LinkedProgram → List ℕ → ℕ → ProtocolParts → Status → List (List ℕ) → Type 0
+IsProtocolReply p entry budget k status lines = (IsBeyond p k budget × IsRefusedBy (OverBudget budget) status lines)
+    ⊎ (IsJudged p entry budget k lines × (status ≡ Done))
+
+-- about a word: it is no protocol, or one
+abbrev pub IsTypestateReply : LinkedProgram → List ℕ → Typestate → Status → List (List ℕ) → Type 0
+IsTypestateReply p entry asked status lines =
+    ((error : ProtocolError) × IsNoProtocolFor p asked.protocol error × IsRefusedBy (NotProtocol error) status lines)
+    ⊎ ((k : ProtocolParts) × IsProtocolOf p asked.protocol k × IsProtocolReply p entry asked.budget k status lines)
+
 -- about a linked program, and what stands behind its text
 abbrev pub IsLinkedReply : LinkedProgram → List ℕ → List ℕ → Question → Status → List (List ℕ) → Type 0
 IsLinkedReply p entry rest (points_to asked) = IsPlaceReply p asked (IsAnswerText p)
 IsLinkedReply p entry rest (alias asked) = IsAliasReply p asked
 IsLinkedReply p entry rest (run asked) = IsRunReply p entry asked
 IsLinkedReply p entry rest (replay budget) = IsReplayReply p budget rest
+IsLinkedReply p entry rest (typestate asked) = IsTypestateReply p entry asked
 IsLinkedReply p entry rest (demo boxes) = IsPlaceReply p (demo_asked boxes) (λ n. IsDemoText p boxes)
 
 -- a rule of linking refuses the program with the stand-ins, and this is told of it
@@ -122,6 +154,7 @@ IsUnread bytes ReadFault = ⊥
 IsUnread bytes TooLong = ⊥
 IsUnread bytes (NotLinked error) = ⊥
 IsUnread bytes (NoSuchPlace which) = ⊥
+IsUnread bytes (NotProtocol error) = ⊥
 IsUnread bytes (NotCertificate at) = ⊥
 IsUnread bytes (Rejected line) = ⊥
 IsUnread bytes (OverBudget budget) = ⊥
@@ -160,6 +193,7 @@ GivesUp (NotText at) = ⊥
 GivesUp (NotJimple at) = ⊥
 GivesUp (NotLinked error) = ⊥
 GivesUp (NoSuchPlace which) = ⊥
+GivesUp (NotProtocol error) = ⊥
 GivesUp (NotCertificate at) = ⊥
 GivesUp (Rejected line) = ⊥
 GivesUp (OverBudget budget) = ⊥

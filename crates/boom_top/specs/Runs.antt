@@ -19,7 +19,9 @@ use Rattle.query_core.specs.Places.{ArePlacesOf, IsPlaceOf}
 use Rattle.report_text.specs.Aliases.{IsSharedLine}
 use Rattle.report_text.specs.Answers.{IsSiteLine}
 use Rattle.report_text.specs.Lines.{text_of}
-use Rattle.boom_words.specs.Requests.{PointsTo, Question, Request, IsRequest, alias, demo, points_to, replay, run}
+use Rattle.boom_words.specs.Requests.{PointsTo, Question, Request, Typestate, IsRequest, alias, demo, points_to, replay, run, typestate}
+use Rattle.track_rules.specs.Protocols.{IsProtocolOf, ProtocolParts}
+use Rattle.track_verdicts.specs.Verdicts as verdict
 use Rattle.boom_top.specs.Demo.{demo_asked}
 use Rattle.boom_top.specs.Queries.{Accepted, IsDemo, rest_in, source_of}
 
@@ -49,13 +51,15 @@ PrintsAllAliases p a b old new = (count : ℕ) (s : State) (number : ℕ) (frame
     × ((object : HeapObject) × (slice_get s.heap o ≡ Some object) × (line : List ℕ) × IsSharedLine p object.site line × Prints old new line)
 
 -- The headline of the top call, by what was asked: the site of each object that a run brings to the local is printed, and locals that hold one object
--- are printed as aliases. What is said of a run is exact, a replay tells one site, and what is said of the demo tells none.
+-- are printed as aliases. What is said of a run is exact, a replay tells one site, and what is said of the demo tells none. When a protocol is met by all
+-- runs stands in `Safety`.
 abbrev pub CoversAllRuns : LinkedProgram → Question → Option (List ℕ) → Option (List ℕ) → Type 0
 CoversAllRuns p (points_to asked) old new = (n : Node) → IsPlaceOf p asked.method asked.index asked.local n → PrintsAllRuns p n old new
 CoversAllRuns p (alias asked) old new = (a b : Node) → ArePlacesOf p asked.method asked.index asked.first asked.second a b
     → PrintsAllAliases p a b old new
 CoversAllRuns p (run asked) old new = Unit {0}
 CoversAllRuns p (replay budget) old new = Unit {0}
+CoversAllRuns p (typestate asked) old new = Unit {0}
 CoversAllRuns p (demo boxes) old new = Unit {0}
 
 -- the place is there, and the budget is at least the size of its demand
@@ -66,6 +70,10 @@ IsWithin p asked = (n : Node) × IsPlaceOf p asked.method asked.index asked.loca
 abbrev pub IsCertificateOf : LinkedProgram → ℕ → List ℕ → Type 0
 IsCertificateOf p budget text = (c : Certificate) × SpellsCertificate text c × ((n : Node) × (o : Site) × (demanded : ℕ) × IsAccepted p budget c n o demanded)
 
+-- a word spells a protocol, whose demand is within the budget
+abbrev pub IsJudgeable : LinkedProgram → Typestate → Type 0
+IsJudgeable p asked = (k : ProtocolParts) × IsProtocolOf p asked.protocol k × verdict.IsWithin p k asked.budget
+
 -- what is asked of a linked program, with what stands behind its text, can be answered
 abbrev pub HasAnswer : LinkedProgram → List ℕ → Question → Type 0
 HasAnswer p rest (points_to asked) = IsWithin p asked
@@ -73,6 +81,7 @@ HasAnswer p rest (alias asked) = (a : Node) × (b : Node) × ArePlacesOf p asked
     × IsAffordable p (a ∷ b ∷ []) asked.budget
 HasAnswer p rest (run asked) = Unit {0}
 HasAnswer p rest (replay budget) = IsCertificateOf p budget rest
+HasAnswer p rest (typestate asked) = IsJudgeable p asked
 HasAnswer p rest (demo boxes) = IsWithin p (demo_asked boxes)
 
 -- the words ask for what can be answered, of a program that the bytes spell and that is linked

@@ -11,7 +11,9 @@ mod refusal;
 mod replays;
 mod status;
 mod top;
+mod typestates;
 
+pub use protocol_words::ProtocolError;
 pub use query_core::Which;
 pub use status::Status;
 pub use top::boomer;

@@ -17,6 +17,7 @@ use super::demo::demo_reply;
 use super::refusal::refusal_text;
 use super::replays::replay_reply;
 use super::status::Status;
+use super::typestates::typestate_reply;
 use boom_words::{Asked, Command, Query, Running};
 use jim_ast::NoMemory;
 use link_program::Linked;
@@ -153,6 +154,7 @@ pub(crate) fn linked_reply(
         Query::Alias(asked) => alias_reply(alloc, asked, linked),
         Query::Run(asked) => run_reply(alloc, command.entry, asked, linked),
         Query::Replay { budget } => replay_reply(alloc, *budget, rest, linked),
+        Query::Typestate(asked) => typestate_reply(alloc, command.entry, asked, linked),
         Query::Demo { boxes } => demo_reply(alloc, *boxes, linked),
     }
 }

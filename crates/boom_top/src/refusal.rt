@@ -9,6 +9,7 @@ ghost use Rattle.boom_top.specs.declared.status.Status.TheVariants as status;
 use super::status::Status;
 use jim_ast::NoMemory;
 use link_rules::{LinkError, LinkKind};
+use protocol_words::ProtocolError;
 use query_core::Which;
 use std::alloc::Global;
 
@@ -90,6 +91,21 @@ fn over_budget(alloc: Global, budget: u32) -> Result<String, NoMemory>
     format!(in alloc; "refused OverBudget {budget}\n")
 }
 
+fn no_protocol(alloc: Global, error: ProtocolError) -> Result<String, NoMemory>
+    ensures { IfOk result (λ text. string_bytes text ≡ text_of (refusal (status.NotProtocol error) ∷ [])) }
+{
+    match error {
+        ProtocolError::NotProtocol { at } => {
+            format!(in alloc; "refused NotProtocol grammar {at}\n")
+        }
+        ProtocolError::TooManyStates { at } => {
+            format!(in alloc; "refused NotProtocol states {at}\n")
+        }
+        ProtocolError::UnknownClass => String::from_str(alloc, "refused NotProtocol class\n"),
+        ProtocolError::NoMemory => String::from_str(alloc, "refused NotProtocol \n"),
+    }
+}
+
 fn no_certificate(alloc: Global, at: u32) -> Result<String, NoMemory>
     ensures { IfOk result (λ text. string_bytes text ≡ text_of (refusal (status.NotCertificate at) ∷ [])) }
 {
@@ -128,6 +144,7 @@ pub(crate) fn refusal_text(alloc: Global, status: &Status) -> Result<String, NoM
             let word = word_of(*which);
             format!(in alloc; "refused NoSuchPlace {word}\n")
         }
+        Status::NotProtocol(error) => no_protocol(alloc, *error),
         Status::NotCertificate { at } => no_certificate(alloc, *at),
         Status::Rejected { line } => rejected(alloc, *line),
         Status::OverBudget { budget } => over_budget(alloc, *budget),

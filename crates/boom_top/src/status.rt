@@ -3,6 +3,7 @@ ghost use Rattle.std.specs.Prelude.{◌≡◌};
 ghost use Rattle.boom_top.specs.Refusals.{number_of};
 
 use link_rules::LinkError;
+use protocol_words::ProtocolError;
 use query_core::Which;
 
 /// How a call ended. What each means stands at `boomer`.
@@ -25,6 +26,9 @@ pub enum Status {
     NotLinked(LinkError),
     /// A part of the place that the command names isn't there: the first in the order of `Which`.
     NoSuchPlace { which: Which },
+    /// The word spells no protocol: its first part, from 0, that breaks the grammar; where none does, the first that brings a 17th state; or where none
+    /// does, no class has the name of its class. `ProtocolError::NoMemory` never stands here.
+    NotProtocol(ProtocolError),
     /// What stands behind the mark is no certificate: this is the first line, from 0, that isn't one of a certificate; 0 where there is none.
     NotCertificate { at: u32 },
     /// The certificate isn't accepted: this is the first line, from 1, that isn't justified; where each is and the last is no claim of the target, the
@@ -55,6 +59,7 @@ impl Status {
             Status::NotJimple { .. } => 5,
             Status::NotLinked(_) => 6,
             Status::NoSuchPlace { .. } => 7,
+            Status::NotProtocol(_) => 8,
             Status::NotCertificate { .. } => 9,
             Status::Rejected { .. } => 10,
             Status::OverBudget { .. } => 11,

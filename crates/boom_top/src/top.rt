@@ -4,7 +4,7 @@ ghost use Rattle.std.specs.Io.KnownBytes.{Appends, IsAtEnd};
 ghost use Rattle.boom_io.specs.Causes.{Rose};
 ghost use Rattle.boom_io.specs.Whole.{AppendsProperPrefix};
 ghost use Rattle.boom_words.specs.Commands.{question_of, request_of};
-ghost use Rattle.boom_words.specs.Requests.{Request, IsRequest, NoRequest};
+ghost use Rattle.boom_words.specs.Requests.{Request, Typestate, IsRequest, IsTypestate, NoRequest, typestate};
 ghost use Rattle.demo_text.specs.Demo.{demo_source};
 ghost use Rattle.report_text.specs.Lines.{text_of};
 ghost use Rattle.boom_top.specs.Evidence.{HasEvidence};
@@ -12,6 +12,9 @@ ghost use Rattle.boom_top.specs.Parts.{IsGiven, Makes, Sends, status_of};
 ghost use Rattle.boom_top.specs.Queries.{Accepted, IsDemo, IsFit, rest_in, source_of};
 ghost use Rattle.boom_top.specs.Replies.{GivesUp, IsReply, IsReplyTo, IsSourceReply};
 ghost use Rattle.boom_top.specs.Runs.{AreAbout, CoversAllRuns, IsAnswerable, ReadsNothing};
+ghost use Rattle.boom_top.specs.Safety.{SaysSafe};
+ghost use Rattle.track_rules.specs.Protocols.{IsProtocolOf, ProtocolParts};
+ghost use Rattle.track_runs.specs.Monitor.{IsSafe};
 
 use super::linked::text_reply;
 use super::query::{NoReply, Reply, refused};
@@ -121,12 +124,13 @@ fn words_reply<S: Source>(alloc: Global, words: &[String], source: &mut S) -> Re
 /// - `run ENTRY STEPS CHOICES`: how does the machine stand after so many steps of the run that the digits name?
 /// - `replay ENTRY BUDGET`: does the certificate behind the program show that a local may hold an object of a site? The program is what stands before the
 ///   first line that is `%certificate`, and the certificate is what stands behind it; the length is that of the whole.
+/// - `typestate ENTRY PROTOCOL BUDGET`: at which statements may an event come on an object in a state in which the protocol doesn't allow it?
 /// - `demo BOXES`: how large is a program of so many boxes, and what does a query of it demand? It reads nothing; its own text stands in the place of
 ///   the bytes.
 ///
 /// The program is linked, with the stand-ins for Java's own classes that are built in, from the `main` of the class ENTRY on. The checks come in this
-/// order: words, length, tokens, grammar, stand-ins, linking, place or certificate, budget, lines of the certificate. The first that fails is the status,
-/// and its line is the reply; else the status is `Done`. The reply is made whole before it is written.
+/// order: words, length, tokens, grammar, stand-ins, linking, place, protocol or certificate, budget, lines of the certificate. The first that fails is
+/// the status, and its line is the reply; else the status is `Done`. The reply is made whole before it is written.
 ///
 /// The clauses on replies speak of a source that tells the bytes it has left, and of any source where nothing is read.
 pub fn boomer<S: Source, K: Sink>(
@@ -147,6 +151,12 @@ pub fn boomer<S: Source, K: Sink>(
     ensures sound { (bytes : List ℕ) → AreAbout (map string_bytes words.now) (S.left source.old) bytes → result ≡ Status.Done
         → (r : Request) → IsRequest (map string_bytes words.now) r
         → (a : Accepted r bytes) → CoversAllRuns a.linked r.question (K.written sink.old) (K.written sink.new) }
+    // Its third part: where the sink tells that the answer to a `typestate` command ends with `verdict safe` and the size of the demand, no run of the
+    // machine, of any length, breaks the protocol: no event comes on an object in a state in which no row allows it.
+    ensures safe { (bytes : List ℕ) → S.left source.old ≡ Some bytes → result ≡ Status.Done
+        → (entry : List ℕ) (asked : Typestate) → IsTypestate (map string_bytes words.now) entry asked
+        → (a : Accepted (record { entry = entry; question = typestate asked }) bytes) (k : ProtocolParts) → IsProtocolOf a.linked asked.protocol k
+        → SaysSafe (K.written sink.old) (K.written sink.new) → IsSafe a.linked k }
     // The evidence: for each site that an answer prints some list of lines is certified; and a replay prints the site for which the lines that it was
     // given are.
     ensures evident { (bytes : List ℕ) → AreAbout (map string_bytes words.now) (S.left source.old) bytes → result ≡ Status.Done

@@ -1,8 +1,8 @@
 -- The words of a command line, one by one.
-use Rattle.std.proofs.Common.{◌≡◌, ℕ, ◌^◌, ◌<◌, ◌≤◌, List, [], ◌∷◌, Some, sym, ◌∙◌, map, length, get_or, codes, arith, refl}
+use Rattle.std.proofs.Common.{◌≡◌, ℕ, ◌^◌, ◌<◌, ◌≤◌, List, [], ◌∷◌, Some, sym, ap, ◌∙◌, map, length, get_or, codes, arith, refl}
 use Rattle.std.proofs.lemmas.List.{length-map}
 use Rattle.std.specs.Fmt.{decimal}
-use Rattle.boom_words.specs.Requests.{AreChoices, IsQuestion, IsRequest, Question, Request, alias, demo, points_to, replay, run}
+use Rattle.boom_words.specs.Requests.{AreChoices, IsQuestion, IsRequest, Question, Request, alias, demo, points_to, replay, run, typestate}
 
 -- a list of one element is its element
 pub one : {X : Type 0} (xs : List X) (a : X) → length xs ≡ 1 → a ≡ get_or xs 0 a → xs ≡ a ∷ []
@@ -37,6 +37,10 @@ five (x0 ∷ x1 ∷ x2 ∷ []) a b c d e h p q r s t = absurd (omega arith)
 five (x0 ∷ x1 ∷ x2 ∷ x3 ∷ []) a b c d e h p q r s t = absurd (omega arith)
 five (x0 ∷ x1 ∷ x2 ∷ x3 ∷ x4 ∷ []) a b c d e h p q r s t = cc
 five (x0 ∷ x1 ∷ x2 ∷ x3 ∷ x4 ∷ x5 ∷ xs) a b c d e h p q r s t = absurd (omega arith)
+
+-- the first letter of the first word
+abbrev letter : List (List ℕ) → ℕ
+letter words = get_or (get_or words 0 []) 0 0
 
 -- a word spells this number, and no other below 2^32
 abbrev pub Spells : List ℕ → ℕ → Type 0
@@ -77,6 +81,7 @@ points_to_numbers entry method index local budget named (points_to asked) h =
 points_to_numbers entry method index local budget named (alias asked) h = absurd (let same = h.in_order in cc)
 points_to_numbers entry method index local budget named (run asked) h = absurd (let same = h.in_order in cc)
 points_to_numbers entry method index local budget named (replay most) h = absurd (let same = h.in_order in cc)
+points_to_numbers entry method index local budget named (typestate asked) h = absurd (let same = h.in_order in cc)
 points_to_numbers entry method index local budget named (demo count) h = absurd (let same = h.in_order in cc)
 
 -- the `points-to` command with the numbers that its words spell is what the words ask for
@@ -136,6 +141,7 @@ alias_numbers entry method index first second budget named (alias asked) h =
     }
 alias_numbers entry method index first second budget named (run asked) h = absurd (let same = h.in_order in cc)
 alias_numbers entry method index first second budget named (replay most) h = absurd (let same = h.in_order in cc)
+alias_numbers entry method index first second budget named (typestate asked) h = absurd (let same = h.in_order in cc)
 alias_numbers entry method index first second budget named (demo count) h = absurd (let same = h.in_order in cc)
 
 -- the `alias` command with the numbers that its words spell is what the words ask for
@@ -190,6 +196,7 @@ run_numbers entry steps word named (run asked) h =
       asks = refl;
     }
 run_numbers entry steps word named (replay most) h = absurd (let same = h.in_order in cc)
+run_numbers entry steps word named (typestate asked) h = absurd (let same = h.in_order in cc)
 run_numbers entry steps word named (demo count) h = absurd (let same = h.in_order in cc)
 
 -- the `run` command with the steps and the choices that its words spell is what the words ask for
@@ -231,6 +238,7 @@ points_to_counted entry words named (points_to asked) h =
 points_to_counted entry words named (alias asked) h = absurd (let same = h.in_order in cc)
 points_to_counted entry words named (run asked) h = absurd (let same = h.in_order in cc)
 points_to_counted entry words named (replay most) h = absurd (let same = h.in_order in cc)
+points_to_counted entry words named (typestate asked) h = absurd (let same : 112 ≡ 116 = ap letter h.in_order in omega (arith, same))
 points_to_counted entry words named (demo count) h = absurd (let same = h.in_order in cc)
 
 -- a `points-to` command has four words behind its entry
@@ -247,6 +255,7 @@ alias_counted entry words named (alias asked) h =
     rw behind refl
 alias_counted entry words named (run asked) h = absurd (let same = h.in_order in cc)
 alias_counted entry words named (replay most) h = absurd (let same = h.in_order in cc)
+alias_counted entry words named (typestate asked) h = absurd (let same = h.in_order in cc)
 alias_counted entry words named (demo count) h = absurd (let same = h.in_order in cc)
 
 -- an `alias` command has five words behind its entry
@@ -263,6 +272,7 @@ run_counted entry words named (run asked) h =
     let behind : words ≡ decimal asked.steps ∷ h.word ∷ [] = cc in
     rw behind refl
 run_counted entry words named (replay most) h = absurd (let same = h.in_order in cc)
+run_counted entry words named (typestate asked) h = absurd (let same = h.in_order in cc)
 run_counted entry words named (demo count) h = absurd (let same = h.in_order in cc)
 
 -- a `run` command has two words behind its entry
@@ -293,6 +303,7 @@ replay_numbers entry budget named (replay most) h =
       is_entry = cc;
       asks = refl;
     }
+replay_numbers entry budget named (typestate asked) h = absurd (let same = h.in_order in cc)
 replay_numbers entry budget named (demo count) h = absurd (let same = h.in_order in cc)
 
 -- the `replay` command with the budget that its word spells is what the words ask for
@@ -319,9 +330,69 @@ replay_counted entry words named (replay most) h =
     let same = h.in_order in
     let behind : words ≡ decimal most ∷ [] = cc in
     rw behind refl
+replay_counted entry words named (typestate asked) h = absurd (let same = h.in_order in cc)
 replay_counted entry words named (demo count) h = absurd (let same = h.in_order in cc)
 
 -- a `replay` command has one word behind its entry
 pub replay_count : {X : Type 0} (bytes : X → List ℕ) (entry : List ℕ) (words : List X) (r : Request)
     → IsRequest (codes "replay" ∷ entry ∷ map bytes words) r → length words ≡ 1
 replay_count bytes entry words r h = sym (length-map words bytes) ∙ replay_counted entry (map bytes words) r.entry r.question h
+
+-- the budget of a `typestate` command, by its words
+record TypestateNumbers (entry protocol budget : List ℕ) (named : List ℕ) (q : Question) : Type 0 where
+  pub most : ℕ
+  pub small_budget : most < 2 ^ 32
+  pub is_budget : budget ≡ decimal most
+  pub is_entry : entry ≡ named
+  pub asks : typestate (record { protocol = protocol; budget = most }) ≡ q
+
+-- words that begin with `typestate` ask whether a protocol is met
+typestate_numbers : (entry protocol budget : List ℕ) (named : List ℕ) (q : Question) → IsQuestion (codes "typestate" ∷ entry ∷ protocol ∷ budget ∷ []) named q
+    → TypestateNumbers entry protocol budget named q
+typestate_numbers entry protocol budget named (points_to asked) h = absurd (let same = h.in_order in cc)
+typestate_numbers entry protocol budget named (alias asked) h = absurd (let same = h.in_order in cc)
+typestate_numbers entry protocol budget named (run asked) h = absurd (let same = h.in_order in cc)
+typestate_numbers entry protocol budget named (replay most) h = absurd (let same = h.in_order in cc)
+typestate_numbers entry protocol budget named (typestate asked) h =
+    let same = h.in_order in
+    let protocol_same : protocol ≡ asked.protocol = cc in
+    record {
+      most = asked.budget;
+      small_budget = h.small_budget;
+      is_budget = cc;
+      is_entry = cc;
+      asks = rw protocol_same refl;
+    }
+typestate_numbers entry protocol budget named (demo count) h = absurd (let same = h.in_order in cc)
+
+-- the `typestate` command with the budget that its word spells is what the words ask for
+pub typestate_only : (entry protocol budget : List ℕ) (most : ℕ) (r : Request) → IsRequest (codes "typestate" ∷ entry ∷ protocol ∷ budget ∷ []) r → Spells budget most
+    → record { entry = entry; question = typestate (record { protocol = protocol; budget = most }) } ≡ r
+typestate_only entry protocol budget most r h spells_budget =
+    let n = typestate_numbers entry protocol budget r.entry r.question h in
+    let most_same : most ≡ n.most = (let e = spells_budget n.most n.small_budget n.is_budget in cc) in
+    request_same entry _ r n.is_entry (rw most_same n.asks)
+
+-- a `typestate` command has a budget
+pub typestate_has_budget : (entry protocol budget : List ℕ) (r : Request) → IsRequest (codes "typestate" ∷ entry ∷ protocol ∷ budget ∷ []) r
+    → ((n : ℕ) → n < 2 ^ 32 → ¬ (budget ≡ decimal n)) → ⊥
+typestate_has_budget entry protocol budget r h none =
+    let n = typestate_numbers entry protocol budget r.entry r.question h in
+    none n.most n.small_budget n.is_budget
+
+-- the words behind the entry of `typestate`, by the question
+typestate_counted : (entry : List ℕ) (words : List (List ℕ)) (named : List ℕ) (q : Question) → IsQuestion (codes "typestate" ∷ entry ∷ words) named q → length words ≡ 2
+typestate_counted entry words named (points_to asked) h = absurd (let same : 116 ≡ 112 = ap letter h.in_order in omega (arith, same))
+typestate_counted entry words named (alias asked) h = absurd (let same = h.in_order in cc)
+typestate_counted entry words named (run asked) h = absurd (let same = h.in_order in cc)
+typestate_counted entry words named (replay most) h = absurd (let same = h.in_order in cc)
+typestate_counted entry words named (typestate asked) h =
+    let same = h.in_order in
+    let behind : words ≡ asked.protocol ∷ decimal asked.budget ∷ [] = cc in
+    rw behind refl
+typestate_counted entry words named (demo count) h = absurd (let same = h.in_order in cc)
+
+-- a `typestate` command has two words behind its entry
+pub typestate_count : {X : Type 0} (bytes : X → List ℕ) (entry : List ℕ) (words : List X) (r : Request)
+    → IsRequest (codes "typestate" ∷ entry ∷ map bytes words) r → length words ≡ 2
+typestate_count bytes entry words r h = sym (length-map words bytes) ∙ typestate_counted entry (map bytes words) r.entry r.question h

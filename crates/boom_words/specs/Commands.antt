@@ -1,11 +1,12 @@
 -- What a command's fields are.
-use Rattle.boom_words.specs.Requests.{Alias, PointsTo, Question, Request, RunFor, alias, demo, points_to, replay, run}
+use Rattle.boom_words.specs.Requests.{Alias, PointsTo, Question, Request, RunFor, Typestate, alias, demo, points_to, replay, run, typestate}
 use Rattle.boom_words.specs.declared.request.Asked.{Asked}
 use Rattle.boom_words.specs.declared.request.AskedBoth.{AskedBoth}
 use Rattle.boom_words.specs.declared.request.Command.{Command}
 use Rattle.boom_words.specs.declared.request.Query.{Query}
 use Rattle.boom_words.specs.declared.request.Query.TheVariants as query
 use Rattle.boom_words.specs.declared.request.Running.{Running}
+use Rattle.boom_words.specs.declared.request.Tracking.{Tracking}
 
 -- what a `points-to` command asks for
 abbrev pub points_to_of : Asked → PointsTo
@@ -19,12 +20,17 @@ alias_of a = record { method = a.method.now; index = a.index; first = a.first.no
 abbrev pub run_of : Running → RunFor
 run_of a = record { steps = a.steps; choices = a.choices.now }
 
+-- what a `typestate` command asks for
+abbrev pub typestate_of : Tracking → Typestate
+typestate_of a = record { protocol = a.protocol.now; budget = a.budget }
+
 -- what a query asks
 abbrev pub question_of : Query → Question
 question_of (query.PointsTo asked) = points_to (points_to_of asked)
 question_of (query.Alias asked) = alias (alias_of asked)
 question_of (query.Run asked) = run (run_of asked)
 question_of (query.Replay budget) = replay budget
+question_of (query.Typestate asked) = typestate (typestate_of asked)
 question_of (query.Demo boxes) = demo boxes
 
 -- the request that a command is

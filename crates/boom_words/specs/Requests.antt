@@ -23,6 +23,11 @@ pub record RunFor : Type 0 where
   pub steps : ℕ
   pub choices : List ℕ
 
+-- may an event come on an object in a state in which a protocol doesn't allow it: the word that spells the protocol, and how many nodes may be demanded
+pub record Typestate : Type 0 where
+  pub protocol : List ℕ
+  pub budget : ℕ
+
 -- what is asked of a linked program. A replay asks whether the certificate behind the program is one, where so many nodes may be demanded. The demo, of
 -- so many boxes, is asked of a program of its own
 pub data Question : Type 0 where
@@ -30,6 +35,7 @@ pub data Question : Type 0 where
   alias : Alias → Question
   run : RunFor → Question
   replay : ℕ → Question
+  typestate : Typestate → Question
   demo : ℕ → Question
 
 -- a question, and the class from which the program is linked
@@ -67,6 +73,11 @@ pub record IsReplay (words : List (List ℕ)) (entry : List ℕ) (budget : ℕ) 
   pub in_order : words ≡ codes "replay" ∷ entry ∷ decimal budget ∷ []
   pub small_budget : budget < 2 ^ 32
 
+-- the words of a `typestate` command, by position: the number is decimal digits without a leading zero, below 2^32
+pub record IsTypestate (words : List (List ℕ)) (entry : List ℕ) (asked : Typestate) : Type 0 where
+  pub in_order : words ≡ codes "typestate" ∷ entry ∷ asked.protocol ∷ decimal asked.budget ∷ []
+  pub small_budget : asked.budget < 2 ^ 32
+
 -- the words of a `demo` command: the number of boxes is decimal digits without a leading zero, from 1 to 400. Its program begins in its class Demo
 pub record IsDemo (words : List (List ℕ)) (entry : List ℕ) (boxes : ℕ) : Type 0 where
   pub in_order : words ≡ codes "demo" ∷ decimal boxes ∷ []
@@ -80,6 +91,7 @@ IsQuestion words entry (points_to asked) = IsPointsTo words entry asked
 IsQuestion words entry (alias asked) = IsAlias words entry asked
 IsQuestion words entry (run asked) = IsRun words entry asked
 IsQuestion words entry (replay budget) = IsReplay words entry budget
+IsQuestion words entry (typestate asked) = IsTypestate words entry asked
 IsQuestion words entry (demo boxes) = IsDemo words entry boxes
 
 -- the words are this request

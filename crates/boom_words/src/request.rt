@@ -34,6 +34,13 @@ pub struct Running<'a> {
     pub choices: &'a [u8],
 }
 
+/// What a `typestate` command asks for: the protocol as a word spells it.
+#[derive(Clone, Copy)]
+pub struct Tracking<'a> {
+    pub protocol: &'a str,
+    pub budget: u32,
+}
+
 /// What is asked of a linked program.
 #[derive(Clone, Copy)]
 pub enum Query<'a> {
@@ -45,6 +52,8 @@ pub enum Query<'a> {
     Run(Running<'a>),
     /// Is the certificate behind the program one, where no more nodes may be demanded?
     Replay { budget: u32 },
+    /// May an event come on an object in a state in which a protocol doesn't allow it?
+    Typestate(Tracking<'a>),
     /// Which sites may the last local of the demo's program hold, which has this many boxes?
     Demo { boxes: u32 },
 }
@@ -223,6 +232,30 @@ fn replay<'a>(
     }))
 }
 
+// The `typestate` command with this entry and these words behind it.
+fn typestate<'a>(
+    alloc: Global,
+    entry: &'a str,
+    words: &'a [String],
+) -> Result<Option<Command<'a>>, NoMemory>
+    ensures some { IfOk result (λ found. IfSome found (λ c.
+        IsRequest (codes "typestate" ∷ entry.now ∷ map string_bytes words.now) (request_of c))) }
+    ensures only { IfOk result (λ found. (r : Request) → IsRequest (codes "typestate" ∷ entry.now ∷ map string_bytes words.now) r
+        → IsSomeAnd found (λ c. request_of c ≡ r)) }
+{
+    let [protocol, budget] = words else {
+        return Ok(None);
+    };
+    let Some(budget) = number(alloc, budget.as_str())? else {
+        return Ok(None);
+    };
+    let protocol = protocol.as_str();
+    Ok(Some(Command {
+        entry,
+        query: Query::Typestate(Tracking { protocol, budget }),
+    }))
+}
+
 // The `demo` command with this number and these words behind it.
 fn demo<'a>(
     alloc: Global,
@@ -250,7 +283,8 @@ fn demo<'a>(
 }
 
 /// The command that the words are, if they are one: `points-to ENTRY METHOD INDEX LOCAL BUDGET`,
-/// `alias ENTRY METHOD INDEX LOCAL LOCAL BUDGET`, `run ENTRY STEPS CHOICES`, `replay ENTRY BUDGET` or `demo BOXES`.
+/// `alias ENTRY METHOD INDEX LOCAL LOCAL BUDGET`, `run ENTRY STEPS CHOICES`, `replay ENTRY BUDGET`, `typestate ENTRY PROTOCOL BUDGET` or
+/// `demo BOXES`.
 ///
 /// INDEX, BUDGET, STEPS and BOXES are decimal digits without a leading zero, at most 4,294,967,295, STEPS at most 1,000,000 and BOXES from 1 to 400.
 /// CHOICES is a dash for none, or 1 to 1,000 decimal digits. The other words are any texts. The entry of `demo` is its program's class `Demo`.
@@ -266,6 +300,7 @@ pub fn read_words(alloc: Global, words: &[String]) -> Result<Option<Command<'_>>
         "alias" => alias(alloc, second.as_str(), rest),
         "run" => run(alloc, second.as_str(), rest),
         "replay" => replay(alloc, second.as_str(), rest),
+        "typestate" => typestate(alloc, second.as_str(), rest),
         "demo" => demo(alloc, second.as_str(), rest),
         _ => Ok(None),
     }

@@ -1,7 +1,7 @@
-use Rattle.std.proofs.Common.{◌≡◌, ℕ, List, Option, map, string_bytes}
+use Rattle.std.proofs.Common.{◌≡◌, ℕ, List, Option, map, string_bytes, inl}
 use Rattle.boom_top.specs.declared.query.NoReply.TheVariants as none
 use Rattle.boom_top.specs.declared.status.Status.TheVariants as status
-use Rattle.boom_top.proofs.Sent.{IfOk-status, completely, evidently, exactly, only_memory, partly, read_lost, refused_words, replied, soundly, unsent_by, write_failed}
+use Rattle.boom_top.proofs.Sent.{IfOk-status, completely, evidently, exactly, only_memory, partly, read_lost, refused_words, replied, safely, soundly, unsent_by, write_failed}
 use Rattle.boom_top.proofs.top.boomer.Given as given
 use Rattle.boom_top.proofs.top.boomer.Goals as goal
 
@@ -36,6 +36,11 @@ returns-clause-exact g c = λ bytes about. let made = c.words_reply-made.ensures
 pub returns-clause-sound : goal.returns-clause-sound
 returns-clause-sound g c = λ bytes about. let made = c.words_reply-made.ensures.reply bytes about in
     soundly (old g c) (new g c) (before g c) (now g c) c.send.result (same g c) (words g c) bytes c.words_reply-made.result c.send.ensures.sent c.send.ensures.unsent made
+    c.words_reply-made.ensures.one
+
+pub returns-clause-safe : goal.returns-clause-safe
+returns-clause-safe g c = λ bytes left. let made = c.words_reply-made.ensures.reply bytes (inl left) in
+    safely (old g c) (new g c) (before g c) (now g c) c.send.result (same g c) (words g c) bytes c.words_reply-made.result c.send.ensures.sent c.send.ensures.unsent made
     c.words_reply-made.ensures.one
 
 pub returns-clause-evident : goal.returns-clause-evident
