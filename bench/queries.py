@@ -1,6 +1,6 @@
 """How long queries, runs and the demo take, what they demand, and how that grows.
 
-usage: queries.py [--small] [--limit SECONDS] [run] [calls] [fields] [demo]      all of them where none is named
+usage: queries.py [--small] [--limit SECONDS] [run] [calls] [fields] [demo] [typestate]      all of them where none is named
 
 It generates programs of growing size and runs the built program on them: that of ./boomer, which builds it first, or the one that BOOMER names. A time is that
 of the whole call: reading, linking, answering. --small takes sizes that end within seconds. It prints figures, and judges nothing; a query that isn't
@@ -157,6 +157,65 @@ def demo(count):
     return '', ['demo', str(count)]
 
 
+FILES = 'class File { void open() { return; } void read() { return; } void close() { return; } }'
+FILE_PROTOCOL = 'File fresh;fresh open opened;opened read opened;opened close closed'
+
+
+def event(local, name, of='File'):
+    return f'virtualinvoke {local}.<{of}: void {name}()>();'
+
+
+def typestate(protocol):
+    return ['typestate', 'Main', protocol, ANY]
+
+
+def files(count):
+    """Files that are opened, read and closed, one after the other."""
+    statements = [part for i in range(count) for part in (f'f{i} = new File;', *(event(f'f{i}', name) for name in ('open', 'read', 'close')))]
+    statements.append('return;')
+    return main_class([], [f'File f{i};' for i in range(count)], statements, FILES), typestate(FILE_PROTOCOL)
+
+
+def helped_files(count):
+    """The same through one helper, to which each is passed."""
+    method = 'static void use(File) ' + body(['File f;'], ['f := @parameter0: File;', *(event('f', name) for name in ('open', 'read', 'close')), 'return;'])
+    statements = [part for i in range(count) for part in (f'f{i} = new File;', f'staticinvoke <Main: void use(File)>(f{i});')]
+    statements.append('return;')
+    return main_class([method], [f'File f{i};' for i in range(count)], statements, FILES), typestate(FILE_PROTOCOL)
+
+
+def looped_reads(count):
+    """A loop that opens a file, reads it at many places, and closes it."""
+    statements = ['again:', 'f = new File;', event('f', 'open'), *[event('f', 'read') for _ in range(count)], event('f', 'close'), 'goto again;']
+    return main_class([], ['File f;'], statements, FILES), typestate(FILE_PROTOCOL)
+
+
+def sixteen_states(count):
+    """Objects that go round a protocol of sixteen states, one after the other."""
+    protocol = 'File s0;' + ';'.join(f's{i} read s{(i + 1) % 16}' for i in range(16))
+    statements = [part for i in range(count) for part in (f'f{i} = new File;', *[event(f'f{i}', 'read') for _ in range(16)])]
+    statements.append('return;')
+    return main_class([], [f'File f{i};' for i in range(count)], statements, FILES), typestate(protocol)
+
+
+def layers(count):
+    """A library's layers: each holds the one below it in a field, and hands each event on."""
+    stream = 'abstract class Layer { abstract void open(); abstract void read(); abstract void close(); }\n'
+    last = 'class Bottom extends Layer { void open() { return; } void read() { return; } void close() { return; } }\n'
+    more = stream + last
+    for i in range(count):
+        handed = ' '.join(
+            f'void {name}() {{ L{i} this_; Layer below; this_ := @this: L{i}; below = this_.<L{i}: Layer below>; {event("below", name, "Layer")} return; }}'
+            for name in ('open', 'read', 'close'))
+        more += f'class L{i} extends Layer {{ Layer below; {handed} }}\n'
+    statements = ['x0 = new Bottom;']
+    for i in range(count):
+        statements += [f'l{i} = new L{i};', f'l{i}.<L{i}: Layer below> = x{i};', f'x{i + 1} = l{i};']
+    statements += [*(event(f'x{count}', name, 'Layer') for name in ('open', 'read', 'close')), 'return;']
+    declared = [f'L{i} l{i};' for i in range(count)] + [f'Layer x{i};' for i in range(count + 1)]
+    return main_class([], declared, statements, more), typestate('Bottom fresh;fresh open opened;opened read opened;opened close closed')
+
+
 # For each name: what is measured, how it is made, its sizes and its small sizes.
 TABLES = {
     'run': [('steps of a loop that makes objects', loop, [250000, 500000, 1000000], [10000, 20000])],
@@ -175,6 +234,13 @@ TABLES = {
         ('boxes through one put and one get', boxes, [50, 100, 200, 400, 1600, 6400], [5, 10]),
     ],
     'demo': [('boxes of the demo', demo, [50, 100, 200, 400], [5, 10])],
+    'typestate': [
+        ('files, one after the other', files, [50, 100, 200, 400], [5, 10]),
+        ('files through one helper', helped_files, [50, 100, 200, 400], [5, 10]),
+        ('a loop that reads a file at many places', looped_reads, [50, 100, 200, 400], [5, 10]),
+        ('objects that go round sixteen states', sixteen_states, [10, 20, 40, 80], [2, 4]),
+        ('layers of a library, each over the one below', layers, [5, 10, 20, 40], [2, 4]),
+    ],
 }
 
 
