@@ -1,8 +1,9 @@
 //! That texts come in order, that pieces run side by side, of which numbers a gate is told, how questions are cut, and what an error in one piece does to
 //! the others.
-use batch_join::{Ask, NoMemory, Pass, Text, ask_all};
+use batch_join::{Ask, NoMemory, Pass, Text, Texts, ask_all};
 use std::alloc::{AllocError, Global};
 use std::sync::atomic::{AtomicU64, Ordering};
+use std::thread::Threads;
 
 // The most readings of what another thread writes, so that a test ends by itself.
 const READINGS: u32 = 200_000_000;
@@ -140,6 +141,28 @@ impl Pass for Behind<'_> {
     }
 }
 
+// Whether each text has the byte of its number, and nothing else.
+fn are_in_order(texts: &Texts) -> bool {
+    for k in 0..texts.len() {
+        if texts.text(k) != [(k % 256) as u8].as_slice() {
+            return false;
+        }
+    }
+    true
+}
+
+// What a test owns is asked about in a function that answers whether it is right: the prover goes over it at each way out, and a test has many.
+fn comes_in_order<R: Threads + Sync>(
+    threads: &R,
+    alloc: Global,
+    count: u32,
+    pieces: usize,
+) -> Result<bool, NoMemory> {
+    let told = Told::new();
+    let texts = ask_all(threads, alloc, &Bytes::but(Bytes::NONE), count, &told)?;
+    Ok(texts.len() == count && are_in_order(&texts) && told.is_first(pieces))
+}
+
 #[test]
 fn texts_come_in_order(rt: HostRuntime) -> Result<(), NoMemory> {
     for (count, pieces) in [
@@ -152,71 +175,83 @@ fn texts_come_in_order(rt: HostRuntime) -> Result<(), NoMemory> {
         (17, 5),
         (29, 8),
     ] {
-        let told = Told::new();
-        let texts = ask_all(&rt, rt.alloc(), &Bytes::but(Bytes::NONE), count, &told)?;
-        assert_eq!(rt; texts.len(), count);
-        for k in 0..texts.len() {
-            assert_eq!(rt; texts.text(k), [k as u8].as_slice(), "text {k} of {count}");
-        }
-        assert!(rt; told.is_first(pieces), "of {count}");
+        assert!(rt;
+            comes_in_order(&rt, rt.alloc(), count, pieces)?,
+            "of {count}"
+        );
     }
     Ok(())
 }
 
+// Whether a thousand texts come in order.
+fn many_come_in_order<R: Threads + Sync>(threads: &R, alloc: Global) -> Result<bool, NoMemory> {
+    let texts = ask_all(threads, alloc, &Bytes::but(Bytes::NONE), 1000, &Told::new())?;
+    Ok(texts.len() == 1000 && are_in_order(&texts))
+}
+
 #[test]
 fn a_thousand_come_in_order(rt: HostRuntime) -> Result<(), NoMemory> {
-    let texts = ask_all(
-        &rt,
-        rt.alloc(),
-        &Bytes::but(Bytes::NONE),
-        1000,
-        &Told::new(),
-    )?;
-    assert_eq!(rt; texts.len(), 1000);
-    for k in 0..texts.len() {
-        assert_eq!(rt; texts.text(k), [(k % 256) as u8].as_slice(), "text {k}");
-    }
+    assert!(rt; many_come_in_order(&rt, rt.alloc())?);
     Ok(())
+}
+
+// Whether two pieces of forty questions meet.
+fn meets<R: Threads + Sync>(threads: &R, alloc: Global) -> Result<bool, NoMemory> {
+    let meeting = Meeting::new();
+    let texts = ask_all(threads, alloc, &Bytes::but(Bytes::NONE), 40, &meeting)?;
+    Ok(meeting.missed.load(Ordering::SeqCst) == 0 && texts.len() == 40)
 }
 
 // One thread that goes over the pieces misses a meeting, from the first to the last as well as from the last to the first.
 #[test]
 fn two_pieces_wait_for_each_other(rt: HostRuntime) -> Result<(), NoMemory> {
-    let meeting = Meeting::new();
-    let texts = ask_all(&rt, rt.alloc(), &Bytes::but(Bytes::NONE), 40, &meeting)?;
-    assert_eq!(rt; meeting.missed.load(Ordering::SeqCst), 0);
-    assert_eq!(rt; texts.len(), 40);
+    assert!(rt; meets(&rt, rt.alloc())?);
     Ok(())
+}
+
+// Whether the held one of two pieces sees so many texts of the other, and all five questions are answered.
+fn sees_others<R: Threads + Sync>(
+    threads: &R,
+    alloc: Global,
+    held: u32,
+    others: u64,
+) -> Result<bool, NoMemory> {
+    let bytes = Bytes::but(Bytes::NONE);
+    let behind = Behind {
+        held,
+        bytes: &bytes,
+        others,
+        missed: AtomicU64::new(0),
+    };
+    let texts = ask_all(threads, alloc, &bytes, 5, &behind)?;
+    Ok(behind.missed.load(Ordering::SeqCst) == 0 && texts.len() == 5)
 }
 
 // A piece that is held sees all texts of the other: 5 questions are 3 and 2.
 #[test]
 fn the_first_half_is_rounded_up(rt: HostRuntime) -> Result<(), NoMemory> {
     for (held, others) in [(1, 3), (0, 2)] {
-        let bytes = Bytes::but(Bytes::NONE);
-        let behind = Behind {
-            held,
-            bytes: &bytes,
-            others,
-            missed: AtomicU64::new(0),
-        };
-        let texts = ask_all(&rt, rt.alloc(), &bytes, 5, &behind)?;
-        assert_eq!(rt; behind.missed.load(Ordering::SeqCst), 0, "piece {held}");
-        assert_eq!(rt; texts.len(), 5);
+        assert!(rt; sees_others(&rt, rt.alloc(), held, others)?, "piece {held}");
     }
     Ok(())
+}
+
+// Whether of 16 questions so many are answered where one is refused, with an error, and it is told of four pieces.
+fn stops_alone<R: Threads + Sync>(threads: &R, alloc: Global, refused: u32, answered: u64) -> bool {
+    let told = Told::new();
+    let bytes = Bytes::but(refused);
+    let fails = ask_all(threads, alloc, &bytes, 16, &told).is_err();
+    fails && bytes.told() == answered && told.is_first(4)
 }
 
 // Of 16 questions each piece has four. The piece with the number that is refused stops there, and the others ask all of theirs.
 #[test]
 fn an_error_stops_its_piece_alone(rt: HostRuntime) -> Result<(), NoMemory> {
     for (refused, answered) in [(0, 12), (6, 14), (15, 15)] {
-        let told = Told::new();
-        let bytes = Bytes::but(refused);
-        let texts = ask_all(&rt, rt.alloc(), &bytes, 16, &told);
-        assert!(rt; texts.is_err(), "{refused} is refused");
-        assert_eq!(rt; bytes.told(), answered, "{refused} is refused");
-        assert!(rt; told.is_first(4), "{refused} is refused");
+        assert!(rt;
+            stops_alone(&rt, rt.alloc(), refused, answered),
+            "{refused} is refused"
+        );
     }
     Ok(())
 }

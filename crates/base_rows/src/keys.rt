@@ -83,44 +83,60 @@ fn put_new<K: Key>(numbered: &mut Numbered<K>, key: K) -> Result<Option<u32>, Al
     Ok(Some(numbered.put(key)))
 }
 
-/// The last and the first key of one chain, and one that isn't there.
-#[test]
-fn ends_of_a_chain(rt: HostRuntime) -> Result<(), Fail> {
-    let mut numbered = Numbered::new(rt.alloc());
+/// Whether the last and the first key of one chain are found, and one that isn't there is put.
+fn ends_are_found(numbered: &mut Numbered<Crowded>) -> Result<bool, AllocError> {
     for i in 0..20 {
         numbered.add(Crowded(i))?;
     }
-    assert!(rt; numbered.find(Crowded(19)) == Some(19));
-    assert!(rt; numbered.find(Crowded(0)) == Some(0));
-    assert!(rt; put_new(&mut numbered, Crowded(0))?.is_none());
-    assert!(rt; put_new(&mut numbered, Crowded(20))? == Some(20));
-    assert!(rt; numbered.keys().last() == Some(&Crowded(20)));
+    let found = numbered.find(Crowded(19)) == Some(19) && numbered.find(Crowded(0)) == Some(0);
+    let put = put_new(numbered, Crowded(0))?.is_none()
+        && put_new(numbered, Crowded(20))? == Some(20);
+    Ok(found && put && numbered.keys().last() == Some(&Crowded(20)))
+}
+
+fn chain_ends(alloc: Global) -> Result<bool, AllocError> {
+    let mut numbered = Numbered::new(alloc);
+    ends_are_found(&mut numbered)
+}
+
+#[test]
+fn ends_of_a_chain(rt: HostRuntime) -> Result<(), Fail> {
+    assert!(rt; chain_ends(rt.alloc())?);
     Ok(())
 }
 
-fn keyed(key: u32, item: u8) -> Keyed<u32, u8> {
-    Keyed { key, item }
+// Keys that are far apart, one that comes often, and one that has no items.
+const ITEMS: [Keyed<u32, u8>; 5] = [
+    Keyed { key: 7, item: 1 },
+    Keyed {
+        key: 4_000_000_000,
+        item: 2,
+    },
+    Keyed { key: 7, item: 3 },
+    Keyed { key: 0, item: 4 },
+    Keyed { key: 7, item: 3 },
+];
+
+/// Whether a key has these items among some. The groups are owned here, and not in a test: the prover goes over them at each way out.
+fn has_at(
+    alloc: Global,
+    items: &[Keyed<u32, u8>],
+    key: u32,
+    wanted: &[u8],
+) -> Result<bool, AllocError> {
+    let groups = Groups::of(alloc, items)?;
+    Ok(groups.at(key) == wanted)
 }
 
-/// Keys that are far apart, one that comes often, and one that has no items.
 #[test]
 fn groups_by_key(rt: HostRuntime) -> Result<(), Fail> {
-    let items = [
-        keyed(7, 1),
-        keyed(4_000_000_000, 2),
-        keyed(7, 3),
-        keyed(0, 4),
-        keyed(7, 3),
-    ];
-    let groups = Groups::of(rt.alloc(), &items)?;
-    assert!(rt; groups.at(7) == [1, 3, 3].as_slice());
-    assert!(rt; groups.at(4_000_000_000) == [2].as_slice());
-    assert!(rt; groups.at(0) == [4].as_slice());
-    assert!(rt; groups.at(1).is_empty());
-    let one = Groups::of(rt.alloc(), &items[3..4])?;
-    assert!(rt; one.at(0) == [4].as_slice());
-    assert!(rt; one.at(7).is_empty());
-    let none = Groups::of(rt.alloc(), &items[..0])?;
-    assert!(rt; none.at(0).is_empty());
+    let alloc = rt.alloc();
+    assert!(rt; has_at(alloc, &ITEMS, 7, &[1, 3, 3])?);
+    assert!(rt; has_at(alloc, &ITEMS, 4_000_000_000, &[2])?);
+    assert!(rt; has_at(alloc, &ITEMS, 0, &[4])?);
+    assert!(rt; has_at(alloc, &ITEMS, 1, &[])?);
+    assert!(rt; has_at(alloc, &ITEMS[3..4], 0, &[4])?);
+    assert!(rt; has_at(alloc, &ITEMS[3..4], 7, &[])?);
+    assert!(rt; has_at(alloc, &[], 0, &[])?);
     Ok(())
 }

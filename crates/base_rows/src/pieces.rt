@@ -1,10 +1,11 @@
 //! That pieces run side by side, of which numbers a gate is told, how lists are cut, and what an error in one piece does to the others.
-ghost use Rattle.std.specs.Prelude.{◌≡◌, [], length, IfOk};
+ghost use Rattle.std.specs.Prelude.{◌≡◌, ◌<◌, ◌^◌, [], length, IfOk};
 ghost use Rattle.piece_join.specs.Brought.{AllAt};
 
 use piece_join::{Bring, Gate, NoMemory, Open, bring_all, bring_here};
 use std::alloc::{AllocError, Global};
 use std::sync::atomic::{AtomicU64, Ordering};
+use std::thread::Threads;
 
 // The most readings of what another thread writes, so that a test ends by itself.
 const READINGS: u32 = 200_000_000;
@@ -43,11 +44,11 @@ impl Numbers {
 }
 
 impl Bring<Vec<u32>> for Numbers {
-    ghost use Rattle.std.specs.Prelude.{◌≡◌, [], ◌∷◌};
+    ghost use Rattle.std.specs.Prelude.{◌≡◌, [], ◌∷◌, ◌++◌};
 
     ghost may = { λ numbers number row. row.items ≡ [] };
 
-    ghost ends = { λ numbers number row. row.items ≡ number ∷ [] };
+    ghost ends = { λ numbers number old row. row.items ≡ old.items ++ number ∷ [] };
 
     fn bring(&self, number: u32, row: &mut Vec<u32>) -> Result<(), NoMemory> {
         if number == self.refused {
@@ -158,14 +159,28 @@ impl Gate for Behind<'_> {
     }
 }
 
+// What a test owns is asked about in a function that answers whether it is right: the prover goes over it at each way out, and a test has many.
+fn tells_of_each<R: Threads + Sync>(
+    threads: &R,
+    alloc: Global,
+    count: usize,
+    pieces: usize,
+) -> Result<bool, NoMemory>
+    requires { count < 2 ^ 32 }
+{
+    let mut rows = rows(alloc, count)?;
+    let told = Told::new();
+    bring_all(threads, &told, &Numbers::but(Numbers::NONE), &mut rows)?;
+    Ok(are_numbered(&rows) && told.is_first(pieces))
+}
+
 #[test]
 fn tells_of_each_piece_once(rt: HostRuntime) -> Result<(), NoMemory> {
     for (count, pieces) in [(0, 1), (1, 1), (16, 1), (17, 2), (33, 3), (40, 4), (80, 8)] {
-        let mut rows = rows(rt.alloc(), count)?;
-        let told = Told::new();
-        bring_all(&rt, &told, &Numbers::but(Numbers::NONE), &mut rows)?;
-        assert!(rt; are_numbered(&rows), "{count} rows");
-        assert!(rt; told.is_first(pieces), "{count} rows");
+        assert!(rt;
+            tells_of_each(&rt, rt.alloc(), count, pieces)?,
+            "{count} rows"
+        );
     }
     Ok(())
 }
@@ -188,58 +203,85 @@ fn one_thread_brings_the_same(rt: HostRuntime) -> Result<(), NoMemory> {
     Ok(())
 }
 
+// Whether two pieces of eighty rows meet.
+fn meets<R: Threads + Sync>(threads: &R, alloc: Global) -> Result<bool, NoMemory> {
+    let mut rows = rows(alloc, 80)?;
+    let meeting = Meeting::new();
+    bring_all(threads, &meeting, &Numbers::but(Numbers::NONE), &mut rows)?;
+    Ok(meeting.missed.load(Ordering::SeqCst) == 0 && are_numbered(&rows))
+}
+
 // One thread that goes over the pieces misses a meeting, from the first to the last as well as from the last to the first.
 #[test]
 fn two_pieces_wait_for_each_other(rt: HostRuntime) -> Result<(), NoMemory> {
-    let mut rows = rows(rt.alloc(), 80)?;
-    let meeting = Meeting::new();
-    bring_all(&rt, &meeting, &Numbers::but(Numbers::NONE), &mut rows)?;
-    assert_eq!(rt; meeting.missed.load(Ordering::SeqCst), 0);
-    assert!(rt; are_numbered(&rows));
+    assert!(rt; meets(&rt, rt.alloc())?);
     Ok(())
+}
+
+// Whether the held one of two pieces sees so many rows of the other, and all of 17 are brought.
+fn sees_others<R: Threads + Sync>(
+    threads: &R,
+    alloc: Global,
+    held: u32,
+    others: u64,
+) -> Result<bool, NoMemory> {
+    let mut rows = rows(alloc, 17)?;
+    let numbers = Numbers::but(Numbers::NONE);
+    let behind = Behind {
+        held,
+        numbers: &numbers,
+        others,
+        missed: AtomicU64::new(0),
+    };
+    bring_all(threads, &behind, &numbers, &mut rows)?;
+    Ok(behind.missed.load(Ordering::SeqCst) == 0 && numbers.brought() == 17)
 }
 
 // A piece that is held sees all rows of the other: 17 rows are 9 and 8.
 #[test]
 fn the_first_half_is_rounded_up(rt: HostRuntime) -> Result<(), NoMemory> {
     for (held, others) in [(1, 9), (0, 8)] {
-        let mut rows = rows(rt.alloc(), 17)?;
-        let numbers = Numbers::but(Numbers::NONE);
-        let behind = Behind {
-            held,
-            numbers: &numbers,
-            others,
-            missed: AtomicU64::new(0),
-        };
-        bring_all(&rt, &behind, &numbers, &mut rows)?;
-        assert_eq!(rt; behind.missed.load(Ordering::SeqCst), 0, "piece {held}");
-        assert_eq!(rt; numbers.brought(), 17);
+        assert!(rt; sees_others(&rt, rt.alloc(), held, others)?, "piece {held}");
     }
     Ok(())
+}
+
+// Whether of 40 rows so many are brought where one is refused, with an error, and the gate is told of four pieces.
+fn stops_alone<R: Threads + Sync>(
+    threads: &R,
+    alloc: Global,
+    refused: u32,
+    brought: u64,
+) -> Result<bool, NoMemory> {
+    let mut rows = rows(alloc, 40)?;
+    let told = Told::new();
+    let numbers = Numbers::but(refused);
+    let fails = bring_all(threads, &told, &numbers, &mut rows).is_err();
+    Ok(fails && numbers.brought() == brought && told.is_first(4))
 }
 
 // Of 40 rows each piece has ten. The piece with the number that is refused stops there, and the others bring all of theirs.
 #[test]
 fn an_error_stops_its_piece_alone(rt: HostRuntime) -> Result<(), NoMemory> {
     for (refused, brought) in [(0, 30), (13, 33), (39, 39)] {
-        let mut rows = rows(rt.alloc(), 40)?;
-        let told = Told::new();
-        let numbers = Numbers::but(refused);
         assert!(rt;
-            bring_all(&rt, &told, &numbers, &mut rows).is_err(),
+            stops_alone(&rt, rt.alloc(), refused, brought)?,
             "{refused} is refused"
         );
-        assert_eq!(rt; numbers.brought(), brought, "{refused} is refused");
-        assert!(rt; told.is_first(4), "{refused} is refused");
     }
     Ok(())
 }
 
+// Whether one thread stops at the refused row.
+fn stops_here(alloc: Global) -> Result<bool, NoMemory> {
+    let mut rows = rows(alloc, 40)?;
+    let numbers = Numbers::but(13);
+    let fails = bring_here(&numbers, &mut rows).is_err();
+    Ok(fails && numbers.brought() == 13)
+}
+
 #[test]
 fn one_thread_stops_at_an_error(rt: HostRuntime) -> Result<(), NoMemory> {
-    let mut rows = rows(rt.alloc(), 40)?;
-    let numbers = Numbers::but(13);
-    assert!(rt; bring_here(&numbers, &mut rows).is_err());
-    assert_eq!(rt; numbers.brought(), 13);
+    assert!(rt; stops_here(rt.alloc())?);
     Ok(())
 }

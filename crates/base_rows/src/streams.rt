@@ -2,10 +2,23 @@
 use boom_io::{
     Failed, MemSink, MemSource, ReadAll, ReadSource, Sink, Source, WriteSink, read_all, write_all,
 };
+use std::alloc::{AllocError, Global};
 use std::io::{Cursor, ErrorKind, Read, Write};
 use std::test::Fail;
 
 const TEXT: &[u8] = b"points-to";
+
+// Whether the nine bytes are read within the limit, or are told to be too long.
+fn is_read(alloc: Global, most: usize, limit: usize, fits: bool) -> Result<bool, AllocError> {
+    if most == 0 || limit == usize::MAX {
+        return Ok(false);
+    }
+    let mut source = MemSource::new(TEXT.to_vec(alloc)?, Vec::new(alloc), most);
+    match read_all(alloc, &mut source, limit) {
+        Ok(bytes) => Ok(fits && bytes.as_slice() == TEXT),
+        Err(error) => Ok(!fits && error == ReadAll::TooLong),
+    }
+}
 
 #[test]
 fn reads_in_pieces_up_to_the_limit(rt: HostRuntime) -> Result<(), Fail> {
@@ -24,18 +37,10 @@ fn reads_in_pieces_up_to_the_limit(rt: HostRuntime) -> Result<(), Fail> {
         (100, 0, false),
     ];
     for (most, limit, fits) in rows {
-        assert!(rt; most > 0 && limit < usize::MAX);
-        let mut source = MemSource::new(TEXT.to_vec(rt.alloc())?, Vec::new(rt.alloc()), most);
-        match read_all(rt.alloc(), &mut source, limit) {
-            Ok(bytes) => {
-                assert!(rt; fits, "most {most}, limit {limit}");
-                assert_eq!(rt; bytes.as_slice(), TEXT);
-            }
-            Err(error) => {
-                assert!(rt; !fits, "most {most}, limit {limit}");
-                assert_eq!(rt; error, ReadAll::TooLong);
-            }
-        }
+        assert!(rt;
+            is_read(rt.alloc(), most, limit, fits)?,
+            "most {most}, limit {limit}"
+        );
     }
     let mut nothing = MemSource::new(Vec::new(rt.alloc()), Vec::new(rt.alloc()), 1);
     let bytes = read_all(rt.alloc(), &mut nothing, 0)?;
@@ -43,22 +48,35 @@ fn reads_in_pieces_up_to_the_limit(rt: HostRuntime) -> Result<(), Fail> {
     Ok(())
 }
 
+// Whether the read with the number fails, of four bytes each, and the next ones give this rest.
+fn goes_on(alloc: Global, call: u32, rest: &[u8]) -> Result<bool, AllocError> {
+    let failing = vec![in alloc; call, 7]?;
+    let mut source = MemSource::new(TEXT.to_vec(alloc)?, failing, 4);
+    let is_fault = matches!(read_all(alloc, &mut source, 9), Err(ReadAll::ReadFault));
+    match read_all(alloc, &mut source, 9) {
+        Ok(again) => Ok(is_fault && again.as_slice() == rest),
+        Err(_) => Ok(false),
+    }
+}
+
+// Whether all is read where a read fails that isn't made.
+fn is_whole(alloc: Global) -> Result<bool, AllocError> {
+    let failing = vec![in alloc; 4]?;
+    let mut source = MemSource::new(TEXT.to_vec(alloc)?, failing, 4);
+    match read_all(alloc, &mut source, 9) {
+        Ok(bytes) => Ok(bytes.as_slice() == TEXT),
+        Err(_) => Ok(false),
+    }
+}
+
 #[test]
 fn fails_at_the_chosen_read_and_goes_on_behind_it(rt: HostRuntime) -> Result<(), Fail> {
     // Four bytes a read: the reads 0 to 2 give them, and read 3 finds the end.
     let rows: [(u32, &[u8]); 4] = [(0, b"points-to"), (1, b"ts-to"), (2, b"o"), (3, b"")];
     for (call, rest) in rows {
-        let failing = vec![in rt.alloc(); call, 7]?;
-        let mut source = MemSource::new(TEXT.to_vec(rt.alloc())?, failing, 4);
-        let first = read_all(rt.alloc(), &mut source, 9);
-        assert!(rt; first == Err(ReadAll::ReadFault), "at {call}");
-        let again = read_all(rt.alloc(), &mut source, 9)?;
-        assert_eq!(rt; again.as_slice(), rest, "at {call}");
+        assert!(rt; goes_on(rt.alloc(), call, rest)?, "at {call}");
     }
-    let failing = vec![in rt.alloc(); 4]?;
-    let mut source = MemSource::new(TEXT.to_vec(rt.alloc())?, failing, 4);
-    let bytes = read_all(rt.alloc(), &mut source, 9)?;
-    assert_eq!(rt; bytes.as_slice(), TEXT);
+    assert!(rt; is_whole(rt.alloc())?);
     Ok(())
 }
 
@@ -74,6 +92,22 @@ fn reads_more_than_one_piece_of_room(rt: HostRuntime) -> Result<(), Fail> {
         assert!(rt; read_all(rt.alloc(), &mut source, len - 1) == Err(ReadAll::TooLong));
     }
     Ok(())
+}
+
+// Whether a sink of so much room then holds these bytes, and all nine are told to be written where it does.
+fn is_kept(
+    alloc: Global,
+    room: usize,
+    most: usize,
+    call: u32,
+    holds: &[u8],
+) -> Result<bool, AllocError> {
+    if most == 0 {
+        return Ok(false);
+    }
+    let mut sink = MemSink::new(alloc, room, vec![in alloc; call]?, most)?;
+    let is_written = write_all(&mut sink, TEXT).is_ok();
+    Ok(sink.bytes() == holds && is_written == (holds.len() == 9))
 }
 
 #[test]
@@ -93,17 +127,8 @@ fn writes_in_pieces_and_keeps_the_front(rt: HostRuntime) -> Result<(), Fail> {
         (8, 4, 9, b"points-t"),
     ];
     for (room, most, call, holds) in rows {
-        let failing = vec![in rt.alloc(); call]?;
-        let mut sink = MemSink::new(rt.alloc(), room, failing, most)?;
-        let written = write_all(&mut sink, TEXT);
-        assert_eq!(rt;
-            sink.bytes(),
-            holds,
-            "room {room}, most {most}, call {call}"
-        );
-        assert_eq!(rt;
-            written.is_ok(),
-            holds.len() == 9,
+        assert!(rt;
+            is_kept(rt.alloc(), room, most, call, holds)?,
             "room {room}, most {most}, call {call}"
         );
     }

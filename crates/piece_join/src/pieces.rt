@@ -1,7 +1,7 @@
 //! Cutting a list into pieces, and bringing the items of each to their ends.
 ghost use Rattle.std.specs.Prelude.{◌≡◌, ◌<◌, ◌≤◌, ◌+◌, ◌^◌, ℕ, length, OnOk};
 ghost use Rattle.std.specs.Thread.{IsSend, IsSync};
-ghost use Rattle.piece_join.specs.Brought.{AllAt};
+ghost use Rattle.piece_join.specs.Brought.{AllAt, AllBecome};
 
 use super::NoMemory;
 use super::gate::Gate;
@@ -16,13 +16,13 @@ pub trait Bring<T>: Sync {
     /// What an item with this number has to be before.
     ghost may: { Self → ℕ → T → Type 0 };
 
-    /// What it is afterwards.
-    ghost ends: { Self → ℕ → T → Type 0 };
+    /// What it may become: what it was before, and then what it is.
+    ghost ends: { Self → ℕ → T → T → Type 0 };
 
     /// Brings the item with this number to its end. Want of memory is the only refusal, and nothing is said of the item then.
     fn bring(&self, number: u32, item: &mut T) -> Result<(), NoMemory>
         requires { may self.now number item.old }
-        ensures { OnOk result (ends self.now number item.new) };
+        ensures { OnOk result (ends self.now number item.old item.new) };
 }
 
 // How many pieces so many items are cut into: one, or those of the first half, rounded up, and those of the rest.
@@ -43,7 +43,7 @@ fn bring_piece<T, B: Bring<T>>(how: &B, first: u32, items: &mut [T]) -> Result<(
     requires room { first + length items.old < 2 ^ 32 }
     requires may { AllAt (B.may how.now) first items.old }
     ensures count { length items.new ≡ length items.old }
-    ensures ends { OnOk result (AllAt (B.ends how.now) first items.new) }
+    ensures ends { OnOk result (AllBecome (B.ends how.now) first items.old items.new) }
 {
     let count = items.len() as u32;
     for k in 0..count {
@@ -66,7 +66,7 @@ fn bring_from<R: Threads + Sync, G: Gate, T: Send, B: Bring<T>>(
     requires room { first + length items.old < 2 ^ 32 }
     requires may { AllAt (B.may how.now) first items.old }
     ensures count { length items.new ≡ length items.old }
-    ensures ends { OnOk result (AllAt (B.ends how.now) first items.new) }
+    ensures ends { OnOk result (AllBecome (B.ends how.now) first items.old items.new) }
 {
     if items.len() <= MOST {
         gate.pass(piece);
@@ -78,11 +78,11 @@ fn bring_from<R: Threads + Sync, G: Gate, T: Send, B: Bring<T>>(
     let (front, back) = items.split_at_mut(half);
     let mut left = || -> Result<(), NoMemory>
         requires { IsSync R.row × IsSync G.row × IsSync B.row × IsSend T.row × (piece + length front.now < 2 ^ 32) × (first + length front.now < 2 ^ 32) × AllAt (B.may how.now) first front.now }
-        ensures { (length front.exit.now ≡ length front.entry.now) × OnOk result (AllAt (B.ends how.entry.now) first front.exit.now) }
+        ensures { (length front.exit.now ≡ length front.entry.now) × OnOk result (AllBecome (B.ends how.entry.now) first front.entry.now front.exit.now) }
     { bring_from(threads, gate, how, piece, first, front) };
     let mut right = || -> Result<(), NoMemory>
         requires { IsSync R.row × IsSync G.row × IsSync B.row × IsSend T.row × (next + length back.now < 2 ^ 32) × (middle + length back.now < 2 ^ 32) × AllAt (B.may how.now) middle back.now }
-        ensures { (length back.exit.now ≡ length back.entry.now) × OnOk result (AllAt (B.ends how.entry.now) middle back.exit.now) }
+        ensures { (length back.exit.now ≡ length back.entry.now) × OnOk result (AllBecome (B.ends how.entry.now) middle back.entry.now back.exit.now) }
     { bring_from(threads, gate, how, next, middle, back) };
     let (ahead, behind) = join_mut(threads, &mut left, &mut right);
     ahead?;
@@ -103,7 +103,7 @@ pub fn bring_all<R: Threads + Sync, G: Gate, T: Send, B: Bring<T>>(
     requires room { length items.old < 2 ^ 32 }
     requires may { AllAt (B.may how.now) 0 items.old }
     ensures count { length items.new ≡ length items.old }
-    ensures ends { OnOk result (AllAt (B.ends how.now) 0 items.new) }
+    ensures ends { OnOk result (AllBecome (B.ends how.now) 0 items.old items.new) }
 {
     bring_from(threads, gate, how, 0, 0, items)
 }
@@ -114,7 +114,7 @@ pub fn bring_here<T, B: Bring<T>>(how: &B, items: &mut [T]) -> Result<(), NoMemo
     requires room { length items.old < 2 ^ 32 }
     requires may { AllAt (B.may how.now) 0 items.old }
     ensures count { length items.new ≡ length items.old }
-    ensures ends { OnOk result (AllAt (B.ends how.now) 0 items.new) }
+    ensures ends { OnOk result (AllBecome (B.ends how.now) 0 items.old items.new) }
 {
     bring_piece(how, 0, items)
 }

@@ -10,6 +10,36 @@ const TOP: ClassRow = ClassRow {
     interface: false,
 };
 
+const UNDER_0: ClassRow = ClassRow {
+    parent: Some(0),
+    interface: false,
+};
+
+const UNDER_1: ClassRow = ClassRow {
+    parent: Some(1),
+    interface: false,
+};
+
+const UNDER_3: ClassRow = ClassRow {
+    parent: Some(3),
+    interface: false,
+};
+
+const UNDER_5: ClassRow = ClassRow {
+    parent: Some(5),
+    interface: false,
+};
+
+const UNDER_6: ClassRow = ClassRow {
+    parent: Some(6),
+    interface: false,
+};
+
+const UNDER_7: ClassRow = ClassRow {
+    parent: Some(7),
+    interface: false,
+};
+
 fn class(parent: u32) -> ClassRow {
     ClassRow {
         parent: Some(parent),
@@ -38,11 +68,18 @@ fn is_a_chain(tree: &Tree) -> bool
     below && steps && tree.interfaces(2).is_empty()
 }
 
+const CHAIN: [ClassRow; 3] = [TOP, UNDER_0, UNDER_1];
+
+fn chain_holds(alloc: Global) -> Result<bool, TreeError> {
+    match of_steps(alloc, &CHAIN, &[]) {
+        Ok(tree) => Ok(is_a_chain(&tree)),
+        Err(error) => Err(error),
+    }
+}
+
 #[test]
 fn parents_alone(rt: HostRuntime) -> Result<(), Fail> {
-    let tree = of_steps(rt.alloc(), &[TOP, class(0), class(1)], &[])?;
-    let holds = is_a_chain(&tree);
-    assert!(rt; holds);
+    assert!(rt; chain_holds(rt.alloc())?);
     Ok(())
 }
 
@@ -91,6 +128,10 @@ fn cycles(rt: HostRuntime) {
 
 // 0 is the top and 3 is below it. The interface 2 extends the interface 1, and its parent is 6.
 // 4 is below 3 and implements 5 and then 2.
+const SEVEN: [ClassRow; 7] = [TOP, UNDER_0, UNDER_6, UNDER_0, UNDER_3, UNDER_0, UNDER_0];
+
+const IMPLEMENTS: [(u32, u32); 3] = [(2, 1), (4, 5), (4, 2)];
+
 fn of_members(alloc: Global, methods: &[MethodRow], fields: &[FieldRow]) -> Result<Tree, TreeError>
     requires few_methods { length methods.now < 2 ^ 32 }
     requires few_fields { length fields.now < 2 ^ 32 }
@@ -98,28 +139,7 @@ fn of_members(alloc: Global, methods: &[MethodRow], fields: &[FieldRow]) -> Resu
     requires fields { All (λ f. f.class < 7) fields.now }
     ensures { IfOk result (λ tree. length tree.classes ≡ 7) }
 {
-    let classes = [
-        TOP,
-        class(0),
-        class(6),
-        class(0),
-        class(3),
-        class(0),
-        class(0),
-    ];
-    build(alloc, &classes, &[(2, 1), (4, 5), (4, 2)], methods, fields)
-}
-
-fn method(class: u32, key: u32, body: BodyKind) -> MethodRow
-    ensures { result.class ≡ class }
-{
-    MethodRow { class, key, body }
-}
-
-fn field(class: u32, key: u32) -> FieldRow
-    ensures { result.class ≡ class }
-{
-    FieldRow { class, key }
+    build(alloc, &SEVEN, &IMPLEMENTS, methods, fields)
 }
 
 fn are_bodies(tree: &Tree) -> bool
@@ -142,65 +162,100 @@ fn are_fields(tree: &Tree) -> bool
     near && above && parents && tree.field(4, 24) == Some(6)
 }
 
+const METHODS: [MethodRow; 7] = [
+    MethodRow {
+        class: 4,
+        key: 7,
+        body: BodyKind::Missing,
+    },
+    MethodRow {
+        class: 3,
+        key: 7,
+        body: BodyKind::Native,
+    },
+    MethodRow {
+        class: 3,
+        key: 7,
+        body: BodyKind::Plain,
+    },
+    MethodRow {
+        class: 1,
+        key: 8,
+        body: BodyKind::Missing,
+    },
+    MethodRow {
+        class: 0,
+        key: 9,
+        body: BodyKind::Missing,
+    },
+    MethodRow {
+        class: 0,
+        key: 9,
+        body: BodyKind::Plain,
+    },
+    MethodRow {
+        class: 5,
+        key: 6,
+        body: BodyKind::Plain,
+    },
+];
+
+fn methods_hold(alloc: Global) -> Result<bool, TreeError> {
+    match of_members(alloc, &METHODS, &[]) {
+        Ok(tree) => Ok(are_bodies(&tree)),
+        Err(error) => Err(error),
+    }
+}
+
 #[test]
 fn methods(rt: HostRuntime) -> Result<(), Fail> {
-    let methods = [
-        method(4, 7, BodyKind::Missing),
-        method(3, 7, BodyKind::Native),
-        method(3, 7, BodyKind::Plain),
-        method(1, 8, BodyKind::Missing),
-        method(0, 9, BodyKind::Missing),
-        method(0, 9, BodyKind::Plain),
-        method(5, 6, BodyKind::Plain),
-    ];
-    let tree = of_members(rt.alloc(), &methods, &[])?;
-    let holds = are_bodies(&tree);
-    assert!(rt; holds);
+    assert!(rt; methods_hold(rt.alloc())?);
     Ok(())
+}
+
+const FIELDS: [FieldRow; 8] = [
+    FieldRow { class: 3, key: 20 },
+    FieldRow { class: 1, key: 20 },
+    FieldRow { class: 0, key: 21 },
+    FieldRow { class: 2, key: 22 },
+    FieldRow { class: 5, key: 22 },
+    FieldRow { class: 6, key: 23 },
+    FieldRow { class: 4, key: 24 },
+    FieldRow { class: 4, key: 24 },
+];
+
+fn fields_hold(alloc: Global) -> Result<bool, TreeError> {
+    match of_members(alloc, &[], &FIELDS) {
+        Ok(tree) => Ok(are_fields(&tree)),
+        Err(error) => Err(error),
+    }
 }
 
 #[test]
 fn fields(rt: HostRuntime) -> Result<(), Fail> {
-    let fields = [
-        field(3, 20),
-        field(1, 20),
-        field(0, 21),
-        field(2, 22),
-        field(5, 22),
-        field(6, 23),
-        field(4, 24),
-        field(4, 24),
-    ];
-    let tree = of_members(rt.alloc(), &[], &fields)?;
-    let holds = are_fields(&tree);
-    assert!(rt; holds);
+    assert!(rt; fields_hold(rt.alloc())?);
     Ok(())
 }
 
 // 0 is the top. The interfaces 2 and 4 extend the interface 1, and 3 extends none. 5 implements 1 and
 // 2, and 6 is below it. 7 implements 2, 3 and 4, and 8 is below it.
+const NINE: [ClassRow; 9] = [
+    TOP, INTERFACE, INTERFACE, INTERFACE, INTERFACE, UNDER_0, UNDER_5, UNDER_0, UNDER_7,
+];
+
+const INTERFACE: ClassRow = ClassRow {
+    parent: Some(0),
+    interface: true,
+};
+
+const NINE_IMPLEMENT: [(u32, u32); 7] = [(2, 1), (4, 1), (5, 1), (5, 2), (7, 2), (7, 3), (7, 4)];
+
 fn of_interfaces(alloc: Global, methods: &[MethodRow]) -> Result<Tree, TreeError>
     requires few { length methods.now < 2 ^ 32 }
     requires methods { All (λ m. m.class < 9) methods.now }
     ensures { IfOk result (λ tree. length tree.classes ≡ 9) }
 {
-    let interface = ClassRow {
-        interface: true,
-        ..class(0)
-    };
-    let classes = [
-        TOP,
-        interface,
-        interface,
-        interface,
-        interface,
-        class(0),
-        class(5),
-        class(0),
-        class(7),
-    ];
-    let implements = [(2, 1), (4, 1), (5, 1), (5, 2), (7, 2), (7, 3), (7, 4)];
-    build(alloc, &classes, &implements, methods, &[])
+    build(alloc, &NINE, &NINE_IMPLEMENT, methods, &[])
 }
 
 // Key 10 is in 1 and in 2, 11 in 1 and without a body in 2, 12 in 2 and in 3.
@@ -228,26 +283,83 @@ fn are_alone(tree: &Tree) -> bool
     diamond && native && bodiless_in_class && off_path && nowhere
 }
 
+const DEFAULTS: [MethodRow; 13] = [
+    MethodRow {
+        class: 1,
+        key: 10,
+        body: BodyKind::Plain,
+    },
+    MethodRow {
+        class: 2,
+        key: 10,
+        body: BodyKind::Plain,
+    },
+    MethodRow {
+        class: 1,
+        key: 11,
+        body: BodyKind::Plain,
+    },
+    MethodRow {
+        class: 2,
+        key: 11,
+        body: BodyKind::Missing,
+    },
+    MethodRow {
+        class: 2,
+        key: 12,
+        body: BodyKind::Plain,
+    },
+    MethodRow {
+        class: 3,
+        key: 12,
+        body: BodyKind::Plain,
+    },
+    MethodRow {
+        class: 8,
+        key: 12,
+        body: BodyKind::Plain,
+    },
+    MethodRow {
+        class: 1,
+        key: 13,
+        body: BodyKind::Plain,
+    },
+    MethodRow {
+        class: 1,
+        key: 13,
+        body: BodyKind::Plain,
+    },
+    MethodRow {
+        class: 1,
+        key: 14,
+        body: BodyKind::Native,
+    },
+    MethodRow {
+        class: 1,
+        key: 15,
+        body: BodyKind::Plain,
+    },
+    MethodRow {
+        class: 5,
+        key: 15,
+        body: BodyKind::Missing,
+    },
+    MethodRow {
+        class: 1,
+        key: 16,
+        body: BodyKind::Plain,
+    },
+];
+
+fn defaults_hold(alloc: Global) -> Result<bool, TreeError> {
+    match of_interfaces(alloc, &DEFAULTS) {
+        Ok(tree) => Ok(are_lowest(&tree) && are_alone(&tree)),
+        Err(error) => Err(error),
+    }
+}
+
 #[test]
 fn defaults(rt: HostRuntime) -> Result<(), Fail> {
-    let methods = [
-        method(1, 10, BodyKind::Plain),
-        method(2, 10, BodyKind::Plain),
-        method(1, 11, BodyKind::Plain),
-        method(2, 11, BodyKind::Missing),
-        method(2, 12, BodyKind::Plain),
-        method(3, 12, BodyKind::Plain),
-        method(8, 12, BodyKind::Plain),
-        method(1, 13, BodyKind::Plain),
-        method(1, 13, BodyKind::Plain),
-        method(1, 14, BodyKind::Native),
-        method(1, 15, BodyKind::Plain),
-        method(5, 15, BodyKind::Missing),
-        method(1, 16, BodyKind::Plain),
-    ];
-    let tree = of_interfaces(rt.alloc(), &methods)?;
-    let lowest = are_lowest(&tree);
-    let alone = are_alone(&tree);
-    assert!(rt; lowest && alone);
+    assert!(rt; defaults_hold(rt.alloc())?);
     Ok(())
 }

@@ -1,6 +1,6 @@
 use Rattle.std.proofs.Common.{◌+◌, ◌++◌, arith, rules}
 use Rattle.piece_join.specs.Brought.{AllAt}
-use Rattle.piece_join.proofs.Joined.{all_back, all_both, all_front}
+use Rattle.piece_join.proofs.Joined.{all_back, all_front, become_both}
 use Rattle.piece_join.proofs.pieces.+halves.Goals as goal
 
 pub join_mut-ahead-requires-after_bounds : goal.join_mut-ahead-requires-after_bounds
@@ -17,4 +17,4 @@ pub returns-clause-ends : goal.returns-clause-ends
 returns-clause-ends g t c =
     let middle = c.args.first + c.div_ceil-half.result in
     let cut = c.split_at_mut-front.ensures.front_len in
-    search (rules, all_both (g.B.Bring.ends c.args.how.now) c.args.first middle)
+    search (rules, become_both (g.B.Bring.ends c.args.how.now) c.args.first middle)
