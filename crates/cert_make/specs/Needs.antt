@@ -1,8 +1,9 @@
 -- Which lines a claim needs, and lines under new numbers.
-use Rattle.std.specs.Prelude.{◌≡◌, ℕ, suc, ◌<◌, ◌≤◌, ◌++◌, List, [], ◌∷◌, Some, length, map, slice_get}
+use Rattle.std.specs.Prelude.{◌≡◌, ℕ, suc, ◌<◌, ◌≤◌, ◌++◌, List, [], ◌∷◌, Option, None, Some, length, map, slice_get}
 use Rattle.lists.specs.Lists.{Has}
 use Rattle.cert_rules.specs.declared.line.Line.{Line}
 use Rattle.cert_rules.specs.declared.line.Line.TheVariants as line
+use Rattle.spds_rules.specs.declared.node.Node.{Node}
 
 -- the numbers, from 1, of the lines that a line cites
 abbrev pub numbers_of : Line → List ℕ
@@ -56,3 +57,19 @@ renumbered new (line.BasePop from n) = line.BasePop (new from) n
 renumbered new (line.Shared first second string) = line.Shared (map new first) (map new second) string
 renumbered new (line.Meet shared base) = line.Meet (new shared) (new base)
 renumbered new (line.Claim field call) = line.Claim (new field) (new call)
+
+-- the node at which the line's fact puts an object, where it has one
+abbrev pub node_of : Line → Option Node
+node_of (line.Start side n) = Some n
+node_of (line.Jump from n) = Some n
+node_of (line.Put from meet n) = Some n
+node_of (line.Flow side from n) = Some n
+node_of (line.PushField from meet n) = Some n
+node_of (line.PushCall from n) = Some n
+node_of (line.LinkField from meet n) = Some n
+node_of (line.LinkCall from n) = Some n
+node_of (line.Pop side from link n) = Some n
+node_of (line.BasePop from n) = Some n
+node_of (line.Shared first second string) = None
+node_of (line.Meet shared base) = None
+node_of (line.Claim field call) = None

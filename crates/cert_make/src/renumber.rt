@@ -1,7 +1,7 @@
 //! Lines under new numbers.
-ghost use Rattle.std.specs.Prelude.{◌≡◌, ℕ, suc, ◌<◌, ◌^◌, IfOk, map};
+ghost use Rattle.std.specs.Prelude.{◌≡◌, ℕ, suc, ◌<◌, ◌^◌, None, IfNone, IfOk, IfSome, map};
 ghost use Rattle.cert_make.specs.Marks.{IsAnew, numbered};
-ghost use Rattle.cert_make.specs.Needs.{renumbered};
+ghost use Rattle.cert_make.specs.Needs.{node_of, renumbered};
 
 use cert_rules::Line;
 use jim_ast::{List, NoMemory};
@@ -66,10 +66,10 @@ fn string_copy(alloc: Global, string: &[Place]) -> Result<List<Place>, NoMemory>
     Ok(List::from_vec(copy))
 }
 
-/// The line, with the new number for each that it cites; all of these have 32 bits.
-pub(crate) fn renumbered(alloc: Global, numbers: &[u32], line: &Line) -> Result<Line, NoMemory>
-    ensures line { IfOk result (λ new. new ≡ renumbered (numbered numbers.now) line.now) }
-    ensures roomy { (number : ℕ) → numbered numbers.now number < 2 ^ 32 }
+// The line with a node, with the new number for each that it cites; none where it has no node.
+fn placed(numbers: &[u32], line: &Line) -> Option<Line>
+    ensures some { IfSome result (λ new. new ≡ renumbered (numbered numbers.now) line.now) }
+    ensures none { IfNone result (node_of line.now ≡ None) }
 {
     let new = match line {
         Line::Start { side, node } => Line::Start {
@@ -123,6 +123,17 @@ pub(crate) fn renumbered(alloc: Global, numbers: &[u32], line: &Line) -> Result<
             from: by_number(numbers, *from),
             node: *node,
         },
+        _ => return None,
+    };
+    Some(new)
+}
+
+// The same of a line without a node.
+fn unplaced(alloc: Global, numbers: &[u32], line: &Line) -> Result<Line, NoMemory>
+    requires { node_of line.now ≡ None }
+    ensures { IfOk result (λ new. new ≡ renumbered (numbered numbers.now) line.now) }
+{
+    let new = match line {
         Line::Shared {
             first,
             second,
@@ -140,6 +151,18 @@ pub(crate) fn renumbered(alloc: Global, numbers: &[u32], line: &Line) -> Result<
             field: by_number(numbers, *field),
             call: by_number(numbers, *call),
         },
+        _ => unreachable!(),
     };
     Ok(new)
+}
+
+/// The line, with the new number for each that it cites; all of these have 32 bits.
+pub(crate) fn renumbered(alloc: Global, numbers: &[u32], line: &Line) -> Result<Line, NoMemory>
+    ensures line { IfOk result (λ new. new ≡ renumbered (numbered numbers.now) line.now) }
+    ensures roomy { (number : ℕ) → numbered numbers.now number < 2 ^ 32 }
+{
+    match placed(numbers, line) {
+        Some(new) => Ok(new),
+        None => unplaced(alloc, numbers, line),
+    }
 }
