@@ -1,10 +1,11 @@
-//! Commands over programs, with the replies found by hand.
+//! Commands over programs, with the replies found by hand. Rows are those of `rows`.
+use super::asking::{METHOD, Pieces, is_answered, is_reply, words};
+use super::rows::first_wrong_in;
 use boom_io::{MemSink, MemSource};
 use boom_top::{ProtocolError, Status, Which, boomer};
 use jim_ast::Name;
 use link_rules::{LinkError, LinkKind};
-use std::alloc::Global;
-use std::process::Abort;
+use std::alloc::{AllocError, Global};
 use std::test::Fail;
 
 const PROGRAM: &str = "class A { }
@@ -43,294 +44,282 @@ return;
 }
 ";
 
-const METHOD: &str = "<Main: void main(java.lang.String[])>";
+// A write takes five bytes.
+const FIVE: Pieces = Pieces { read: 64, write: 5 };
 
-const FIRST: &str = "points-to <Main: void main(java.lang.String[])> 5 x
-site <Main: void main(java.lang.String[])> 0 new A
-site <Main: void main(java.lang.String[])> 3 new A
-sites 2
-demanded 6
-";
-
-const SECOND: &str = "points-to <Main: void main(java.lang.String[])> 5 y
-site <Main: void main(java.lang.String[])> 0 new A
-sites 1
-demanded 6
-";
-
-const THIRD: &str = "points-to <Main: void main(java.lang.String[])> 0 x
-sites 0
-demanded 1
-";
-
-// The words of a `points-to` command on the class `Main`.
-fn words(
-    alloc: Global,
-    method: &str,
-    index: &str,
-    local: &str,
-    budget: &str,
-) -> Result<Vec<String>, Fail> {
-    let mut words = Vec::new(alloc);
-    for word in ["points-to", "Main", method, index, local, budget] {
-        words.push(String::from_str(alloc, word)?)?;
-    }
-    Ok(words)
-}
-
-fn source(alloc: Global, bytes: &[u8], failing: Vec<u32>) -> Result<MemSource, Fail> {
-    let bytes = Vec::from_slice(alloc, bytes)?;
-    Ok(MemSource::new(bytes, failing, 64))
-}
-
-// The number of the status of a command over bytes, where the reply is the expected one.
-fn replies(
-    rt: &(impl Abort + AllocGlobal),
-    words: &[String],
-    bytes: &[u8],
-    reply: &str,
-) -> Result<u8, Fail> {
-    let alloc = rt.alloc();
-    let mut source = source(alloc, bytes, Vec::new(alloc))?;
-    let mut sink = MemSink::new(alloc, 1000, Vec::new(alloc), 5)?;
-    let status = boomer(alloc, words, &mut source, &mut sink);
-    assert_eq!(rt; sink.bytes(), reply.as_bytes());
-    Ok(status.number())
-}
-
-// Rows of a text, an index, a local, a budget, the number of the status and the reply.
-type Row = (
-    &'static str,
-    &'static str,
-    &'static str,
-    &'static str,
-    u8,
-    &'static str,
+const OF_PROGRAM: (&str, &str) = (
+    PROGRAM,
+    "points-to;Main;@;5;x;100 | points-to @ 5 x~site @ 0 new A~site @ 3 new A~sites 2~demanded 6~
+points-to;Main;@;5;x;6 | points-to @ 5 x~site @ 0 new A~site @ 3 new A~sites 2~demanded 6~
+points-to;Main;@;5;y;100 | points-to @ 5 y~site @ 0 new A~sites 1~demanded 6~
+points-to;Main;@;0;x;100 | points-to @ 0 x~sites 0~demanded 1~
+points-to;Main;@;5;x;5 | refused OverBudget 5~
+points-to;Main;@;6;x;100 | refused NoSuchPlace index~
+points-to;Main;@;0;z;100 | refused NoSuchPlace local~
+points-to;Main;@;05;x;100 | refused Usage~
+points-to;Main;@;5;x;4294967296 | refused Usage~
+points-to;Main;<Main: void m()>;0;x;100 | refused NoSuchPlace method~",
 );
 
-fn replies_to_rows(rt: &(impl Abort + AllocGlobal), rows: &[Row]) -> Result<(), Fail> {
-    for (text, index, local, budget, number, reply) in rows {
-        let words = words(rt.alloc(), METHOD, index, local, budget)?;
-        let answered = replies(rt, &words, text.as_bytes(), reply)?;
-        assert_eq!(rt; answered, *number);
+const OF_QUOTED: (&str, &str) = (
+    QUOTED,
+    "points-to;Main;@;5;x;100 | points-to @ 5 x~site @ 0 new A~site @ 3 new A~sites 2~demanded 6~",
+);
+
+// Programs that a rule of linking refuses, and one that has the statement of such a program where no run comes.
+const NO_ENTRY: (&str, &str) = ("", "points-to;Main;@;5;y;100 | refused NotLinked NoEntry~");
+
+const ORPHAN: (&str, &str) = (
+    "class A extends B { }",
+    "points-to;Main;@;5;x;100 | refused NotLinked UnknownParent A~",
+);
+
+const EMPTY: (&str, &str) = (
+    "class Main { static void main(java.lang.String[]) { } }",
+    "points-to;Main;@;5;x;100 | refused NotLinked FallsOff @ 0~",
+);
+
+const NO_METHOD: (&str, &str) = (
+    "class Main { static void main(java.lang.String[]) { staticinvoke <Main: void no()>(); return; } }",
+    "points-to;Main;@;0;x;100 | refused NotLinked UndeclaredCallee @ 0~",
+);
+
+const UNREACHED: (&str, &str) = (
+    "class A { } class Main { static void m() { staticinvoke <Main: void no()>(); return; }
+static void main(java.lang.String[]) { A x; x = new A; return; } }",
+    "points-to;Main;@;1;x;100 | points-to @ 1 x~site @ 0 new A~sites 1~demanded 2~",
+);
+
+#[test]
+fn answers_and_refuses(rt: HostRuntime) -> Result<(), Fail> {
+    for rows in [
+        OF_PROGRAM, OF_QUOTED, NO_ENTRY, ORPHAN, EMPTY, NO_METHOD, UNREACHED,
+    ] {
+        assert_eq!(rt; first_wrong_in(rt.alloc(), FIVE, rows)?, None);
     }
     Ok(())
 }
 
-#[test]
-fn answers(rt: HostRuntime) -> Result<(), Fail> {
-    let rows: [Row; 6] = [
-        (PROGRAM, "5", "x", "100", 0, FIRST),
-        (PROGRAM, "5", "x", "6", 0, FIRST),
-        (PROGRAM, "5", "y", "100", 0, SECOND),
-        (PROGRAM, "0", "x", "100", 0, THIRD),
-        (QUOTED, "5", "x", "100", 0, FIRST),
-        (PROGRAM, "5", "x", "5", 11, "refused OverBudget 5\n"),
-    ];
-    replies_to_rows(&rt, &rows)
-}
-
 // Small bodies of `main`: an index, a local, the sites that the local may hold there by their indexes, the size of the demand, and the statements.
-const BODIES: [(&str, &str, &[u32], u32, &str); 12] = [
-    ("2", "y", &[0], 3, "x = new A; y = x; return;"),
-    ("1", "y", &[], 2, "x = new A; y = x; return;"),
-    ("0", "x", &[], 1, "x = new A; y = x; return;"),
-    ("2", "x", &[1], 2, "x = new A; x = new A; return;"),
-    ("2", "x", &[0], 3, "x = new A; x = x; return;"),
-    (
-        "4",
-        "y",
-        &[0],
-        8,
-        "x = new A; a: if 0 == 1 goto b; y = x; goto a; b: return;",
-    ),
-    ("2", "x", &[1], 3, "goto a; x = new A; a: return;"),
-    ("1", "x", &[0], 2, "x = new A; a: goto a;"),
-    ("2", "x", &[0], 3, "x = new A; if 0 == 1 goto a; a: return;"),
-    (
-        "5",
-        "y",
-        &[1, 3],
-        5,
-        "if 0 == 1 goto a; x = new A; goto b; a: x = new A; b: y = x; return;",
-    ),
-    (
-        "4",
-        "z",
-        &[],
-        5,
-        "if 0 == 1 goto a; x = new A; goto b; a: x = new A; b: y = x; return;",
-    ),
-    (
-        "5",
-        "x",
-        &[0, 1],
-        11,
-        "x = new A; y = new A; a: z = x; x = y; y = z; if 0 == 1 goto a; return;",
-    ),
-];
+const BODIES: &str = "2 y 0 3 | x = new A; y = x; return;
+1 y - 2 | x = new A; y = x; return;
+0 x - 1 | x = new A; y = x; return;
+2 x 1 2 | x = new A; x = new A; return;
+2 x 0 3 | x = new A; x = x; return;
+4 y 0 8 | x = new A; a: if 0 == 1 goto b; y = x; goto a; b: return;
+2 x 1 3 | goto a; x = new A; a: return;
+1 x 0 2 | x = new A; a: goto a;
+2 x 0 3 | x = new A; if 0 == 1 goto a; a: return;
+5 y 1,3 5 | if 0 == 1 goto a; x = new A; goto b; a: x = new A; b: y = x; return;
+4 z - 5 | if 0 == 1 goto a; x = new A; goto b; a: x = new A; b: y = x; return;
+5 x 0,1 11 | x = new A; y = new A; a: z = x; x = y; y = z; if 0 == 1 goto a; return;";
 
-// The reply about a local of a body, which has these sites.
+// The reply about a local of a body, which has these sites, with a comma between two.
 fn found(
     alloc: Global,
     index: &str,
     local: &str,
-    sites: &[u32],
-    demanded: u32,
-) -> Result<String, Fail> {
+    sites: &str,
+    demanded: &str,
+) -> Result<String, AllocError> {
     let mut reply = format!(in alloc; "points-to {METHOD} {index} {local}\n")?;
-    for site in sites {
+    let mut count: u32 = 0;
+    for site in sites.split(',').filter(|site| *site != "-") {
         write!(reply, "site {METHOD} {site} new A\n")?;
+        count = count.saturating_add(1);
     }
-    let count = sites.len();
     write!(reply, "sites {count}\ndemanded {demanded}\n")?;
     Ok(reply)
 }
 
+// The parts of a row.
+fn parts(row: &str) -> Option<(&str, &str, &str, &str, &str)> {
+    let (asked, body) = row.split_once(" | ")?;
+    let (index, rest) = asked.split_once(' ')?;
+    let (local, rest) = rest.split_once(' ')?;
+    let (sites, demanded) = rest.split_once(' ')?;
+    Some((index, local, sites, demanded, body))
+}
+
+fn is_body_right(alloc: Global, row: &str) -> Result<bool, AllocError> {
+    let Some((index, local, sites, demanded, body)) = parts(row) else {
+        return Ok(false);
+    };
+    let text = format!(in alloc;
+        "class A {{ }} class Main {{ static void main(java.lang.String[]) {{ A x, y, z; {body} }} }}"
+    )?;
+    let words = format!(in alloc; "points-to;Main;@;{index};{local};100")?;
+    let reply = found(alloc, index, local, sites, demanded)?;
+    is_reply(
+        alloc,
+        words.as_str(),
+        text.as_bytes(),
+        FIVE,
+        0,
+        reply.as_str(),
+    )
+}
+
+fn first_body(alloc: Global) -> Result<Option<&'static str>, AllocError> {
+    for row in BODIES.lines() {
+        if !is_body_right(alloc, row)? {
+            return Ok(Some(row));
+        }
+    }
+    Ok(None)
+}
+
 #[test]
 fn answers_small_bodies(rt: HostRuntime) -> Result<(), Fail> {
-    let alloc = rt.alloc();
-    for (index, local, sites, demanded, body) in BODIES {
-        let text = format!(in alloc;
-            "class A {{ }} class Main {{ static void main(java.lang.String[]) {{ A x, y, z; {body} }} }}"
-        )?;
-        let words = words(alloc, METHOD, index, local, "100")?;
-        let reply = found(alloc, index, local, sites, demanded)?;
-        assert_eq!(rt; replies(&rt, &words, text.as_bytes(), reply.as_str())?, 0);
+    assert_eq!(rt; first_body(rt.alloc())?, None);
+    Ok(())
+}
+
+// No words.
+fn refuses_nothing(alloc: Global) -> Result<bool, AllocError> {
+    let bytes = Vec::from_slice(alloc, PROGRAM.as_bytes())?;
+    is_answered(alloc, &[], bytes, FIVE, 1, b"refused Usage\n")
+}
+
+// Texts that are no programs, each with the number of the status and what is refused.
+const TEXTS: &str = "5 NotJimple 9 | class Main { static void main(java.lang.String[
+5 NotJimple 5 | class A { int x }
+4 NotText 10 | class A { # }
+5 NotJimple 1 | interface
+5 NotJimple 9 | class A { void m() { x } }";
+
+// The command of these rows.
+const ASKED: &str = "points-to;Main;@;5;x;100";
+
+fn is_text_refused(alloc: Global, row: &str) -> Result<bool, AllocError> {
+    let Some((told, text)) = row.split_once(" | ") else {
+        return Ok(false);
+    };
+    let Some((number, refused)) = told.split_once(' ') else {
+        return Ok(false);
+    };
+    let reply = format!(in alloc; "refused {refused}\n")?;
+    match number.parse::<u8>() {
+        Ok(number) => is_reply(alloc, ASKED, text.as_bytes(), FIVE, number, reply.as_str()),
+        Err(_) => Ok(false),
     }
-    Ok(())
 }
 
-#[test]
-fn refuses_words_and_places(rt: HostRuntime) -> Result<(), Fail> {
-    let rows: [Row; 4] = [
-        (PROGRAM, "6", "x", "100", 7, "refused NoSuchPlace index\n"),
-        (PROGRAM, "0", "z", "100", 7, "refused NoSuchPlace local\n"),
-        (PROGRAM, "05", "x", "100", 1, "refused Usage\n"),
-        (PROGRAM, "5", "x", "4294967296", 1, "refused Usage\n"),
-    ];
-    replies_to_rows(&rt, &rows)?;
-    let words = words(rt.alloc(), "<Main: void m()>", "0", "x", "100")?;
-    let reply = "refused NoSuchPlace method\n";
-    assert_eq!(rt; replies(&rt, &words, PROGRAM.as_bytes(), reply)?, 7);
-    assert_eq!(rt;
-        replies(&rt, &[], PROGRAM.as_bytes(), "refused Usage\n")?,
-        1
-    );
-    Ok(())
-}
-
-#[test]
-fn refuses_texts(rt: HostRuntime) -> Result<(), Fail> {
-    let words = words(rt.alloc(), METHOD, "5", "x", "100")?;
-    let rows = [
-        (
-            b"class Main { static void main(java.lang.String[".as_slice(),
-            5,
-            "refused NotJimple 9\n",
-        ),
-        (b"class A { int x }", 5, "refused NotJimple 5\n"),
-        (b"class A { # }", 4, "refused NotText 10\n"),
-        (b"\xff", 4, "refused NotText 0\n"),
-        (b"class \xff", 4, "refused NotText 6\n"),
-        (b"interface", 5, "refused NotJimple 1\n"),
-        (b"class A { void m() { x } }", 5, "refused NotJimple 9\n"),
-    ];
-    for (bytes, number, reply) in rows {
-        assert_eq!(rt; replies(&rt, &words, bytes, reply)?, number);
+fn first_text(alloc: Global) -> Result<Option<&'static str>, AllocError> {
+    for row in TEXTS.lines() {
+        if !is_text_refused(alloc, row)? {
+            return Ok(Some(row));
+        }
     }
+    Ok(None)
+}
+
+// Bytes that are no text.
+fn refuses_bytes(alloc: Global) -> Result<bool, AllocError> {
+    Ok(
+        is_reply(alloc, ASKED, b"\xff", FIVE, 4, "refused NotText 0\n")?
+            && is_reply(alloc, ASKED, b"class \xff", FIVE, 4, "refused NotText 6\n")?,
+    )
+}
+
+#[test]
+fn refuses_words_and_texts(rt: HostRuntime) -> Result<(), Fail> {
+    assert!(rt; refuses_nothing(rt.alloc())?);
+    assert_eq!(rt; first_text(rt.alloc())?, None);
+    assert!(rt; refuses_bytes(rt.alloc())?);
     Ok(())
 }
 
-// Programs that a rule of linking refuses, and one that has the statement of such a program where no run comes.
-#[test]
-fn refuses_what_is_not_linked(rt: HostRuntime) -> Result<(), Fail> {
-    let orphan = "class A extends B { }";
-    let empty = "class Main { static void main(java.lang.String[]) { } }";
-    let no_method =
-        "class Main { static void main(java.lang.String[]) { staticinvoke <Main: void no()>(); return; } }";
-    let unreached =
-        "class A { } class Main { static void m() { staticinvoke <Main: void no()>(); return; }
-static void main(java.lang.String[]) { A x; x = new A; return; } }";
-    let found = "points-to <Main: void main(java.lang.String[])> 1 x
-site <Main: void main(java.lang.String[])> 0 new A
-sites 1
-demanded 2
-";
-    let falls_off = "refused NotLinked FallsOff <Main: void main(java.lang.String[])> 0\n";
-    let undeclared = "refused NotLinked UndeclaredCallee <Main: void main(java.lang.String[])> 0\n";
-    let rows: [Row; 5] = [
-        ("", "5", "y", "100", 6, "refused NotLinked NoEntry\n"),
-        (
-            orphan,
-            "5",
-            "x",
-            "100",
-            6,
-            "refused NotLinked UnknownParent A\n",
-        ),
-        (empty, "5", "x", "100", 6, falls_off),
-        (no_method, "0", "x", "100", 6, undeclared),
-        (unreached, "1", "x", "100", 0, found),
-    ];
-    replies_to_rows(&rt, &rows)
+// Whether the command gets a status of this number, and these bytes are written.
+fn is_written(
+    alloc: Global,
+    source: &mut MemSource,
+    sink: &mut MemSink,
+    number: u8,
+    written: &[u8],
+) -> Result<bool, AllocError> {
+    let words = words(alloc, ASKED)?;
+    Ok(boomer(alloc, &words, source, sink).number() == number && sink.bytes() == written)
+}
+
+// Whether a write that fails is told, and what was written before.
+fn tells_write(alloc: Global, call: u32, written: &[u8]) -> Result<bool, AllocError> {
+    let bytes = Vec::from_slice(alloc, PROGRAM.as_bytes())?;
+    let mut source = MemSource::new(bytes, Vec::new(alloc), 64);
+    let mut sink = MemSink::new(alloc, 1000, vec![in alloc; call]?, 8)?;
+    is_written(alloc, &mut source, &mut sink, 12, written)
+}
+
+// Whether a source gets a status of this number, and this reply.
+fn tells_read(
+    alloc: Global,
+    source: &mut MemSource,
+    number: u8,
+    reply: &[u8],
+) -> Result<bool, AllocError> {
+    let mut sink = MemSink::new(alloc, 1000, Vec::new(alloc), 8)?;
+    is_written(alloc, source, &mut sink, number, reply)
+}
+
+fn tells_fault(alloc: Global) -> Result<bool, AllocError> {
+    let bytes = Vec::from_slice(alloc, PROGRAM.as_bytes())?;
+    let mut source = MemSource::new(bytes, vec![in alloc; 0]?, 64);
+    tells_read(alloc, &mut source, 2, b"")
+}
+
+fn tells_length(alloc: Global) -> Result<bool, AllocError> {
+    let blanks = vec![in alloc; b' '; 16_777_217]?;
+    let mut source = MemSource::new(blanks, Vec::new(alloc), 1_000_000);
+    tells_read(alloc, &mut source, 3, b"refused TooLong\n")
 }
 
 #[test]
 fn tells_faults(rt: HostRuntime) -> Result<(), Fail> {
-    let alloc = rt.alloc();
-    let words = words(alloc, METHOD, "5", "x", "100")?;
-    let mut whole = source(alloc, PROGRAM.as_bytes(), Vec::new(alloc))?;
-    let mut failing = MemSink::new(alloc, 1000, vec![in alloc; 1]?, 8)?;
-    assert_eq!(rt;
-        boomer(alloc, &words, &mut whole, &mut failing).number(),
-        12
-    );
-    assert_eq!(rt; failing.bytes(), b"points-t".as_slice());
-    let mut whole = source(alloc, PROGRAM.as_bytes(), Vec::new(alloc))?;
-    let mut closed = MemSink::new(alloc, 1000, vec![in alloc; 0]?, 8)?;
-    assert_eq!(rt; boomer(alloc, &words, &mut whole, &mut closed).number(), 12);
-    assert!(rt; closed.bytes().is_empty());
-    let mut broken = source(alloc, PROGRAM.as_bytes(), vec![in alloc; 0]?)?;
-    let mut sink = MemSink::new(alloc, 1000, Vec::new(alloc), 8)?;
-    assert_eq!(rt; boomer(alloc, &words, &mut broken, &mut sink).number(), 2);
-    assert!(rt; sink.bytes().is_empty());
-    let blanks = vec![in alloc; b' '; 16_777_217]?;
-    let mut long = MemSource::new(blanks, Vec::new(alloc), 1_000_000);
-    assert_eq!(rt; boomer(alloc, &words, &mut long, &mut sink).number(), 3);
-    assert_eq!(rt; sink.bytes(), b"refused TooLong\n".as_slice());
+    assert!(rt; tells_write(rt.alloc(), 1, b"points-t")?);
+    assert!(rt; tells_write(rt.alloc(), 0, b"")?);
+    assert!(rt; tells_fault(rt.alloc())?);
+    assert!(rt; tells_length(rt.alloc())?);
     Ok(())
+}
+
+fn number_of_not_linked(alloc: Global) -> u8 {
+    let error = LinkError::Refused {
+        kind: LinkKind::NoEntry,
+        place: Name::from_string(String::new(alloc)),
+        index: 0,
+    };
+    Status::NotLinked(error).number()
+}
+
+fn numbers_without_parts() -> [u8; 7] {
+    [
+        Status::Done.number(),
+        Status::Usage.number(),
+        Status::ReadFault.number(),
+        Status::TooLong.number(),
+        Status::WriteFault.number(),
+        Status::NoMemory.number(),
+        Status::BadPrelude.number(),
+    ]
+}
+
+fn numbers_with_parts() -> [u8; 7] {
+    let which = Which::Index;
+    [
+        Status::NotText { at: 9 }.number(),
+        Status::NotJimple { at: 9 }.number(),
+        Status::NoSuchPlace { which }.number(),
+        Status::NotProtocol(ProtocolError::UnknownClass).number(),
+        Status::NotCertificate { at: 9 }.number(),
+        Status::Rejected { line: 9 }.number(),
+        Status::OverBudget { budget: 1 }.number(),
+    ]
 }
 
 #[test]
 fn numbers_statuses(rt: HostRuntime) -> Result<(), Fail> {
-    let which = Which::Index;
-    let kind = LinkKind::NoEntry;
-    let place = Name::from_string(String::new(rt.alloc()));
-    let error = LinkError::Refused {
-        kind,
-        place,
-        index: 0,
-    };
-    assert_eq!(rt; Status::NotLinked(error).number(), 6);
-    let rows = [
-        (Status::Done, 0),
-        (Status::Usage, 1),
-        (Status::ReadFault, 2),
-        (Status::TooLong, 3),
-        (Status::NotText { at: 9 }, 4),
-        (Status::NotJimple { at: 9 }, 5),
-        (Status::NoSuchPlace { which }, 7),
-        (Status::NotProtocol(ProtocolError::UnknownClass), 8),
-        (Status::NotCertificate { at: 9 }, 9),
-        (Status::Rejected { line: 9 }, 10),
-        (Status::OverBudget { budget: 1 }, 11),
-        (Status::WriteFault, 12),
-        (Status::NoMemory, 13),
-        (Status::BadPrelude, 16),
-    ];
-    for (status, number) in rows {
-        assert_eq!(rt; status.number(), number);
-    }
+    assert_eq!(rt; number_of_not_linked(rt.alloc()), 6);
+    assert!(rt; numbers_without_parts() == [0, 1, 2, 3, 12, 13, 16]);
+    assert!(rt; numbers_with_parts() == [4, 5, 7, 8, 9, 10, 11]);
     Ok(())
 }

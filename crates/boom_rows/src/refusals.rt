@@ -1,9 +1,7 @@
 //! Programs that linking refuses, one for each kind and for each two kinds that may stand together, with the replies found by hand. A row has the
 //! kinds that stand in it by their numbers, what is told, and the text.
-use boom_io::{MemSink, MemSource};
-use boom_top::boomer;
+use super::asking::{SMALL, is_reply};
 use std::alloc::{AllocError, Global};
-use std::process::Abort;
 use std::test::Fail;
 
 // Classes around the bodies of `BODIES`. None of them is refused by itself, since no run reaches their methods.
@@ -200,31 +198,17 @@ const PROGRAMS: &str = "5 17 | NoEntry | class A { }
 10 22 | UnknownLocal <Main: void main(java.lang.String[])> 1 | class A { void m() { return; } } abstract class B extends A { native void m(); } class Main { static void main(java.lang.String[]) { A x; virtualinvoke x.<A: void m()>(); y = null; return; } }
 20 | UndeclaredCallee <java.lang.NullPointerException: void <init>(java.lang.String)> 2 | class java.lang.RuntimeException { } class Main { static void main(java.lang.String[]) { java.lang.NullPointerException x; specialinvoke x.<java.lang.NullPointerException: void <init>(java.lang.String)>(null); return; } }";
 
-// The words of a command on the class `Main`.
-fn words(alloc: Global) -> Result<Vec<String>, AllocError> {
-    let method = "<Main: void main(java.lang.String[])>";
-    let mut words = Vec::new(alloc);
-    for word in ["points-to", "Main", method, "0", "x", "100"] {
-        words.push(String::from_str(alloc, word)?)?;
-    }
-    Ok(words)
-}
-
 // Whether a program is refused by linking with this line.
-fn check(rt: &(impl Abort + AllocGlobal), row: &str, text: &str, told: &str) -> Result<(), Fail> {
-    let alloc = rt.alloc();
-    let words = words(alloc)?;
-    let mut source = MemSource::new(
-        Vec::from_slice(alloc, text.as_bytes())?,
-        Vec::new(alloc),
-        64,
-    );
-    let mut sink = MemSink::new(alloc, 1000, Vec::new(alloc), 64)?;
-    let status = boomer(alloc, &words, &mut source, &mut sink);
+fn is_told(alloc: Global, text: &str, told: &str) -> Result<bool, AllocError> {
     let reply = format!(in alloc; "refused NotLinked {told}\n")?;
-    assert_eq!(rt; sink.bytes(), reply.as_bytes(), "{row}");
-    assert_eq!(rt; status.number(), 6, "{row}");
-    Ok(())
+    is_reply(
+        alloc,
+        "points-to;Main;@;0;x;100",
+        text.as_bytes(),
+        SMALL,
+        6,
+        reply.as_str(),
+    )
 }
 
 // What a row tells, and its text.
@@ -250,38 +234,57 @@ fn told_of_main(alloc: Global, told: &str) -> Result<String, AllocError> {
     }
 }
 
-#[test]
-fn refuses_bodies(rt: HostRuntime) -> Result<(), Fail> {
-    let alloc = rt.alloc();
+fn is_body_refused(alloc: Global, row: &str) -> Result<bool, AllocError> {
+    let Some((told, body)) = parts(row) else {
+        return Ok(false);
+    };
+    let text = program(alloc, CLASSES, body)?;
+    let told = told_of_main(alloc, told)?;
+    is_told(alloc, text.as_str(), told.as_str())
+}
+
+// The first body that is refused otherwise.
+fn first_body(alloc: Global) -> Result<Option<&'static str>, AllocError> {
     for row in BODIES.lines() {
-        let (told, body) = parts(row).expect(&rt, "a row has three parts");
-        let text = program(alloc, CLASSES, body)?;
-        let told = told_of_main(alloc, told)?;
-        check(&rt, row, text.as_str(), told.as_str())?;
+        if !is_body_refused(alloc, row)? {
+            return Ok(Some(row));
+        }
     }
-    Ok(())
+    Ok(None)
 }
 
-#[test]
-fn refuses_programs(rt: HostRuntime) -> Result<(), Fail> {
+fn is_program_refused(alloc: Global, row: &str) -> Result<bool, AllocError> {
+    match parts(row) {
+        Some((told, text)) => is_told(alloc, text, told),
+        None => Ok(false),
+    }
+}
+
+// The first program that is refused otherwise.
+fn first_program(alloc: Global) -> Result<Option<&'static str>, AllocError> {
     for row in PROGRAMS.lines() {
-        let (told, text) = parts(row).expect(&rt, "a row has three parts");
-        check(&rt, row, text, told)?;
+        if !is_program_refused(alloc, row)? {
+            return Ok(Some(row));
+        }
     }
+    Ok(None)
+}
+
+#[test]
+fn refuses_bodies_and_programs(rt: HostRuntime) -> Result<(), Fail> {
+    assert_eq!(rt; first_body(rt.alloc())?, None);
+    assert_eq!(rt; first_program(rt.alloc())?, None);
     Ok(())
 }
 
-// A refusal of the program comes before each refusal in a method.
-#[test]
-fn refuses_wholes_first(rt: HostRuntime) -> Result<(), Fail> {
-    let alloc = rt.alloc();
-    for row in WHOLES.lines() {
-        let (told, whole) = parts(row).expect(&rt, "a row has three parts");
-        let classes = format!(in alloc; "{whole} {CLASSES}")?;
-        let text = program(alloc, classes.as_str(), EACH_KIND)?;
-        check(&rt, row, text.as_str(), told)?;
-    }
-    Ok(())
+// Whether the classes of a whole are refused as it tells, whatever the body of `main`.
+fn is_whole_refused(alloc: Global, row: &str, body: &str) -> Result<bool, AllocError> {
+    let Some((told, whole)) = parts(row) else {
+        return Ok(false);
+    };
+    let classes = format!(in alloc; "{whole} {CLASSES}")?;
+    let text = program(alloc, classes.as_str(), body)?;
+    is_told(alloc, text.as_str(), told)
 }
 
 // Whether a row has one kind alone.
@@ -292,18 +295,36 @@ fn is_single(row: &str) -> bool {
     }
 }
 
-// A refusal of the program comes before each kind of refusal in a method, where that stands alone.
-#[test]
-fn refuses_wholes_before_each(rt: HostRuntime) -> Result<(), Fail> {
-    let alloc = rt.alloc();
-    for row in WHOLES.lines().filter(|row| is_single(row)) {
-        let (told, whole) = parts(row).expect(&rt, "a row has three parts");
-        let classes = format!(in alloc; "{whole} {CLASSES}")?;
-        for below in BODIES.lines().filter(|row| is_single(row)) {
-            let (_, body) = parts(below).expect(&rt, "a row has three parts");
-            let text = program(alloc, classes.as_str(), body)?;
-            check(&rt, below, text.as_str(), told)?;
+// The first body with one kind alone before which the whole isn't refused.
+fn first_before(alloc: Global, row: &str) -> Result<Option<&'static str>, AllocError> {
+    for below in BODIES.lines().filter(|row| is_single(row)) {
+        let body = match parts(below) {
+            Some((_, body)) => body,
+            None => "",
+        };
+        if !is_whole_refused(alloc, row, body)? {
+            return Ok(Some(below));
         }
     }
+    Ok(None)
+}
+
+// The first whole that isn't refused before all kinds in `main` together, and before each alone where the whole has one kind itself.
+fn first_whole(alloc: Global) -> Result<Option<&'static str>, AllocError> {
+    for row in WHOLES.lines() {
+        if !is_whole_refused(alloc, row, EACH_KIND)? {
+            return Ok(Some(row));
+        }
+        if is_single(row) && first_before(alloc, row)?.is_some() {
+            return Ok(Some(row));
+        }
+    }
+    Ok(None)
+}
+
+// A refusal of the program comes before each refusal in a method.
+#[test]
+fn refuses_wholes_first(rt: HostRuntime) -> Result<(), Fail> {
+    assert_eq!(rt; first_whole(rt.alloc())?, None);
     Ok(())
 }

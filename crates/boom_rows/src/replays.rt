@@ -1,8 +1,6 @@
 //! Replays of certificates behind a program, with the replies found by hand.
-use boom_io::{MemSink, MemSource};
-use boom_top::boomer;
+use super::asking::{Pieces, is_reply};
 use std::alloc::{AllocError, Global};
-use std::process::Abort;
 use std::test::Fail;
 
 // Two callers of one method. Method 0 is `id`, and 1 is `main`.
@@ -38,126 +36,45 @@ site <Main: void main(java.lang.String[])> 0 new A
 demanded 10
 ";
 
-/// What stands behind the program, how many nodes may be demanded, the number of the status and the reply.
-struct Row {
-    behind: &'static str,
-    budget: &'static str,
-    number: u8,
-    reply: &'static str,
-}
+// Certificates of one line or two, in the order of the checks: what is no certificate, what no query may name, what is over the budget, and lines. A row has how many
+// nodes may be demanded, the number of the status, what is refused, and what stands behind the program, with `;` for a line feed.
+const SMALL: &str = "100 | 9 | NotCertificate 0 | 
+100 | 9 | NotCertificate 0 | %certificate
+100 | 9 | NotCertificate 0 | %certificate;;
+100 | 9 | NotCertificate 0 | %certificate;%certificate;query 1.4.l2;
+100 | 9 | NotCertificate 1 | %certificate;query 1.4.l2;%certificate;
+0 | 9 | NotCertificate 1 | %certificate;query 1.4.l2;claim 4294967296 1
+100 | 9 | NotCertificate 2 | %certificate;query 1.4.l2;claim 1 2;;
+0 | 10 | Rejected 0 | %certificate;query 9.0.l0;
+0 | 10 | Rejected 0 | %certificate;query 1.4.new;
+0 | 10 | Rejected 0 | %certificate;query 1.4.l4;
+100 | 10 | Rejected 0 | %certificate;query 1.2!.l2;
+9 | 11 | OverBudget 9 | %certificate;query 1.4.l2;claim 1 2;
+10 | 10 | Rejected 1 | %certificate;query 1.4.l2;claim 4294967295 1
+100 | 10 | Rejected 1 | %certificate;query 1.4.l2
+100 | 10 | Rejected 2 | %certificate;query 1.4.l2;start F 1.0.new;";
 
-// Certificates of one line or two, in the order of the checks: what is no certificate, what no query may name, what is over the budget, and lines.
-const SMALL: [Row; 15] = [
-    Row {
-        behind: "",
-        budget: "100",
-        number: 9,
-        reply: "refused NotCertificate 0\n",
-    },
-    Row {
-        behind: "%certificate",
-        budget: "100",
-        number: 9,
-        reply: "refused NotCertificate 0\n",
-    },
-    Row {
-        behind: "%certificate\n\n",
-        budget: "100",
-        number: 9,
-        reply: "refused NotCertificate 0\n",
-    },
-    Row {
-        behind: "%certificate\n%certificate\nquery 1.4.l2\n",
-        budget: "100",
-        number: 9,
-        reply: "refused NotCertificate 0\n",
-    },
-    Row {
-        behind: "%certificate\nquery 1.4.l2\n%certificate\n",
-        budget: "100",
-        number: 9,
-        reply: "refused NotCertificate 1\n",
-    },
-    Row {
-        behind: "%certificate\nquery 1.4.l2\nclaim 4294967296 1",
-        budget: "0",
-        number: 9,
-        reply: "refused NotCertificate 1\n",
-    },
-    Row {
-        behind: "%certificate\nquery 1.4.l2\nclaim 1 2\n\n",
-        budget: "100",
-        number: 9,
-        reply: "refused NotCertificate 2\n",
-    },
-    Row {
-        behind: "%certificate\nquery 9.0.l0\n",
-        budget: "0",
-        number: 10,
-        reply: "refused Rejected 0\n",
-    },
-    Row {
-        behind: "%certificate\nquery 1.4.new\n",
-        budget: "0",
-        number: 10,
-        reply: "refused Rejected 0\n",
-    },
-    Row {
-        behind: "%certificate\nquery 1.4.l4\n",
-        budget: "0",
-        number: 10,
-        reply: "refused Rejected 0\n",
-    },
-    Row {
-        behind: "%certificate\nquery 1.2!.l2\n",
-        budget: "100",
-        number: 10,
-        reply: "refused Rejected 0\n",
-    },
-    Row {
-        behind: "%certificate\nquery 1.4.l2\nclaim 1 2\n",
-        budget: "9",
-        number: 11,
-        reply: "refused OverBudget 9\n",
-    },
-    Row {
-        behind: "%certificate\nquery 1.4.l2\nclaim 4294967295 1",
-        budget: "10",
-        number: 10,
-        reply: "refused Rejected 1\n",
-    },
-    Row {
-        behind: "%certificate\nquery 1.4.l2",
-        budget: "100",
-        number: 10,
-        reply: "refused Rejected 1\n",
-    },
-    Row {
-        behind: "%certificate\nquery 1.4.l2\nstart F 1.0.new\n",
-        budget: "100",
-        number: 10,
-        reply: "refused Rejected 2\n",
-    },
-];
-
-// What is written for a replay over these bytes, and the number of its status.
-fn replies(
-    rt: &(impl Abort + AllocGlobal),
+// Whether that is answered to a replay over these bytes.
+fn is_answered(
+    alloc: Global,
     input: &str,
     budget: &str,
+    number: u8,
     reply: &str,
-) -> Result<u8, Fail> {
-    let alloc = rt.alloc();
-    let mut words = Vec::new(alloc);
-    for word in ["replay", "Main", budget] {
-        words.push(String::from_str(alloc, word)?)?;
-    }
-    let bytes = Vec::from_slice(alloc, input.as_bytes())?;
-    let mut source = MemSource::new(bytes, Vec::new(alloc), 1_000_000);
-    let mut sink = MemSink::new(alloc, 1000, Vec::new(alloc), 64)?;
-    let status = boomer(alloc, &words, &mut source, &mut sink);
-    assert_eq!(rt; sink.bytes(), reply.as_bytes(), "{input}");
-    Ok(status.number())
+) -> Result<bool, AllocError> {
+    let words = format!(in alloc; "replay;Main;{budget}")?;
+    let pieces = Pieces {
+        read: 1_000_000,
+        write: 64,
+    };
+    is_reply(
+        alloc,
+        words.as_str(),
+        input.as_bytes(),
+        pieces,
+        number,
+        reply,
+    )
 }
 
 // The program, and a certificate behind the mark.
@@ -165,98 +82,149 @@ fn marked(alloc: Global, certificate: &str) -> Result<String, AllocError> {
     format!(in alloc; "{PROGRAM}%certificate\n{certificate}")
 }
 
+// Whether what the certificate shows is accepted, with a line feed behind it and without, and within no smaller budget.
+fn accepts(alloc: Global) -> Result<bool, AllocError> {
+    let input = marked(alloc, CERTIFICATE)?;
+    let open = input.as_str().trim_end();
+    Ok(
+        is_answered(alloc, input.as_str(), "10", 0, ACCEPTED)?
+            && is_answered(alloc, input.as_str(), "9", 11, "refused OverBudget 9\n")?
+            && is_answered(alloc, open, "10", 0, ACCEPTED)?,
+    )
+}
+
 #[test]
 fn accepts_what_is_shown(rt: HostRuntime) -> Result<(), Fail> {
-    let input = marked(rt.alloc(), CERTIFICATE)?;
-    assert_eq!(rt; replies(&rt, input.as_str(), "10", ACCEPTED)?, 0);
-    assert_eq!(rt;
-        replies(&rt, input.as_str(), "9", "refused OverBudget 9\n")?,
-        11
-    );
-    let open = input.as_str().trim_end();
-    assert_eq!(rt; replies(&rt, open, "10", ACCEPTED)?, 0);
+    assert!(rt; accepts(rt.alloc())?);
     Ok(())
 }
 
 // The link stands behind the line that cites it.
+fn rejects_later(alloc: Global) -> Result<bool, AllocError> {
+    let Some((front, _)) = CERTIFICATE.split_once("link C 10") else {
+        return Ok(false);
+    };
+    let input = format!(in alloc;
+        "{PROGRAM}%certificate\n{front}pop C 12 14 1.3.l2\nlink C 10 0.0.p0\nflow C 13 1.4.l2\nclaim 7 15\n"
+    )?;
+    is_answered(alloc, input.as_str(), "100", 10, "refused Rejected 13\n")
+}
+
 #[test]
 fn rejects_a_line_that_cites_a_later_one(rt: HostRuntime) -> Result<(), Fail> {
-    let alloc = rt.alloc();
-    let (front, _) = CERTIFICATE
-        .split_once("link C 10")
-        .expect(&rt, "the certificate has a link");
-    let certificate = format!(in alloc;
-        "{front}pop C 12 14 1.3.l2\nlink C 10 0.0.p0\nflow C 13 1.4.l2\nclaim 7 15\n"
-    )?;
-    let input = marked(alloc, certificate.as_str())?;
-    let reply = "refused Rejected 13\n";
-    assert_eq!(rt; replies(&rt, input.as_str(), "100", reply)?, 10);
+    assert!(rt; rejects_later(rt.alloc())?);
     Ok(())
+}
+
+// Whether what ends behind so many lines is rejected at the next one, where the claim is wanting.
+fn rejects_front(alloc: Global, front: &str, number: u32) -> Result<bool, AllocError> {
+    let input = marked(alloc, front)?;
+    let reply = format!(in alloc; "refused Rejected {number}\n")?;
+    is_answered(alloc, input.as_str(), "100", 10, reply.as_str())
+}
+
+// How many lines there are before the first front that isn't rejected so.
+fn fronts(alloc: Global) -> Result<u32, AllocError> {
+    let mut front = String::new(alloc);
+    let mut number: u32 = 0;
+    for line in CERTIFICATE.lines() {
+        if number > 0 && !rejects_front(alloc, front.as_str(), number)? {
+            return Ok(number);
+        }
+        front.push_str(line)?;
+        front.push('\n')?;
+        number = number.saturating_add(1);
+    }
+    Ok(number)
 }
 
 // All but the last line: what stands behind the last one is where the claim is wanting.
 #[test]
 fn rejects_each_front(rt: HostRuntime) -> Result<(), Fail> {
-    let alloc = rt.alloc();
-    let mut front = String::new(alloc);
-    let mut number: u32 = 0;
-    for line in CERTIFICATE.lines() {
-        if number > 0 {
-            let input = marked(alloc, front.as_str())?;
-            let reply = format!(in alloc; "refused Rejected {number}\n")?;
-            assert_eq!(rt; replies(&rt, input.as_str(), "100", reply.as_str())?, 10);
-        }
-        front.push_str(line)?;
-        front.push('\n')?;
-        number = number.checked_add(1).expect(&rt, "a few lines");
-    }
-    assert_eq!(rt; number, 17);
+    assert_eq!(rt; fronts(rt.alloc())?, 17);
     Ok(())
+}
+
+// The parts of a row.
+fn parts(row: &str) -> Option<(&str, u8, &str, &str)> {
+    let (budget, rest) = row.split_once(" | ")?;
+    let (number, rest) = rest.split_once(" | ")?;
+    let (refused, behind) = rest.split_once(" | ")?;
+    Some((budget, number.parse::<u8>().ok()?, refused, behind))
+}
+
+fn is_right(alloc: Global, row: &str) -> Result<bool, AllocError> {
+    let Some((budget, number, refused, behind)) = parts(row) else {
+        return Ok(false);
+    };
+    let behind = behind.replace(alloc, ";", "\n")?;
+    let input = format!(in alloc; "{PROGRAM}{}", behind.as_str())?;
+    let reply = format!(in alloc; "refused {refused}\n")?;
+    is_answered(alloc, input.as_str(), budget, number, reply.as_str())
+}
+
+fn first_wrong(alloc: Global) -> Result<Option<&'static str>, AllocError> {
+    for row in SMALL.lines() {
+        if !is_right(alloc, row)? {
+            return Ok(Some(row));
+        }
+    }
+    Ok(None)
 }
 
 #[test]
 fn refuses_in_order(rt: HostRuntime) -> Result<(), Fail> {
-    let alloc = rt.alloc();
-    for row in &SMALL {
-        let behind = row.behind;
-        let input = format!(in alloc; "{PROGRAM}{behind}")?;
-        assert_eq!(rt;
-            replies(&rt, input.as_str(), row.budget, row.reply)?,
-            row.number
-        );
-    }
+    assert_eq!(rt; first_wrong(rt.alloc())?, None);
     Ok(())
 }
 
-// The mark in the first line leaves no program; a line with more than the mark is none; and a comment is cut too.
-#[test]
-fn cuts_at_whole_lines(rt: HostRuntime) -> Result<(), Fail> {
-    let alloc = rt.alloc();
-    let first = format!(in alloc; "%certificate\n{PROGRAM}{CERTIFICATE}")?;
-    let reply = "refused NotLinked NoEntry\n";
-    assert_eq!(rt; replies(&rt, first.as_str(), "100", reply)?, 6);
-    let more = format!(in alloc;
+// The mark in the first line leaves no program.
+fn cuts_at_the_first(alloc: Global) -> Result<bool, AllocError> {
+    let input = format!(in alloc; "%certificate\n{PROGRAM}{CERTIFICATE}")?;
+    is_answered(
+        alloc,
+        input.as_str(),
+        "100",
+        6,
+        "refused NotLinked NoEntry\n",
+    )
+}
+
+// A line with more than the mark is none.
+fn cuts_at_no_more(alloc: Global) -> Result<bool, AllocError> {
+    let input = format!(in alloc;
         "{PROGRAM}// %certificate\n/*\n%certificate \n*/\n%certificate\n{CERTIFICATE}"
     )?;
-    assert_eq!(rt; replies(&rt, more.as_str(), "100", ACCEPTED)?, 0);
-    let comment = format!(in alloc; "{PROGRAM}/*\n%certificate\n*/\n{CERTIFICATE}")?;
+    is_answered(alloc, input.as_str(), "100", 0, ACCEPTED)
+}
+
+// A comment is cut too.
+fn cuts_comments(alloc: Global) -> Result<bool, AllocError> {
+    let input = format!(in alloc; "{PROGRAM}/*\n%certificate\n*/\n{CERTIFICATE}")?;
     let at = PROGRAM.len();
     let reply = format!(in alloc; "refused NotText {at}\n")?;
-    assert_eq!(rt; replies(&rt, comment.as_str(), "100", reply.as_str())?, 4);
+    is_answered(alloc, input.as_str(), "100", 4, reply.as_str())
+}
+
+#[test]
+fn cuts_at_whole_lines(rt: HostRuntime) -> Result<(), Fail> {
+    assert!(rt; cuts_at_the_first(rt.alloc())?);
+    assert!(rt; cuts_at_no_more(rt.alloc())?);
+    assert!(rt; cuts_comments(rt.alloc())?);
     Ok(())
 }
 
 // The limit is asked of the whole input.
-#[test]
-fn counts_the_certificate(rt: HostRuntime) -> Result<(), Fail> {
-    let alloc = rt.alloc();
+fn counts(alloc: Global) -> Result<bool, AllocError> {
     let mut input = marked(alloc, CERTIFICATE)?;
     for _ in 0..262_144 {
         input.push_str("                                                                ")?;
     }
-    assert_eq!(rt;
-        replies(&rt, input.as_str(), "100", "refused TooLong\n")?,
-        3
-    );
+    is_answered(alloc, input.as_str(), "100", 3, "refused TooLong\n")
+}
+
+#[test]
+fn counts_the_certificate(rt: HostRuntime) -> Result<(), Fail> {
+    assert!(rt; counts(rt.alloc())?);
     Ok(())
 }

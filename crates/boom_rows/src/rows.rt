@@ -2,13 +2,9 @@
 //!
 //! A row has the words of a command, with `;` between them, and behind ` | ` the lines of the reply, with `~` behind each. `@` stands for the text of `main`
 //! of the class `Main`. The status of a reply that is no refusal is 0.
-use boom_io::{MemSink, MemSource};
-use boom_top::boomer;
+use super::asking::{METHOD, Pieces, SMALL, is_reply};
 use std::alloc::{AllocError, Global};
-use std::process::Abort;
 use std::test::Fail;
-
-const METHOD: &str = "<Main: void main(java.lang.String[])>";
 
 // A loop with an allocation: the machine, a free choice at `if` and at the root's array.
 const LOOP: (&str, &str) = (
@@ -262,16 +258,6 @@ demo;1 | demo 1~statements 12~sites 1~demanded 16~
 demo;0 | refused Usage~",
 );
 
-// The words of a row.
-fn words(alloc: Global, row: &str) -> Result<Vec<String>, AllocError> {
-    let mut words = Vec::new(alloc);
-    for word in row.split(';') {
-        let word = if word == "@" { METHOD } else { word };
-        words.push(String::from_str(alloc, word)?)?;
-    }
-    Ok(words)
-}
-
 // The reply of a row.
 fn reply(alloc: Global, row: &str) -> Result<String, AllocError> {
     let mut text = String::new(alloc);
@@ -285,85 +271,79 @@ fn reply(alloc: Global, row: &str) -> Result<String, AllocError> {
     Ok(text)
 }
 
-// Whether a command over a program gets the reply.
-fn check(
-    rt: &(impl Abort + AllocGlobal),
-    program: &str,
-    asked: &str,
-    told: &str,
-) -> Result<(), Fail> {
-    let alloc = rt.alloc();
-    let words = words(alloc, asked)?;
-    let bytes = Vec::from_slice(alloc, program.as_bytes())?;
-    let mut source = MemSource::new(bytes, Vec::new(alloc), 64);
-    let mut sink = MemSink::new(alloc, 1000, Vec::new(alloc), 64)?;
-    let status = boomer(alloc, &words, &mut source, &mut sink);
-    let reply = reply(alloc, told)?;
-    assert_eq!(rt; sink.bytes(), reply.as_bytes(), "{asked}");
-    assert_eq!(rt;
-        status.number() == 0,
-        !told.starts_with("refused"),
-        "{asked}"
-    );
-    Ok(())
+// The number of the status that a reply tells of: a refusal has the word of its status behind `refused`.
+fn number(told: &str) -> u8 {
+    let Some(refused) = told.strip_prefix("refused ") else {
+        return 0;
+    };
+    match refused.split_once(' ') {
+        Some(("NotLinked", _)) => 6,
+        Some(("NoSuchPlace", _)) => 7,
+        Some(("OverBudget", _)) => 11,
+        _ => 1,
+    }
 }
 
-// Whether each row of a program gets its reply.
-fn check_rows(rt: &(impl Abort + AllocGlobal), rows: (&str, &str)) -> Result<(), Fail> {
+// Whether a command over a program gets the reply.
+fn is_right(alloc: Global, pieces: Pieces, program: &str, row: &str) -> Result<bool, AllocError> {
+    let Some((asked, told)) = row.split_once(" | ") else {
+        return Ok(false);
+    };
+    let reply = reply(alloc, told)?;
+    is_reply(
+        alloc,
+        asked,
+        program.as_bytes(),
+        pieces,
+        number(told),
+        reply.as_str(),
+    )
+}
+
+/// The first row of a program that doesn't get its reply, in such pieces.
+pub fn first_wrong_in(
+    alloc: Global,
+    pieces: Pieces,
+    rows: (&'static str, &'static str),
+) -> Result<Option<&'static str>, AllocError> {
     let (program, rows) = rows;
     for row in rows.lines() {
-        let (asked, told) = row.split_once(" | ").expect(rt, "a row has two parts");
-        check(rt, program, asked, told)?;
+        if !is_right(alloc, pieces, program, row)? {
+            return Ok(Some(row));
+        }
     }
-    Ok(())
+    Ok(None)
+}
+
+fn first_wrong(
+    alloc: Global,
+    rows: (&'static str, &'static str),
+) -> Result<Option<&'static str>, AllocError> {
+    first_wrong_in(alloc, SMALL, rows)
 }
 
 #[test]
 fn answers_calls_and_fields(rt: HostRuntime) -> Result<(), Fail> {
     for rows in [
-        CALLS, BOXES, NAMES, STATICS, RECURSION, ITSELF, NOTHING, DISPATCH, HELLO,
+        CALLS, BOXES, NAMES, STATICS, RECURSION, ITSELF, NOTHING, DISPATCH, HELLO, NESTED, THROWN,
     ] {
-        check_rows(&rt, rows)?;
+        assert_eq!(rt; first_wrong(rt.alloc(), rows)?, None);
     }
     Ok(())
 }
 
 #[test]
-fn answers_calls_of_interfaces(rt: HostRuntime) -> Result<(), Fail> {
-    for rows in [LOWEST, HIDDEN, SEVERAL, OWN] {
-        check_rows(&rt, rows)?;
+fn answers_calls_of_interfaces_and_aliases(rt: HostRuntime) -> Result<(), Fail> {
+    for rows in [LOWEST, HIDDEN, SEVERAL, OWN, TEXTS] {
+        assert_eq!(rt; first_wrong(rt.alloc(), rows)?, None);
     }
     Ok(())
 }
 
 #[test]
-fn answers_nested_arrays(rt: HostRuntime) -> Result<(), Fail> {
-    check_rows(&rt, NESTED)
-}
-
-#[test]
-fn answers_exceptions(rt: HostRuntime) -> Result<(), Fail> {
-    check_rows(&rt, THROWN)
-}
-
-#[test]
-fn answers_aliases(rt: HostRuntime) -> Result<(), Fail> {
-    check_rows(&rt, TEXTS)
-}
-
-#[test]
-fn runs(rt: HostRuntime) -> Result<(), Fail> {
-    check_rows(&rt, LOOP)?;
-    check_rows(&rt, NULL)?;
-    check_rows(&rt, RUNS)
-}
-
-#[test]
-fn shows_the_demo(rt: HostRuntime) -> Result<(), Fail> {
-    check_rows(&rt, DEMO)
-}
-
-#[test]
-fn refuses_a_class_that_comes_twice(rt: HostRuntime) -> Result<(), Fail> {
-    check_rows(&rt, TWICE)
+fn runs_and_shows_the_demo(rt: HostRuntime) -> Result<(), Fail> {
+    for rows in [LOOP, NULL, RUNS, DEMO, TWICE] {
+        assert_eq!(rt; first_wrong(rt.alloc(), rows)?, None);
+    }
+    Ok(())
 }

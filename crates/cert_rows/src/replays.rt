@@ -4,8 +4,9 @@ ghost use Rattle.std.specs.Prelude.{◌+◌, ◌^◌, ◌<◌, length};
 use super::programs::{BOX, NESTED, STATIC, TEXT, TWO_CALLS};
 use cert_replay::{Certificate, ReplayError, read_cert, replay};
 use demand_set::{Reach, demand};
+use jim_ast::NoMemory;
 use link_program::Linked;
-use linked_text::linked_of;
+use linked_text::{Rows, first_wrong};
 use spds_nodes::is_node;
 use std::alloc::Global;
 use std::test::Fail;
@@ -91,223 +92,69 @@ flow C 11 0.1.l0
 flow C 12 0.2.l1
 claim 10 13";
 
-/// A certificate of a program.
-struct Row {
-    program: &'static str,
-    certificate: &'static str,
-}
+// A line put in the place of the one with the number, from 1, so that this one is rejected: each premise of each kind of line, taken away.
+const OF_A_CALL: &str = "as it is
+# A node that isn't a start node, or isn't demanded.
+1 start F 1.1.l0
+8 start C 1.2.new
+# A line that gave nothing before, or gave it of the other side.
+2 flow F 0 1.1.l0
+2 flow F 2 1.1.l0
+2 flow F 4294967295 1.1.l0
+9 flow C 1 1.1.l0
+# No edge, or one that doesn't keep the words.
+3 flow F 2 1.3.l0
+11 flow C 10 0.0.p0
+15 flow C 12 1.4.l2
+# No call, or one that is another.
+10 push C 9 1.2.l0
+13 link C 9 0.0.p0
+14 pop C 12 14 1.3.l2
+14 pop C 12 11 1.3.l2
+14 pop C 12 13 1.4.l3
+14 base C 12 1.3.l2";
 
-const ACCEPTED: [Row; 5] = [
-    Row {
-        program: TWO_CALLS,
-        certificate: THROUGH_A_CALL,
-    },
-    Row {
-        program: BOX,
-        certificate: THROUGH_A_FIELD,
-    },
-    Row {
-        program: TEXT,
-        certificate: OUT_OF_A_CALL,
-    },
-    Row {
-        program: STATIC,
-        certificate: THROUGH_A_STATIC,
-    },
-    Row {
-        program: NESTED,
-        certificate: OUT_OF_AN_ARRAY,
-    },
-];
+const OF_A_FIELD: &str = "as it is
+# No edge, or one that doesn't keep the words.
+18 flow F 17 0.4.l2
+# A string that isn't one of the method, or under which only one of them is.
+11 shared 4 10 -
+11 shared 4 10 1.3,1.3
+11 shared 4,10 10 1.3
+11 shared 4 7 1.3
+# Not the base, or not at the store's node.
+12 meet 11 6
+12 meet 11 2
+12 meet 10 7
+# Not at the argument, or the base doesn't start there.
+13 push F 1 12 0.0.new
+13 push F 2 12 0.1.new
+14 link F 2 11 0.0.new
+19 start C 10 12 0.0.new
+# Not at the target.
+24 claim 17 23";
 
-/// A line put in the place of one, from 1, of an accepted certificate, so that this one is rejected.
-struct Change {
-    row: usize,
-    line: u32,
-    put: &'static str,
-}
+const OF_A_RETURN: &str = "as it is
+# No edge, or one that doesn't keep the words.
+4 flow C 3 1.1.l0";
 
-// Each premise of each kind of line, taken away.
-const CHANGES: [Change; 30] = [
-    // A node that isn't a start node, or isn't demanded.
-    Change {
-        row: 0,
-        line: 1,
-        put: "start F 1.1.l0",
-    },
-    Change {
-        row: 0,
-        line: 8,
-        put: "start C 1.2.new",
-    },
-    // A line that gave nothing before, or gave it of the other side.
-    Change {
-        row: 0,
-        line: 2,
-        put: "flow F 0 1.1.l0",
-    },
-    Change {
-        row: 0,
-        line: 2,
-        put: "flow F 2 1.1.l0",
-    },
-    Change {
-        row: 0,
-        line: 2,
-        put: "flow F 4294967295 1.1.l0",
-    },
-    Change {
-        row: 0,
-        line: 9,
-        put: "flow C 1 1.1.l0",
-    },
-    // No edge, or one that doesn't keep the words.
-    Change {
-        row: 0,
-        line: 3,
-        put: "flow F 2 1.3.l0",
-    },
-    Change {
-        row: 0,
-        line: 11,
-        put: "flow C 10 0.0.p0",
-    },
-    Change {
-        row: 0,
-        line: 15,
-        put: "flow C 12 1.4.l2",
-    },
-    Change {
-        row: 1,
-        line: 18,
-        put: "flow F 17 0.4.l2",
-    },
-    Change {
-        row: 3,
-        line: 6,
-        put: "flow C 5 0.3.l1",
-    },
-    Change {
-        row: 2,
-        line: 4,
-        put: "flow C 3 1.1.l0",
-    },
-    // No call, or one that is another.
-    Change {
-        row: 0,
-        line: 10,
-        put: "push C 9 1.2.l0",
-    },
-    Change {
-        row: 0,
-        line: 13,
-        put: "link C 9 0.0.p0",
-    },
-    Change {
-        row: 0,
-        line: 14,
-        put: "pop C 12 14 1.3.l2",
-    },
-    Change {
-        row: 0,
-        line: 14,
-        put: "pop C 12 11 1.3.l2",
-    },
-    Change {
-        row: 0,
-        line: 14,
-        put: "pop C 12 13 1.4.l3",
-    },
-    Change {
-        row: 0,
-        line: 14,
-        put: "base C 12 1.3.l2",
-    },
-    // A string that isn't one of the method, or under which only one of them is.
-    Change {
-        row: 1,
-        line: 11,
-        put: "shared 4 10 -",
-    },
-    Change {
-        row: 1,
-        line: 11,
-        put: "shared 4 10 1.3,1.3",
-    },
-    Change {
-        row: 1,
-        line: 11,
-        put: "shared 4,10 10 1.3",
-    },
-    Change {
-        row: 1,
-        line: 11,
-        put: "shared 4 7 1.3",
-    },
-    // Not the base, or not at the store's node.
-    Change {
-        row: 1,
-        line: 12,
-        put: "meet 11 6",
-    },
-    Change {
-        row: 1,
-        line: 12,
-        put: "meet 11 2",
-    },
-    Change {
-        row: 1,
-        line: 12,
-        put: "meet 10 7",
-    },
-    // Not at the argument, or the base doesn't start there.
-    Change {
-        row: 1,
-        line: 13,
-        put: "push F 1 12 0.0.new",
-    },
-    Change {
-        row: 1,
-        line: 13,
-        put: "push F 2 12 0.1.new",
-    },
-    Change {
-        row: 1,
-        line: 14,
-        put: "link F 2 11 0.0.new",
-    },
-    Change {
-        row: 1,
-        line: 19,
-        put: "start C 10 12 0.0.new",
-    },
-    // Not at the target.
-    Change {
-        row: 1,
-        line: 24,
-        put: "claim 17 23",
-    },
-];
+const OF_A_STATIC: &str = "as it is
+# No edge, or one that doesn't keep the words.
+6 flow C 5 0.3.l1";
 
-// The same of rows that are whole: no line, no claim at the end, and a node that isn't asked for.
-const REJECTED: [(&str, &str, u32); 5] = [
-    (TEXT, "query 1.1.l0", 1),
-    (TEXT, "query 1.1.l0\nstart F 0.0.t0", 2),
-    (
-        TEXT,
-        "query 1.1.l0\nstart F 0.0.t0\nflow F 1 1.1.l0\nstart C 0.0.t0\nbase C 3 1.1.l0\nclaim 1 3",
-        5,
-    ),
-    (TEXT, "query 1.1.l0\nclaim 4294967295 1", 1),
-    (TEXT, "query 1.0.l0\nstart F 0.0.t0", 1),
-];
+// Whole certificates, with a semicolon between two lines, and the line that is rejected: no line, no claim at the end, and a node that isn't asked for.
+const REJECTED: &str = "1 query 1.1.l0
+2 query 1.1.l0;start F 0.0.t0
+5 query 1.1.l0;start F 0.0.t0;flow F 1 1.1.l0;start C 0.0.t0;base C 3 1.1.l0;claim 1 3
+1 query 1.1.l0;claim 4294967295 1
+1 query 1.0.l0;start F 0.0.t0";
 
 /// What is said of a certificate.
 #[derive(Clone, Copy, Debug, PartialEq, Eq)]
 enum Said {
     Accepted,
     Rejected(u32),
-    /// It isn't one, its program isn't linked, or there was no memory.
+    /// It isn't one, or there was no memory.
     Nothing,
 }
 
@@ -337,70 +184,72 @@ fn said_of_text(alloc: Global, linked: &Linked, text: &str) -> Said {
     }
 }
 
-// The same over the text of a program.
-fn said_in_program(alloc: Global, program: &str, text: &str) -> Said {
-    match linked_of(alloc, program) {
-        Some(linked) => said_of_text(alloc, &linked, text),
-        None => Said::Nothing,
-    }
+// The number and the text of a row.
+fn parts(row: &str) -> Option<(u32, &str)> {
+    let (number, text) = row.split_once(' ')?;
+    Some((number.parse::<u32>().ok()?, text))
 }
 
-#[test]
-fn accepted(rt: HostRuntime) -> Result<(), Fail> {
-    for (number, row) in ACCEPTED.iter().enumerate() {
-        assert_eq!(rt;
-            said_in_program(rt.alloc(), row.program, row.certificate),
-            Said::Accepted,
-            "{number}"
-        );
-    }
-    Ok(())
-}
-
-// The certificate with its line changed.
-fn changed(alloc: Global, certificate: &str, change: &Change) -> Result<String, Fail> {
+// The certificate with the line put in the place of the one with the number.
+fn changed(alloc: Global, certificate: &str, number: u32, put: &str) -> Result<String, NoMemory> {
     let mut text = String::new(alloc);
-    for (number, line) in certificate.split('\n').enumerate() {
-        let put = if number == change.line as usize {
-            change.put
-        } else {
-            line
-        };
-        text.push_str(put)?;
-        text.push_str("\n")?;
+    let mut at: u32 = 0;
+    for line in certificate.lines() {
+        text.push_str(if at == number { put } else { line })?;
+        text.push('\n')?;
+        at = at.saturating_add(1);
     }
     Ok(text)
 }
 
-// What is said of the changed certificate.
-fn said_changed(alloc: Global, change: &Change) -> Result<Said, Fail> {
-    let Some(row) = ACCEPTED.get(change.row) else {
-        return Ok(Said::Nothing);
-    };
-    let text = changed(alloc, row.certificate, change)?;
-    Ok(said_in_program(alloc, row.program, text.as_str()))
+// A certificate that is accepted, with changes of a line.
+#[derive(Clone, Copy)]
+struct Changes {
+    certificate: &'static str,
+}
+
+impl Rows for Changes {
+    fn is_right(&self, alloc: Global, linked: &Linked, row: &str) -> Result<bool, NoMemory> {
+        if row == "as it is" {
+            return Ok(said_of_text(alloc, linked, self.certificate) == Said::Accepted);
+        }
+        let Some((number, put)) = parts(row) else {
+            return Ok(false);
+        };
+        let text = changed(alloc, self.certificate, number, put)?;
+        Ok(said_of_text(alloc, linked, text.as_str()) == Said::Rejected(number))
+    }
 }
 
 #[test]
-fn each_premise(rt: HostRuntime) -> Result<(), Fail> {
-    for (number, change) in CHANGES.iter().enumerate() {
-        assert_eq!(rt;
-            said_changed(rt.alloc(), change)?,
-            Said::Rejected(change.line),
-            "{number}"
-        );
+fn accepted_and_each_premise(rt: HostRuntime) -> Result<(), Fail> {
+    for (text, certificate, rows) in [
+        (TWO_CALLS, THROUGH_A_CALL, OF_A_CALL),
+        (BOX, THROUGH_A_FIELD, OF_A_FIELD),
+        (TEXT, OUT_OF_A_CALL, OF_A_RETURN),
+        (STATIC, THROUGH_A_STATIC, OF_A_STATIC),
+        (NESTED, OUT_OF_AN_ARRAY, "as it is"),
+    ] {
+        let changes = Changes { certificate };
+        assert_eq!(rt; first_wrong(rt.alloc(), text, &changes, rows)?, None);
     }
     Ok(())
 }
 
+struct Whole;
+
+impl Rows for Whole {
+    fn is_right(&self, alloc: Global, linked: &Linked, row: &str) -> Result<bool, NoMemory> {
+        let Some((number, text)) = parts(row) else {
+            return Ok(false);
+        };
+        let lines = text.replace(alloc, ";", "\n")?;
+        Ok(said_of_text(alloc, linked, lines.as_str()) == Said::Rejected(number))
+    }
+}
+
 #[test]
 fn others(rt: HostRuntime) -> Result<(), Fail> {
-    for (program, text, line) in REJECTED {
-        assert_eq!(rt;
-            said_in_program(rt.alloc(), program, text),
-            Said::Rejected(line),
-            "{text}"
-        );
-    }
+    assert_eq!(rt; first_wrong(rt.alloc(), TEXT, &Whole, REJECTED)?, None);
     Ok(())
 }

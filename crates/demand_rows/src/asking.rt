@@ -7,10 +7,10 @@ ghost use Rattle.spds_rules.specs.Stores.{IsStore};
 use super::programs::TWO_CALLS;
 use demand_walk::{DemandError, Graph, NoMemory, walk};
 use link_program::Linked;
-use linked_text::linked_of;
-use linked_text::spots::{Spot, are_these, node};
+use linked_text::spelled::{are_nodes, node};
+use linked_text::{Rows, first_wrong};
 use spds_nodes::{into, stores_of};
-use spds_rules::{Edge, Node, Reach, StoreAt, Var};
+use spds_rules::{Edge, Node, Reach, StoreAt};
 use std::alloc::{AllocError, Global};
 use std::test::Fail;
 
@@ -39,37 +39,31 @@ impl<'a> Graph for AskedGraph<'a> {
     }
 }
 
-// What the first call's result demands behind the second call.
-const BEHIND_X: [Spot; 10] = [
-    Spot::Before(1, 4, Var::Local(2)),
-    Spot::Before(1, 3, Var::Local(2)),
-    Spot::Before(0, 1, Var::Local(0)),
-    Spot::Before(0, 0, Var::Param(0)),
-    Spot::Before(1, 2, Var::Local(0)),
-    Spot::Before(1, 1, Var::Local(0)),
-    Spot::Before(1, 0, Var::Made),
-    Spot::Before(1, 3, Var::Local(1)),
-    Spot::Before(1, 2, Var::Local(1)),
-    Spot::Before(1, 1, Var::Made),
-];
+// What the first call's result demands behind the second call, the target first.
+const BEHIND_X: &str = "1.4.l2 1.3.l2 0.1.l0 0.0.p0 1.2.l0 1.1.l0 1.0.new 1.3.l1 1.2.l1 1.1.new";
 
 // Whether each of the nodes is demanded, and none stands twice: as many of those that are demanded are among them.
 fn are_demanded(nodes: &[Node]) -> bool {
-    BEHIND_X
-        .iter()
-        .filter(|spot| nodes.contains(&node(**spot)))
-        .count()
-        == nodes.len()
+    let mut count: usize = 0;
+    for part in BEHIND_X.split(' ') {
+        match node(part) {
+            Some(node) if nodes.contains(&node) => count = count.saturating_add(1),
+            _ => {}
+        }
+    }
+    count == nodes.len()
 }
 
 // Whether a walk is right: within ten nodes it finds all ten, and asks for these, in its order; else it asks for demanded nodes, as many as the budget
 // at most.
 fn is_right(alloc: Global, graph: &mut AskedGraph<'_>, budget: u32) -> Result<bool, NoMemory> {
-    let target = node(BEHIND_X[0]);
+    let Some(target) = node("1.4.l2") else {
+        return Ok(false);
+    };
     match walk(alloc, graph, &[target], budget) {
         Ok(found) => Ok(
             budget >= 10
-                && are_these(found.nodes.as_slice(), &BEHIND_X)
+                && are_nodes(found.nodes.as_slice(), BEHIND_X)
                 && graph.asked.as_slice() == found.nodes.as_slice(),
         ),
         Err(DemandError::OverBudget { budget: told }) => Ok(
@@ -82,25 +76,32 @@ fn is_right(alloc: Global, graph: &mut AskedGraph<'_>, budget: u32) -> Result<bo
     }
 }
 
-fn is_right_over(alloc: Global, linked: &Linked, budget: u32) -> Result<bool, NoMemory> {
-    let mut graph = AskedGraph {
-        linked,
-        asked: Vec::new(alloc),
-    };
-    is_right(alloc, &mut graph, budget)
-}
+struct Budgets;
 
-fn is_right_within(alloc: Global, budget: u32) -> Result<bool, NoMemory> {
-    match linked_of(alloc, TWO_CALLS) {
-        Some(linked) => is_right_over(alloc, &linked, budget),
-        None => Ok(false),
+impl Rows for Budgets {
+    fn is_right(&self, alloc: Global, linked: &Linked, row: &str) -> Result<bool, NoMemory> {
+        let Ok(budget) = row.parse::<u32>() else {
+            return Ok(false);
+        };
+        let mut graph = AskedGraph {
+            linked,
+            asked: Vec::new(alloc),
+        };
+        is_right(alloc, &mut graph, budget)
     }
 }
+
+const BUDGETS: &str = "0
+1
+9
+10
+100";
 
 #[test]
 fn asks_for_each_node_once(rt: HostRuntime) -> Result<(), Fail> {
-    for budget in [0, 1, 9, 10, 100] {
-        assert!(rt; is_right_within(rt.alloc(), budget)?, "within {budget}");
-    }
+    assert_eq!(rt;
+        first_wrong(rt.alloc(), TWO_CALLS, &Budgets, BUDGETS)?,
+        None
+    );
     Ok(())
 }

@@ -9,210 +9,55 @@ use super::programs::{
 use demand_set::{Demand, DemandError, demand};
 use jim_ast::NoMemory;
 use link_program::Linked;
-use link_sites::Site;
-use linked_text::linked_of;
-use linked_text::spots::{Origin, Spot, node, site};
+use linked_text::spelled::{are_nodes, are_sites, node};
+use linked_text::{Rows, first_wrong};
 use spds_nodes::is_node;
-use spds_rules::{EdgeKind, Node, Reach, Var};
+use spds_rules::{EdgeKind, Node, Reach};
 use std::alloc::{AllocError, Global};
 use std::test::Fail;
 
-// A query of a program: its targets, whether back edges count, how many nodes it demands, and of which sites start nodes are among them, in their
-// order.
-struct Case {
-    name: &'static str,
-    text: &'static str,
-    targets: &'static [Spot],
-    reach: Reach,
-    nodes: u32,
-    sites: &'static [Origin],
-}
-
-const CASES: [Case; 17] = [
-    Case {
-        name: "two calls",
-        text: TWO_CALLS,
-        targets: &[Spot::Before(1, 4, Var::Local(2))],
-        reach: Reach::Plain,
-        nodes: 10,
-        sites: &[Origin::Made(1, 0), Origin::Made(1, 1)],
-    },
-    Case {
-        name: "two boxes",
-        text: TWO_BOXES,
-        targets: &[Spot::Before(2, 8, Var::Local(4))],
-        reach: Reach::Plain,
-        nodes: 31,
-        sites: &[
-            Origin::Made(2, 0),
-            Origin::Made(2, 1),
-            Origin::Made(2, 2),
-            Origin::Made(2, 3),
-        ],
-    },
-    Case {
-        name: "passed box",
-        text: PASSED_BOX,
-        targets: &[Spot::Before(1, 4, Var::Local(2))],
-        reach: Reach::Plain,
-        nodes: 13,
-        sites: &[Origin::Made(0, 3), Origin::Made(1, 0)],
-    },
-    Case {
-        name: "static box",
-        text: STATIC_BOX,
-        targets: &[Spot::Before(0, 9, Var::Local(5))],
-        reach: Reach::Plain,
-        nodes: 16,
-        sites: &[Origin::Made(0, 0), Origin::Made(0, 1), Origin::Made(0, 2)],
-    },
-    Case {
-        name: "recursion",
-        text: RECURSION,
-        targets: &[Spot::Before(1, 1, Var::Local(0))],
-        reach: Reach::Plain,
-        nodes: 5,
-        sites: &[Origin::Made(0, 1)],
-    },
-    Case {
-        name: "escapes",
-        text: ESCAPES,
-        targets: &[Spot::Before(2, 4, Var::Local(1))],
-        reach: Reach::Plain,
-        nodes: 15,
-        sites: &[
-            Origin::Made(0, 0),
-            Origin::Made(0, 1),
-            Origin::Fault(0, 2, 0),
-            Origin::Fault(0, 3, 0),
-        ],
-    },
-    Case {
-        name: "what is caught",
-        text: ESCAPES,
-        targets: &[Spot::Before(2, 3, Var::Local(0))],
-        reach: Reach::Plain,
-        nodes: 12,
-        sites: &[
-            Origin::Made(0, 0),
-            Origin::Fault(0, 2, 0),
-            Origin::Fault(0, 3, 0),
-        ],
-    },
-    Case {
-        name: "null receiver",
-        text: NULL_RECEIVER,
-        targets: &[Spot::Before(0, 4, Var::Local(1))],
-        reach: Reach::Plain,
-        nodes: 4,
-        sites: &[Origin::Fault(0, 1, 0)],
-    },
-    Case {
-        name: "inherited",
-        text: INHERITED,
-        targets: &[Spot::Before(2, 2, Var::Local(1))],
-        reach: Reach::Plain,
-        nodes: 5,
-        sites: &[Origin::Made(0, 0), Origin::Made(1, 0)],
-    },
-    Case {
-        name: "one text twice",
-        text: SAME_TEXT,
-        targets: &[
-            Spot::Before(1, 3, Var::Local(0)),
-            Spot::Before(1, 3, Var::Local(1)),
-        ],
-        reach: Reach::Plain,
-        nodes: 7,
-        sites: &[Origin::Text(0)],
-    },
-    Case {
-        name: "two texts",
-        text: SAME_TEXT,
-        targets: &[
-            Spot::Before(1, 3, Var::Local(0)),
-            Spot::Before(1, 3, Var::Local(2)),
-        ],
-        reach: Reach::Plain,
-        nodes: 6,
-        sites: &[Origin::Text(1), Origin::Text(0)],
-    },
-    Case {
-        name: "all sorts",
-        text: ALL_SORTS,
-        targets: &[Spot::Before(0, 9, Var::Local(0))],
-        reach: Reach::Plain,
-        nodes: 10,
-        sites: &[
-            Origin::Made(0, 8),
-            Origin::Text(1),
-            Origin::Text(0),
-            Origin::Class(1),
-            Origin::Class(0),
-        ],
-    },
-    Case {
-        name: "stored null",
-        text: STORED_NULL,
-        targets: &[Spot::Before(0, 4, Var::Local(2))],
-        reach: Reach::Plain,
-        nodes: 5,
-        sites: &[Origin::Made(0, 0)],
-    },
-    Case {
-        name: "unset",
-        text: STORED_NULL,
-        targets: &[Spot::Before(0, 0, Var::Local(2))],
-        reach: Reach::Plain,
-        nodes: 1,
-        sites: &[],
-    },
-    Case {
-        name: "files",
-        text: FILES,
-        targets: &[
-            Spot::Before(3, 1, Var::Local(0)),
-            Spot::Before(3, 2, Var::Local(0)),
-            Spot::Before(4, 3, Var::Local(0)),
-        ],
-        reach: Reach::Plain,
-        nodes: 7,
-        sites: &[Origin::Made(4, 0)],
-    },
-    Case {
-        name: "files that are tracked",
-        text: FILES,
-        targets: &[
-            Spot::Before(3, 1, Var::Local(0)),
-            Spot::Before(3, 2, Var::Local(0)),
-            Spot::Before(4, 3, Var::Local(0)),
-        ],
-        reach: Reach::Tracked,
-        nodes: 10,
-        sites: &[Origin::Made(4, 0)],
-    },
-    Case {
-        name: "files that are read again",
-        text: FILES_READ_AGAIN,
-        targets: &[
-            Spot::Before(3, 1, Var::Local(0)),
-            Spot::Before(3, 2, Var::Local(0)),
-            Spot::Before(4, 3, Var::Local(0)),
-            Spot::Before(4, 4, Var::Local(1)),
-        ],
-        reach: Reach::Tracked,
-        nodes: 12,
-        sites: &[Origin::Made(4, 0)],
-    },
+// Queries of each program, a row a line: the targets, behind `tracked` where back edges count, and behind ` = ` how many nodes are demanded and of which
+// sites start nodes are among them, in their order.
+const CASES: [(&str, &str); 13] = [
+    (TWO_CALLS, "1.4.l2 = 10, 1.0.new 1.1.new"),
+    (TWO_BOXES, "2.8.l4 = 31, 2.0.new 2.1.new 2.2.new 2.3.new"),
+    (PASSED_BOX, "1.4.l2 = 13, 0.3.new 1.0.new"),
+    (STATIC_BOX, "0.9.l5 = 16, 0.0.new 0.1.new 0.2.new"),
+    (RECURSION, "1.1.l0 = 5, 0.1.new"),
+    (
+        ESCAPES,
+        "2.4.l1 = 15, 0.0.new 0.1.new 0.2.r0 0.3.r0
+# what is caught
+2.3.l0 = 12, 0.0.new 0.2.r0 0.3.r0",
+    ),
+    (NULL_RECEIVER, "0.4.l1 = 4, 0.1.r0"),
+    (INHERITED, "2.2.l1 = 5, 0.0.new 1.0.new"),
+    (
+        SAME_TEXT,
+        "# one text twice
+1.3.l0 1.3.l1 = 7, t0
+# two texts
+1.3.l0 1.3.l2 = 6, t1 t0",
+    ),
+    (ALL_SORTS, "0.9.l0 = 10, 0.8.new t1 t0 k1 k0"),
+    (
+        STORED_NULL,
+        "0.4.l2 = 5, 0.0.new
+# unset
+0.0.l2 = 1, -",
+    ),
+    (
+        FILES,
+        "3.1.l0 3.2.l0 4.3.l0 = 7, 4.0.new
+# files that are tracked
+tracked 3.1.l0 3.2.l0 4.3.l0 = 10, 4.0.new",
+    ),
+    (
+        FILES_READ_AGAIN,
+        "# files that are read again
+tracked 3.1.l0 3.2.l0 4.3.l0 4.4.l1 = 12, 4.0.new",
+    ),
 ];
-
-fn sites_are(sites: &[Site], origins: &[Origin]) -> bool {
-    sites.len() == origins.len()
-        && sites
-            .iter()
-            .zip(origins)
-            .all(|(found, origin)| *found == site(*origin))
-}
 
 // Whether some edge of the demand loads the field.
 fn is_loaded(found: &Demand, field: u32) -> bool {
@@ -241,81 +86,103 @@ fn are_numbered(found: &Demand) -> bool {
     true
 }
 
-fn is_found(found: &Demand, case: &Case) -> bool {
-    found.nodes().len() == case.nodes as usize
-        && sites_are(found.sites(), case.sites)
+fn is_found(found: &Demand, count: u32, sites: &str) -> bool {
+    found.nodes().len() == count as usize
+        && are_sites(found.sites(), sites)
         && are_numbered(found)
         && are_loaded(found)
 }
 
-// Whether the query demands what it is to demand, within a budget of just as many nodes.
-fn fits(alloc: Global, linked: &Linked, targets: &[Node], case: &Case) -> Result<bool, NoMemory>
-    requires { All (IsNode linked.now) targets.now }
-{
-    match demand(alloc, linked, targets, case.reach, case.nodes) {
-        Ok(found) => Ok(is_found(&found, case)),
-        Err(DemandError::OverBudget { .. }) => Ok(false),
-        Err(DemandError::NoMemory) => Err(AllocError),
-    }
+// What is told of a query.
+#[derive(Clone, Copy, PartialEq, Eq)]
+enum Answer {
+    Right,
+    Wrong,
+    Over(u32),
 }
 
-// Whether it demands more than the budget allows.
-fn exceeds(
+// Whether the query demands so many nodes and these sites, or the budget that it demands more than.
+fn told(
     alloc: Global,
     linked: &Linked,
     targets: &[Node],
     reach: Reach,
     budget: u32,
-) -> Result<bool, NoMemory>
+    sites: &str,
+) -> Result<Answer, NoMemory>
     requires { All (IsNode linked.now) targets.now }
 {
     match demand(alloc, linked, targets, reach, budget) {
-        Ok(_) => Ok(false),
-        Err(DemandError::OverBudget { budget: told }) => Ok(told == budget),
+        Ok(found) if is_found(&found, budget, sites) => Ok(Answer::Right),
+        Ok(_) => Ok(Answer::Wrong),
+        Err(DemandError::OverBudget { budget }) => Ok(Answer::Over(budget)),
         Err(DemandError::NoMemory) => Err(AllocError),
     }
 }
 
 // Whether the program has all the nodes.
-fn are_nodes(linked: &Linked, nodes: &[Node]) -> bool
+fn are_in(linked: &Linked, nodes: &[Node]) -> bool
     ensures { IsTrue result → All (IsNode linked.now) nodes.now }
 {
     nodes.iter().all(|node| is_node(linked, *node))
 }
 
+// Whether it is right within a budget of just as many nodes, and over one that is less by one.
 fn are_right(
     alloc: Global,
     linked: &Linked,
     targets: &[Node],
-    case: &Case,
+    reach: Reach,
+    wanted: &str,
 ) -> Result<bool, NoMemory> {
-    if !are_nodes(linked, targets) {
+    let Some((count, sites)) = wanted.split_once(", ") else {
+        return Ok(false);
+    };
+    let Ok(count) = count.parse::<u32>() else {
+        return Ok(false);
+    };
+    if !are_in(linked, targets) {
         return Ok(false);
     }
-    let one_less = case.nodes.saturating_sub(1);
+    let one_less = count.saturating_sub(1);
     Ok(
-        fits(alloc, linked, targets, case)?
-            && exceeds(alloc, linked, targets, case.reach, one_less)?,
+        told(alloc, linked, targets, reach, count, sites)? == Answer::Right
+            && told(alloc, linked, targets, reach, one_less, sites)? == Answer::Over(one_less),
     )
 }
 
-fn is_right(alloc: Global, linked: &Linked, case: &Case) -> Result<bool, NoMemory> {
-    let targets: Vec<Node> = case.targets.iter().map(|spot| node(*spot)).collect(alloc)?;
-    are_right(alloc, linked, &targets, case)
+// The nodes that a text spells, as far as it does.
+fn nodes_of(alloc: Global, text: &str) -> Result<Vec<Node>, NoMemory> {
+    let mut nodes = Vec::new(alloc);
+    for part in text.split(' ') {
+        let Some(node) = node(part) else {
+            return Ok(nodes);
+        };
+        nodes.push(node)?;
+    }
+    Ok(nodes)
 }
 
-fn is_right_of(alloc: Global, case: &Case) -> Result<bool, NoMemory> {
-    match linked_of(alloc, case.text) {
-        Some(linked) => is_right(alloc, &linked, case),
-        None => Ok(false),
+struct Demanded;
+
+impl Rows for Demanded {
+    fn is_right(&self, alloc: Global, linked: &Linked, row: &str) -> Result<bool, NoMemory> {
+        let Some((asked, wanted)) = row.split_once(" = ") else {
+            return Ok(false);
+        };
+        let (reach, spelled) = match asked.strip_prefix("tracked ") {
+            Some(spelled) => (Reach::Tracked, spelled),
+            None => (Reach::Plain, asked),
+        };
+        let targets = nodes_of(alloc, spelled)?;
+        Ok(are_nodes(&targets, spelled) && are_right(alloc, linked, &targets, reach, wanted)?)
     }
 }
 
 #[test]
 fn nodes_and_sites_in_order(rt: HostRuntime) -> Result<(), Fail> {
-    for case in &CASES {
-        let name = case.name;
-        assert!(rt; is_right_of(rt.alloc(), case)?, "{name}");
+    for (text, rows) in CASES {
+        assert_eq!(rt; first_wrong(rt.alloc(), text, &Demanded, rows)?, None);
     }
     Ok(())
 }

@@ -1,210 +1,128 @@
 //! Nodes, start nodes, stores, and the classes and fields of sites.
 use super::programs::{DISPATCH, FRAMES, HEAP, LEVELS, OBJECTS, TEXTS};
-use super::rows::{Case, Row, first_wrong};
-use linked_text::spots::{Origin, Spot};
-use spds_rules::Var;
+use super::rows::Asked;
+use linked_text::first_wrong;
 use std::test::Fail;
 
-const OF_FRAMES: [Row; 28] = [
-    Row::Node(Spot::Before(0, 0, Var::Local(4)), true),
-    Row::Node(Spot::Before(0, 0, Var::Local(5)), false),
-    Row::Node(Spot::Before(0, 8, Var::Local(0)), true),
-    Row::Node(Spot::Before(0, 9, Var::Local(0)), false),
-    Row::Node(Spot::Before(1, 4, Var::Local(1)), true),
-    Row::Node(Spot::Before(2, 0, Var::Local(0)), false),
-    Row::Node(Spot::Before(0, 3, Var::Param(0)), true),
-    Row::Node(Spot::Before(0, 3, Var::Param(1)), false),
-    Row::Node(Spot::Before(0, 3, Var::This), false),
-    Row::Node(Spot::Before(0, 3, Var::Caught), true),
-    Row::Node(Spot::Before(0, 2, Var::Thrown), false),
-    Row::Node(Spot::Before(0, 1, Var::Made), true),
-    Row::Node(Spot::Before(0, 2, Var::Made), false),
-    Row::Node(Spot::Before(0, 2, Var::Raised(4)), true),
-    Row::Node(Spot::Before(0, 2, Var::Raised(0)), false),
-    Row::Node(Spot::Before(0, 3, Var::Raised(5)), true),
-    Row::Node(Spot::Before(0, 3, Var::Raised(6)), false),
-    Row::Node(Spot::Before(0, 8, Var::Raised(0)), true),
-    Row::Node(Spot::Before(1, 3, Var::Raised(0)), false),
-    Row::Node(Spot::InFlight(0, 2, Var::Thrown), true),
-    Row::Node(Spot::InFlight(0, 2, Var::Local(0)), true),
-    Row::Node(Spot::InFlight(0, 2, Var::Caught), true),
-    Row::Node(Spot::InFlight(0, 2, Var::Raised(4)), false),
-    Row::Node(Spot::InFlight(1, 3, Var::Thrown), true),
-    Row::Node(Spot::InFlight(0, 1, Var::Local(0)), false),
-    Row::Node(Spot::InFlight(0, 4, Var::Local(0)), false),
-    Row::Node(Spot::InFlight(0, 6, Var::Local(0)), false),
-    Row::Starts(
-        Origin::Fault(0, 8, 0),
-        &[Spot::Before(0, 8, Var::Raised(0))],
-    ),
-];
+const OF_FRAMES: &str = "node 0.0.l4 = yes
+node 0.0.l5 = no
+node 0.8.l0 = yes
+node 0.9.l0 = no
+node 1.4.l1 = yes
+node 2.0.l0 = no
+node 0.3.p0 = yes
+node 0.3.p1 = no
+node 0.3.this = no
+node 0.3.caught = yes
+node 0.2.thrown = no
+node 0.1.new = yes
+node 0.2.new = no
+node 0.2.r4 = yes
+node 0.2.r0 = no
+node 0.3.r5 = yes
+node 0.3.r6 = no
+node 0.8.r0 = yes
+node 1.3.r0 = no
+node 0.2!.thrown = yes
+node 0.2!.l0 = yes
+node 0.2!.caught = yes
+node 0.2!.r4 = no
+node 1.3!.thrown = yes
+node 0.1!.l0 = no
+node 0.4!.l0 = no
+node 0.6!.l0 = no
+starts 0.8.r0 = 0.8.r0";
 
-const OF_DISPATCH: [Row; 4] = [
-    Row::Node(Spot::Before(0, 2, Var::This), true),
-    Row::Node(Spot::Before(2, 2, Var::Raised(0)), true),
-    Row::Node(Spot::Before(1, 0, Var::Text(0)), true),
-    Row::Starts(Origin::Text(0), &[Spot::Before(1, 0, Var::Text(0))]),
-];
+const OF_DISPATCH: &str = "node 0.2.this = yes
+node 2.2.r0 = yes
+node 1.0.t0 = yes
+starts t0 = 1.0.t0";
 
 // The root stores a text into the array that it passes.
-const OF_HEAP: [Row; 16] = [
-    Row::Node(Spot::Before(0, 8, Var::Class(0)), true),
-    Row::Node(Spot::Before(0, 8, Var::Text(0)), false),
-    Row::Node(Spot::InFlight(0, 2, Var::Text(0)), false),
-    Row::Starts(Origin::Made(0, 1), &[Spot::Before(0, 1, Var::Made)]),
-    Row::Starts(Origin::Made(0, 2), &[]),
-    Row::Starts(
-        Origin::Fault(0, 3, 2),
-        &[Spot::Before(0, 3, Var::Raised(2))],
-    ),
-    Row::Starts(Origin::Fault(0, 2, 1), &[]),
-    Row::Starts(Origin::Text(0), &[Spot::Before(0, 2, Var::Text(0))]),
-    Row::Starts(Origin::Text(1), &[]),
-    Row::Starts(Origin::Class(0), &[Spot::Before(0, 8, Var::Class(0))]),
-    Row::Stores(1, &[(0, 2, Var::Local(0), Var::Text(0))]),
-    Row::Stores(
-        0,
-        &[
-            (0, 3, Var::Local(3), Var::Local(0)),
-            (1, 2, Var::Local(1), Var::Local(0)),
-        ],
-    ),
-    Row::Stores(2, &[]),
-    Row::Stores(9, &[]),
-    Row::Class(
-        Origin::Fault(0, 3, 2),
-        Some("java.lang.ArrayStoreException"),
-    ),
-    Row::Class(Origin::Fault(0, 3, 3), None),
-];
+const OF_HEAP: &str = "node 0.8.k0 = yes
+node 0.8.t0 = no
+node 0.2!.t0 = no
+starts 0.1.new = 0.1.new
+starts 0.2.new = -
+starts 0.3.r2 = 0.3.r2
+starts 0.2.r1 = -
+starts t0 = 0.2.t0
+starts t1 = -
+starts k0 = 0.8.k0
+stores 1 = 0.2.l0 0.2.t0
+stores 0 = 0.3.l3 0.3.l0, 1.2.l1 1.2.l0
+stores 2 = -
+stores 9 = -
+class 0.3.r2 = java.lang.ArrayStoreException
+class 0.3.r3 = -";
 
 // A text that is only asked for its length has a class and no start node.
-const OF_TEXTS: [Row; 9] = [
-    Row::Node(Spot::Before(1, 0, Var::Text(0)), false),
-    Row::Node(Spot::Before(1, 1, Var::Text(0)), false),
-    Row::Node(Spot::Before(1, 2, Var::Text(0)), true),
-    Row::Node(Spot::InFlight(1, 3, Var::Text(0)), false),
-    Row::Starts(
-        Origin::Text(0),
-        &[
-            Spot::Before(0, 0, Var::Text(0)),
-            Spot::Before(1, 2, Var::Text(0)),
-            Spot::Before(1, 3, Var::Text(0)),
-            Spot::Before(1, 4, Var::Text(0)),
-            Spot::Before(1, 6, Var::Text(0)),
-        ],
-    ),
-    Row::Starts(Origin::Text(1), &[]),
-    Row::Class(Origin::Text(1), Some("java.lang.String")),
-    Row::Class(Origin::Text(2), None),
-    Row::Class(Origin::Class(0), None),
-];
+const OF_TEXTS: &str = "node 1.0.t0 = no
+node 1.1.t0 = no
+node 1.2.t0 = yes
+node 1.3!.t0 = no
+starts t0 = 0.0.t0 1.2.t0 1.3.t0 1.4.t0 1.6.t0
+starts t1 = -
+class t1 = java.lang.String
+class t2 = -
+class k0 = -";
 
 // An array has its elements, and each field of the class above all.
-const OF_OBJECTS: [Row; 24] = [
-    Row::Class(Origin::Made(0, 0), Some("java.lang.Object")),
-    Row::Class(Origin::Made(0, 1), Some("Sub")),
-    Row::Class(Origin::Made(0, 2), Some("java.lang.Object")),
-    Row::Class(Origin::Made(0, 3), None),
-    Row::Class(
-        Origin::Fault(0, 0, 3),
-        Some("java.lang.NegativeArraySizeException"),
-    ),
-    Row::Class(
-        Origin::Fault(0, 3, 0),
-        Some("java.lang.NullPointerException"),
-    ),
-    Row::Class(Origin::Text(0), Some("java.lang.String")),
-    Row::Class(Origin::Class(0), Some("java.lang.Class")),
-    Row::Field(Origin::Made(0, 0), 0, true),
-    Row::Field(Origin::Made(0, 0), 1, true),
-    Row::Field(Origin::Made(0, 0), 2, false),
-    Row::Field(Origin::Made(0, 1), 0, false),
-    Row::Field(Origin::Made(0, 1), 1, true),
-    Row::Field(Origin::Made(0, 1), 2, true),
-    Row::Field(Origin::Made(0, 1), 3, false),
-    Row::Field(Origin::Made(0, 2), 0, false),
-    Row::Field(Origin::Made(0, 2), 1, true),
-    Row::Field(Origin::Made(0, 2), 2, false),
-    Row::Field(Origin::Made(0, 3), 1, false),
-    Row::Field(Origin::Fault(0, 3, 0), 1, true),
-    Row::Field(Origin::Fault(0, 3, 0), 3, true),
-    Row::Field(Origin::Text(0), 1, true),
-    Row::Field(Origin::Text(0), 3, false),
-    Row::Field(Origin::Class(0), 9, false),
-];
+const OF_OBJECTS: &str = "class 0.0.new = java.lang.Object
+class 0.1.new = Sub
+class 0.2.new = java.lang.Object
+class 0.3.new = -
+class 0.0.r3 = java.lang.NegativeArraySizeException
+class 0.3.r0 = java.lang.NullPointerException
+class t0 = java.lang.String
+class k0 = java.lang.Class
+field 0.0.new 0 = yes
+field 0.0.new 1 = yes
+field 0.0.new 2 = no
+field 0.1.new 0 = no
+field 0.1.new 1 = yes
+field 0.1.new 2 = yes
+field 0.1.new 3 = no
+field 0.2.new 0 = no
+field 0.2.new 1 = yes
+field 0.2.new 2 = no
+field 0.3.new 1 = no
+field 0.3.r0 1 = yes
+field 0.3.r0 3 = yes
+field t0 1 = yes
+field t0 3 = no
+field k0 9 = no";
 
 // Each inner level has a variable, a site and a store into the level outside it.
-const OF_LEVELS: [Row; 17] = [
-    Row::Node(Spot::Before(0, 0, Var::Made), true),
-    Row::Node(Spot::Before(0, 0, Var::Nested(0)), false),
-    Row::Node(Spot::Before(0, 0, Var::Nested(1)), true),
-    Row::Node(Spot::Before(0, 0, Var::Nested(2)), false),
-    Row::Node(Spot::InFlight(0, 0, Var::Nested(1)), false),
-    Row::Node(Spot::Before(0, 1, Var::Nested(1)), false),
-    Row::Node(Spot::Before(0, 3, Var::Nested(1)), false),
-    Row::Node(Spot::Before(0, 4, Var::Nested(2)), true),
-    Row::Node(Spot::Before(0, 4, Var::Nested(3)), false),
-    Row::Node(Spot::Before(0, 4, Var::Raised(3)), true),
-    Row::Starts(
-        Origin::Inner(0, 0, 1),
-        &[Spot::Before(0, 0, Var::Nested(1))],
-    ),
-    Row::Starts(Origin::Inner(0, 0, 2), &[]),
-    Row::Stores(
-        0,
-        &[
-            (0, 0, Var::Made, Var::Nested(1)),
-            (0, 2, Var::Local(1), Var::Local(0)),
-            (0, 4, Var::Made, Var::Nested(1)),
-            (0, 4, Var::Nested(1), Var::Nested(2)),
-            (1, 2, Var::Local(1), Var::Local(0)),
-        ],
-    ),
-    Row::Class(Origin::Inner(0, 4, 2), Some("java.lang.Object")),
-    Row::Class(Origin::Inner(0, 3, 1), None),
-    Row::Field(Origin::Inner(0, 4, 2), 0, true),
-    Row::Field(Origin::Inner(0, 3, 1), 0, false),
-];
-
-const CASES: [Case; 6] = [
-    Case {
-        name: "frames",
-        text: FRAMES,
-        rows: &OF_FRAMES,
-    },
-    Case {
-        name: "dispatch",
-        text: DISPATCH,
-        rows: &OF_DISPATCH,
-    },
-    Case {
-        name: "heap",
-        text: HEAP,
-        rows: &OF_HEAP,
-    },
-    Case {
-        name: "texts",
-        text: TEXTS,
-        rows: &OF_TEXTS,
-    },
-    Case {
-        name: "objects",
-        text: OBJECTS,
-        rows: &OF_OBJECTS,
-    },
-    Case {
-        name: "levels",
-        text: LEVELS,
-        rows: &OF_LEVELS,
-    },
-];
+const OF_LEVELS: &str = "node 0.0.new = yes
+node 0.0.n0 = no
+node 0.0.n1 = yes
+node 0.0.n2 = no
+node 0.0!.n1 = no
+node 0.1.n1 = no
+node 0.3.n1 = no
+node 0.4.n2 = yes
+node 0.4.n3 = no
+node 0.4.r3 = yes
+starts 0.0.n1 = 0.0.n1
+starts 0.0.n2 = -
+stores 0 = 0.0.new 0.0.n1, 0.2.l1 0.2.l0, 0.4.new 0.4.n1, 0.4.n1 0.4.n2, 1.2.l1 1.2.l0
+class 0.4.n2 = java.lang.Object
+class 0.3.n1 = -
+field 0.4.n2 0 = yes
+field 0.3.n1 0 = no";
 
 #[test]
 fn nodes_and_sites(rt: HostRuntime) -> Result<(), Fail> {
-    for case in &CASES {
-        let name = case.name;
-        assert_eq!(rt; first_wrong(rt.alloc(), case)?, None, "{name}");
+    for (text, rows) in [
+        (FRAMES, OF_FRAMES),
+        (DISPATCH, OF_DISPATCH),
+        (HEAP, OF_HEAP),
+        (TEXTS, OF_TEXTS),
+        (OBJECTS, OF_OBJECTS),
+        (LEVELS, OF_LEVELS),
+    ] {
+        assert_eq!(rt; first_wrong(rt.alloc(), text, &Asked, rows)?, None);
     }
     Ok(())
 }

@@ -1,6 +1,4 @@
 //! Indexes of small codes, by hand.
-ghost use Rattle.std.specs.Prelude.{◌<◌, length};
-
 use jim_ast::{List, Mode};
 use link_indexes::{Indexes, MethodCode, Place};
 use link_rules::{Arg, Code};
@@ -87,76 +85,93 @@ const fn at(method: u32, index: u32) -> Place {
     Place { method, index }
 }
 
-#[test]
-fn callers(rt: HostRuntime) -> Result<(), Fail> {
-    let indexes = indexed(rt.alloc())?;
-    let found = [indexes.callers(0), indexes.callers(1), indexes.callers(2)];
-    let wanted: [&[Place]; 3] = [&[at(0, 5)], &[at(0, 5), at(1, 8)], &[]];
-    assert!(rt; found == wanted);
-    Ok(())
+// The indexes are made in one function and asked in another, since the prover goes over them at each way out of the function that owns them.
+fn have_callers(indexes: &Indexes) -> bool {
+    indexes.callers(0) == [at(0, 5)].as_slice()
+        && indexes.callers(1) == [at(0, 5), at(1, 8)].as_slice()
+        && indexes.callers(2).is_empty()
 }
 
-#[test]
-fn fields(rt: HostRuntime) -> Result<(), Fail> {
-    let indexes = indexed(rt.alloc())?;
-    let found = [
-        indexes.stores(0),
-        indexes.stores(1),
-        indexes.static_stores(3),
-        indexes.static_stores(1),
-    ];
-    let wanted: [&[Place]; 4] = [&[at(1, 4)], &[at(0, 1)], &[at(1, 1)], &[]];
-    assert!(rt; found == wanted);
-    Ok(())
+fn have_fields(indexes: &Indexes) -> bool {
+    indexes.stores(0) == [at(1, 4)].as_slice()
+        && indexes.stores(1) == [at(0, 1)].as_slice()
+        && indexes.static_stores(3) == [at(1, 1)].as_slice()
+        && indexes.static_stores(1).is_empty()
 }
 
-#[test]
-fn indexes_by_method(rt: HostRuntime) -> Result<(), Fail> {
-    let indexes = indexed(rt.alloc())?;
-    let found = [
-        indexes.returns(0),
-        indexes.returns(1),
-        indexes.returns(3),
-        indexes.raised(0),
-        indexes.raised(1),
-    ];
-    let wanted: [&[u32]; 5] = [&[6], &[], &[], &[1, 3, 5], &[3, 4, 5, 6, 8, 9]];
-    assert!(rt; found == wanted);
-    Ok(())
+fn have_methods(indexes: &Indexes) -> bool {
+    indexes.returns(0) == [6].as_slice()
+        && indexes.returns(1).is_empty()
+        && indexes.returns(3).is_empty()
+        && indexes.raised(0) == [1, 3, 5].as_slice()
+        && indexes.raised(1) == [3, 4, 5, 6, 8, 9].as_slice()
 }
 
-fn all_before(indexes: &Indexes, method: u32, wanted: &[&[u32]]) -> bool
-    requires { length wanted.now < 64 }
-{
-    for (index, before) in wanted.iter().enumerate() {
-        if indexes.before(method, index as u32) != *before {
+// The statements before each statement of a method, and before the one behind its last: with a blank between two, `-` for none, and a
+// bar between the lists.
+const BEFORE: [&str; 3] = [
+    "- | 0 | 1 4 | 2 | 3 | 2 | 5 | -",
+    "- | 0 | 1 | - | 2 | 2 4 | 5 | 6 | 7 | 8 | -",
+    "- | 0 | -",
+];
+
+// Whether the numbers are these, with a blank between two; `-` for none.
+fn are_numbers(numbers: &[u32], text: &str) -> bool {
+    if text == "-" {
+        return numbers.is_empty();
+    }
+    let mut count: usize = 0;
+    for part in text.split(' ') {
+        if numbers.get(count).copied() != part.parse::<u32>().ok() {
             return false;
         }
+        count = count.saturating_add(1);
+    }
+    count == numbers.len()
+}
+
+fn are_before(indexes: &Indexes, method: u32, wanted: &str) -> bool {
+    let mut index: u32 = 0;
+    for before in wanted.split(" | ") {
+        if !are_numbers(indexes.before(method, index), before) {
+            return false;
+        }
+        index = index.saturating_add(1);
     }
     true
 }
 
-// For each statement of each method, and for the one behind the last, those before it.
+fn have_before(indexes: &Indexes) -> bool {
+    are_before(indexes, 0, BEFORE[0])
+        && are_before(indexes, 1, BEFORE[1])
+        && are_before(indexes, 2, BEFORE[2])
+}
+
+// What isn't right of the indexes, if anything.
+fn wrong_of(indexes: &Indexes) -> Option<&'static str> {
+    if !have_callers(indexes) {
+        return Some("callers");
+    }
+    if !have_fields(indexes) {
+        return Some("fields");
+    }
+    if !have_methods(indexes) {
+        return Some("indexes by method");
+    }
+    if have_before(indexes) {
+        None
+    } else {
+        Some("statements before")
+    }
+}
+
+fn wrong(alloc: Global) -> Result<Option<&'static str>, AllocError> {
+    let indexes = indexed(alloc)?;
+    Ok(wrong_of(&indexes))
+}
+
 #[test]
-fn before(rt: HostRuntime) -> Result<(), Fail> {
-    let indexes = indexed(rt.alloc())?;
-    let looping: [&[u32]; 8] = [&[], &[0], &[1, 4], &[2], &[3], &[2], &[5], &[]];
-    let switching: [&[u32]; 11] = [
-        &[],
-        &[0],
-        &[1],
-        &[],
-        &[2],
-        &[2, 4],
-        &[5],
-        &[6],
-        &[7],
-        &[8],
-        &[],
-    ];
-    let short: [&[u32]; 3] = [&[], &[0], &[]];
-    assert!(rt; all_before(&indexes, 0, &looping));
-    assert!(rt; all_before(&indexes, 1, &switching));
-    assert!(rt; all_before(&indexes, 2, &short));
+fn indexes(rt: HostRuntime) -> Result<(), Fail> {
+    assert_eq!(rt; wrong(rt.alloc())?, None);
     Ok(())
 }

@@ -1,81 +1,21 @@
 //! The methods that are linked of small programs, and the first refusals of others, by hand.
-ghost use Rattle.link_rules.specs.Conditions.{IsRead};
-
-use jim_ast::{NoMemory, Program};
-use jim_link::{declares_named, link};
-use jim_prelude::PRELUDE;
+use jim_ast::NoMemory;
 use link_program::Linked;
-use link_rules::{Arg, Code, LinkError};
-use linked_text::{linked_of, program_of};
+use link_rules::{Arg, Code};
+use linked_text::{Rows, first_wrong, told_of};
 use std::alloc::Global;
 use std::test::Fail;
 
-// Adds the texts of the linked methods, a line each.
-fn put_methods(lines: &mut String, linked: &Linked) -> Result<(), NoMemory> {
-    for method in 0..linked.methods() {
-        lines.push_str(linked.method_text(method))?;
-        lines.push('\n')?;
-    }
-    Ok(())
-}
-
-// Adds a refusal by its number, its place and its index.
-fn put_refusal(lines: &mut String, error: &LinkError) -> Result<(), NoMemory> {
-    match error {
-        LinkError::Refused { kind, place, index } => {
-            write!(lines, "{} {} {}", kind.number(), place.as_str(), index)
-        }
-        LinkError::NoMemory => lines.push_str("no memory"),
-    }
-}
-
-// Adds the methods that are linked of two programs, from the class `Main` on, or why the first is refused.
-fn put_linked(
-    alloc: Global,
-    lines: &mut String,
-    input: &Program,
-    prelude: &Program,
-) -> Result<(), NoMemory>
-    requires input { IsRead input.now }
-    requires prelude { IsRead prelude.now }
-{
-    if !declares_named(prelude) {
-        return lines.push_str("not the nine classes");
-    }
-    match link(alloc, input, prelude, "Main") {
-        Ok(linked) => put_methods(lines, &linked),
-        Err(error) => put_refusal(lines, &error),
-    }
-}
-
-// The same of a program and the stand-ins.
-fn put_with_prelude(alloc: Global, lines: &mut String, input: &Program) -> Result<(), NoMemory>
-    requires { IsRead input.now }
-{
-    match program_of(alloc, PRELUDE) {
-        Some(prelude) => put_linked(alloc, lines, input, &prelude),
-        None => lines.push_str("the prelude is no program"),
-    }
-}
-
-// The same of a text.
-fn put_text(alloc: Global, lines: &mut String, text: &str) -> Result<(), NoMemory> {
-    match program_of(alloc, text) {
-        Some(input) => put_with_prelude(alloc, lines, &input),
-        None => lines.push_str("no program"),
-    }
-}
-
-fn told_of(alloc: Global, text: &str) -> Result<String, NoMemory> {
-    let mut lines = String::new(alloc);
-    put_text(alloc, &mut lines, text)?;
-    Ok(lines)
-}
-
-// Whether that is told of a text.
+// Whether these lines are told of a text, with `; ` between two.
 fn is_told(alloc: Global, text: &str, wanted: &str) -> Result<bool, NoMemory> {
-    let lines = told_of(alloc, text)?;
-    Ok(lines.as_str() == wanted)
+    let told = told_of(alloc, text)?;
+    let mut lines = told.as_str().lines();
+    for line in wanted.split("; ") {
+        if lines.next() != Some(line) {
+            return Ok(false);
+        }
+    }
+    Ok(lines.next().is_none())
 }
 
 const INHERITED: &str =
@@ -83,6 +23,16 @@ const INHERITED: &str =
 class C extends Z implements I { } class D implements I { java.lang.Object m() { java.lang.Object o; o = new B; return o; } } \
 class U { java.lang.Object m() { return null; } } class Main { static void main(java.lang.String[]) { I r; java.lang.Object x; r = new C; \
 x = interfaceinvoke r.<I: java.lang.Object m()>(); return; } }";
+
+const RUN_BY_INHERITED: &str =
+    "<Z: java.lang.Object m()>; <D: java.lang.Object m()>; <Main: void main(java.lang.String[])>; root";
+
+// An interface's call runs what a class inherits and what another one declares; nothing else is reached.
+#[test]
+fn reaches_what_calls_may_run(rt: HostRuntime) -> Result<(), Fail> {
+    assert!(rt; is_told(rt.alloc(), INHERITED, RUN_BY_INHERITED)?);
+    Ok(())
+}
 
 const WHOLE: &str = r#"public class Main extends java.lang.Object
 {
@@ -110,25 +60,12 @@ const WHOLE: &str = r#"public class Main extends java.lang.Object
     }
 }"#;
 
-const RUN_BY_INHERITED: &str =
-    "<Z: java.lang.Object m()>\n<D: java.lang.Object m()>\n<Main: void main(java.lang.String[])>\nroot\n";
-
-// An interface's call runs what a class inherits and what another one declares; nothing else is reached.
-#[test]
-fn reaches_what_calls_may_run(rt: HostRuntime) -> Result<(), Fail> {
-    assert!(rt; is_told(rt.alloc(), INHERITED, RUN_BY_INHERITED)?);
-    Ok(())
-}
-
 fn has_initializer(alloc: Global, text: &str) -> Result<bool, NoMemory> {
-    let lines = told_of(alloc, text)?;
+    let told = told_of(alloc, text)?;
+    let lines = told.as_str();
     Ok(
-        lines
-            .as_str()
-            .starts_with("<Main: void main(java.lang.String[])>\n")
-            && lines
-                .as_str()
-                .contains("<java.lang.System: void <clinit>()>\n"),
+        lines.starts_with("<Main: void main(java.lang.String[])>\n")
+            && lines.contains("<java.lang.System: void <clinit>()>\n"),
     )
 }
 
@@ -139,43 +76,38 @@ fn links_with_the_prelude(rt: HostRuntime) -> Result<(), Fail> {
     Ok(())
 }
 
-const REFUSALS: [(&str, &str); 5] = [
-    (
-        "class A { } class A { } class Main { static void main(java.lang.String[]) { return; } }",
-        "1 A 0",
-    ),
-    (
-        "class A extends B { } class Main { static void main(java.lang.String[]) { return; } }",
-        "2 A 0",
-    ),
-    (
-        "class A extends B { } class B extends A { } class Main { static void main(java.lang.String[]) { return; } }",
-        "3 A 0",
-    ),
-    ("class Main { }", "5  0"),
-    (
-        "class Main { static void main(java.lang.String[]) { } }",
-        "9 <Main: void main(java.lang.String[])> 0",
-    ),
-];
+// The first refusals of programs that the rules of the whole program refuse, and of one whose `main` has no statement. A row has a text, and behind ` => ` what is
+// told of it.
+const REFUSALS: &str =
+    "class A { } class A { } class Main { static void main(java.lang.String[]) { return; } } => 1 A 0
+class A extends B { } class Main { static void main(java.lang.String[]) { return; } } => 2 A 0
+class A extends B { } class B extends A { } class Main { static void main(java.lang.String[]) { return; } } => 3 A 0
+class Main { } => 5  0
+class Main { static void main(java.lang.String[]) { } } => 9 <Main: void main(java.lang.String[])> 0";
 
-// The first text of which something else is told.
-fn first_wrong(
+fn is_right(alloc: Global, row: &str) -> Result<bool, NoMemory> {
+    match row.split_once(" => ") {
+        Some((text, wanted)) => is_told(alloc, text, wanted),
+        None => Ok(false),
+    }
+}
+
+// The first row that isn't right.
+fn first_refusal_wrong(
     alloc: Global,
-    rows: &[(&'static str, &'static str)],
+    rows: &'static str,
 ) -> Result<Option<&'static str>, NoMemory> {
-    for (text, wanted) in rows {
-        if !is_told(alloc, text, wanted)? {
-            return Ok(Some(*text));
+    for row in rows.lines() {
+        if !is_right(alloc, row)? {
+            return Ok(Some(row));
         }
     }
     Ok(None)
 }
 
-// The first refusals of programs that the rules of the whole program refuse, and of one whose `main` has no statement.
 #[test]
 fn refuses(rt: HostRuntime) -> Result<(), Fail> {
-    assert_eq!(rt; first_wrong(rt.alloc(), &REFUSALS)?, None);
+    assert_eq!(rt; first_refusal_wrong(rt.alloc(), REFUSALS)?, None);
     Ok(())
 }
 
@@ -198,91 +130,52 @@ fn is_told_of_call(
     is_told(alloc, text.as_str(), wanted)
 }
 
-// The first classes and call of which something else is told.
-fn first_wrong_call(
-    alloc: Global,
-    rows: &[(&'static str, &'static str, &'static str)],
-) -> Result<Option<(&'static str, &'static str)>, NoMemory> {
-    for (classes, call, wanted) in rows {
-        if !is_told_of_call(alloc, classes, call, wanted)? {
-            return Ok(Some((*classes, *call)));
+fn is_call_right(alloc: Global, row: &str) -> Result<bool, NoMemory> {
+    let Some((asked, wanted)) = row.split_once(" => ") else {
+        return Ok(false);
+    };
+    match asked.split_once(" | ") {
+        Some((classes, call)) => is_told_of_call(alloc, classes, call, wanted),
+        None => Ok(false),
+    }
+}
+
+// The first row that isn't right.
+fn first_call_wrong(alloc: Global, rows: &'static str) -> Result<Option<&'static str>, NoMemory> {
+    for row in rows.lines() {
+        if !is_call_right(alloc, row)? {
+            return Ok(Some(row));
         }
     }
     Ok(None)
 }
 
-const RUN: [(&str, &str, &str); 6] = [
-    (
-        "class C implements I, J { }",
-        "interfaceinvoke r.<I: java.lang.Object m()>()",
-        "<J: java.lang.Object m()>\n<Main: void main(java.lang.String[])>\nroot\n",
-    ),
-    (
-        "class C implements J, I { }",
-        "specialinvoke r.<C: java.lang.Object m()>()",
-        "<J: java.lang.Object m()>\n<Main: void main(java.lang.String[])>\nroot\n",
-    ),
-    (
-        "class C implements I, L { }",
-        "interfaceinvoke r.<I: java.lang.Object m()>()",
-        "<Main: void main(java.lang.String[])>\nroot\n",
-    ),
-    (
-        "class C implements L, J { }",
-        "virtualinvoke r.<C: java.lang.Object m()>()",
-        "<J: java.lang.Object m()>\n<Main: void main(java.lang.String[])>\nroot\n",
-    ),
-    (
-        "class C implements I, K { java.lang.Object m() { return null; } }",
-        "interfaceinvoke r.<I: java.lang.Object m()>()",
-        "<C: java.lang.Object m()>\n<Main: void main(java.lang.String[])>\nroot\n",
-    ),
-    (
-        "abstract class D implements I, K { } class C extends D { java.lang.Object m() { return null; } }",
-        "virtualinvoke r.<D: java.lang.Object m()>()",
-        "<C: java.lang.Object m()>\n<Main: void main(java.lang.String[])>\nroot\n",
-    ),
-];
+// A method of an interface runs where the classes have none: the lowest, if it has a body. A row has classes, a call, and what is told of them.
+const RUN: &str =
+    "class C implements I, J { } | interfaceinvoke r.<I: java.lang.Object m()>() => <J: java.lang.Object m()>; <Main: void main(java.lang.String[])>; root
+class C implements J, I { } | specialinvoke r.<C: java.lang.Object m()>() => <J: java.lang.Object m()>; <Main: void main(java.lang.String[])>; root
+class C implements I, L { } | interfaceinvoke r.<I: java.lang.Object m()>() => <Main: void main(java.lang.String[])>; root
+class C implements L, J { } | virtualinvoke r.<C: java.lang.Object m()>() => <J: java.lang.Object m()>; <Main: void main(java.lang.String[])>; root
+class C implements I, K { java.lang.Object m() { return null; } } | interfaceinvoke r.<I: java.lang.Object m()>() => <C: java.lang.Object m()>; <Main: void main(java.lang.String[])>; root
+abstract class D implements I, K { } class C extends D { java.lang.Object m() { return null; } } | virtualinvoke r.<D: java.lang.Object m()>() => <C: java.lang.Object m()>; <Main: void main(java.lang.String[])>; root";
 
-// A method of an interface runs where the classes have none: the lowest, if it has a body.
 #[test]
 fn runs_methods_of_interfaces(rt: HostRuntime) -> Result<(), Fail> {
-    assert_eq!(rt; first_wrong_call(rt.alloc(), &RUN)?, None);
+    assert_eq!(rt; first_call_wrong(rt.alloc(), RUN)?, None);
     Ok(())
 }
 
-const SEVERAL: [(&str, &str, &str); 5] = [
-    (
-        "class C implements I, K { }",
-        "interfaceinvoke r.<I: java.lang.Object m()>()",
-        "23 <Main: void main(java.lang.String[])> 0",
-    ),
-    (
-        "class D implements K, J { } class C extends D { java.lang.Object m() { return null; } }",
-        "virtualinvoke r.<D: java.lang.Object m()>()",
-        "23 <Main: void main(java.lang.String[])> 0",
-    ),
-    (
-        "abstract class D implements I, K { } class C extends D { java.lang.Object m() { return null; } }",
-        "specialinvoke r.<D: java.lang.Object m()>()",
-        "23 <Main: void main(java.lang.String[])> 0",
-    ),
-    (
-        "class C implements L { }",
-        "specialinvoke r.<C: java.lang.Object m()>()",
-        "20 <Main: void main(java.lang.String[])> 0",
-    ),
-    (
-        "class C implements I { }",
-        "staticinvoke <C: void s()>()",
-        "20 <Main: void main(java.lang.String[])> 0",
-    ),
-];
-
 // Two such methods, of which none is below the other, are refused where a call may look one up. A static call finds none of an interface.
+const SEVERAL: &str =
+    "class C implements I, K { } | interfaceinvoke r.<I: java.lang.Object m()>() => 23 <Main: void main(java.lang.String[])> 0
+class D implements K, J { } class C extends D { java.lang.Object m() { return null; } } | virtualinvoke r.<D: java.lang.Object m()>() => 23 <Main: void main(java.lang.String[])> 0
+abstract class D implements I, K { } class C extends D { java.lang.Object m() { return null; } } | specialinvoke r.<D: java.lang.Object m()>() => 23 <Main: void main(java.lang.String[])> 0
+class C implements L { } | specialinvoke r.<C: java.lang.Object m()>() => 20 <Main: void main(java.lang.String[])> 0
+class C implements I { } | staticinvoke <C: void s()>() => 20 <Main: void main(java.lang.String[])> 0";
+
 #[test]
 fn refuses_several_methods_of_interfaces(rt: HostRuntime) -> Result<(), Fail> {
-    assert_eq!(rt; first_wrong_call(rt.alloc(), &SEVERAL)?, None);
+    assert_eq!(rt; first_call_wrong(rt.alloc(), SEVERAL)?, None);
     Ok(())
 }
 
@@ -290,7 +183,7 @@ const OWN_SYSTEM: &str = "class java.lang.System { static void m() { return; } }
 class Main { static void main(java.lang.String[]) { staticinvoke <java.lang.System: void m()>(); return; } }";
 
 const RUN_BY_OWN_SYSTEM: &str =
-    "<java.lang.System: void m()>\n<Main: void main(java.lang.String[])>\nroot\n";
+    "<java.lang.System: void m()>; <Main: void main(java.lang.String[])>; root";
 
 // A class of the input takes the place of the prelude's.
 #[test]
@@ -332,15 +225,20 @@ fn uses_constants(linked: &Linked) -> bool {
             .all(|(code, wanted)| copies(code, wanted))
 }
 
-fn numbers_constants(alloc: Global) -> bool {
-    match linked_of(alloc, CONSTANTS) {
-        Some(linked) => uses_constants(&linked),
-        None => false,
+struct Numbers;
+
+impl Rows for Numbers {
+    fn is_right(&self, _: Global, linked: &Linked, _: &str) -> Result<bool, NoMemory> {
+        Ok(uses_constants(linked))
     }
 }
 
-// Constants have numbers in the order of first use, texts and classes each from 0.
+// Numbers have numbers in the order of first use, texts and classes each from 0.
 #[test]
-fn constants(rt: HostRuntime) {
-    assert!(rt; numbers_constants(rt.alloc()));
+fn constants(rt: HostRuntime) -> Result<(), Fail> {
+    assert_eq!(rt;
+        first_wrong(rt.alloc(), CONSTANTS, &Numbers, "numbers of constants")?,
+        None
+    );
+    Ok(())
 }

@@ -1,7 +1,8 @@
-//! Linked programs from their texts, and short words for what rows say of them. Tests over whole programs stand on it.
+//! Linked programs from their texts, rows of tests about them, and nodes, edges and sites from short texts. Tests over whole programs stand on it.
 #![tactic(auto)]
 
 mod reading;
-pub mod spots;
+mod rows;
+pub mod spelled;
 
-pub use reading::{linked_of, program_of};
+pub use rows::{Rows, first_wrong, told_of};

@@ -9,144 +9,48 @@ use super::programs::{COPIES, PASSED_ON, THREE_CELLS, TWO_BOXES};
 use demand_set::{Demand, DemandError, Reach, demand};
 use jim_ast::NoMemory;
 use link_program::Linked;
-use link_sites::{Place, Site};
-use linked_text::linked_of;
-use linked_text::spots::{Origin, Spot, before, node, site};
+use link_sites::Site;
+use linked_text::spelled::{is_string, node, site};
+use linked_text::{Rows, first_wrong};
 use spds_nodes::is_node;
-use spds_rules::{Node, Var};
+use spds_rules::Node;
 use spds_solve::{Met, Solved, solve};
 use std::alloc::{AllocError, Global};
 use std::test::Fail;
 
-// The sites of an object and of what it is stored into, and the calls of the string, each by its method and its statement, the innermost first.
-struct Meeting {
-    object: Origin,
-    base: Origin,
-    string: &'static [(u32, u32)],
-}
+// A query of each program. A row has its target and what is found, behind ` | `:
+// - `meets`: all that meets: the object, what it is stored into, and the calls of the string, the innermost first;
+// - `shares`: another node, and the one site that it and the target may both hold under one call string, `-` if there is none;
+// - `holds`: so many nodes are demanded, and the tables of all sites hold so many facts. No contract says how many.
 
-// What is found of a query.
-enum Row {
-    // All that meets.
-    Meets(&'static [Meeting]),
-    // Another node, and the one site that it and the target may both hold under one call string, if there is one.
-    Shares(Spot, Option<Origin>),
-    // So many nodes are demanded, and the tables of all sites hold so many facts. No contract says how many.
-    Holds(usize, usize),
-}
-
-// A query of a program: its target, and what is found.
-struct Case {
-    name: &'static str,
-    text: &'static str,
-    target: Spot,
-    rows: &'static [Row],
-}
-
-// `x` came out of the first box, into which `o` was put. `p` was put into the second box.
-const OF_TWO_BOXES: [Row; 3] = [
-    Row::Meets(&[
-        Meeting {
-            object: Origin::Made(2, 2),
-            base: Origin::Made(2, 0),
-            string: &[(2, 4), (3, 3)],
-        },
-        Meeting {
-            object: Origin::Made(2, 3),
-            base: Origin::Made(2, 1),
-            string: &[(2, 5), (3, 3)],
-        },
-    ]),
-    Row::Shares(Spot::Before(2, 4, Var::Local(2)), Some(Origin::Made(2, 2))),
-    Row::Shares(Spot::Before(2, 5, Var::Local(3)), None),
-];
+// Behind the last call of `main`. `x` came out of the first box, into which `o` was put. `p` was put into the second box.
+const OF_TWO_BOXES: &str = "2.8.l4 | meets 2.2.new 2.0.new 2.4,3.3; 2.3.new 2.1.new 2.5,3.3
+2.8.l4 | shares 2.4.l2 2.2.new
+2.8.l4 | shares 2.5.l3 -";
 
 // The first cell meets the third as well, since it is wherever the second is.
-const OF_THREE_CELLS: [Row; 1] = [Row::Meets(&[
-    Meeting {
-        object: Origin::Made(0, 0),
-        base: Origin::Made(0, 1),
-        string: &[(1, 3)],
-    },
-    Meeting {
-        object: Origin::Made(0, 1),
-        base: Origin::Made(0, 3),
-        string: &[(1, 3)],
-    },
-    Meeting {
-        object: Origin::Made(0, 0),
-        base: Origin::Made(0, 3),
-        string: &[(1, 3)],
-    },
-])];
+const OF_THREE_CELLS: &str =
+    "0.8.l5 | meets 0.0.new 0.1.new 1.3; 0.1.new 0.3.new 1.3; 0.0.new 0.3.new 1.3";
 
-// `o` comes to the second box only when what is in the first one is known. Until then no call string of `set` has both, though all go through `mid`. A call
-// system keeps no fields, so the first box itself may be what comes out of it, and goes the same way.
-const OF_PASSED_ON: [Row; 1] = [Row::Meets(&[
-    Meeting {
-        object: Origin::Made(2, 2),
-        base: Origin::Made(2, 0),
-        string: &[(1, 2), (2, 3), (3, 3)],
-    },
-    Meeting {
-        object: Origin::Made(2, 2),
-        base: Origin::Made(2, 1),
-        string: &[(1, 2), (2, 5), (3, 3)],
-    },
-    Meeting {
-        object: Origin::Made(2, 0),
-        base: Origin::Made(2, 1),
-        string: &[(1, 2), (2, 5), (3, 3)],
-    },
-    Meeting {
-        object: Origin::Made(2, 0),
-        base: Origin::Made(2, 0),
-        string: &[(1, 2), (2, 5), (3, 3)],
-    },
-])];
+// Before the return of `main`. `o` comes to the second box only when what is in the first one is known. Until then no call string of `set` has both, though
+// all go through `mid`. A call system keeps no fields, so the first box itself may be what comes out of it, and goes the same way.
+const OF_PASSED_ON: &str =
+    "2.7.l4 | meets 2.2.new 2.0.new 1.2,2.3,3.3; 2.2.new 2.1.new 1.2,2.5,3.3; 2.0.new 2.1.new 1.2,2.5,3.3; 2.0.new 2.0.new 1.2,2.5,3.3";
 
-const CASES: [Case; 4] = [
-    // Behind the last call of `main`.
-    Case {
-        name: "two boxes",
-        text: TWO_BOXES,
-        target: Spot::Before(2, 8, Var::Local(4)),
-        rows: &OF_TWO_BOXES,
-    },
-    Case {
-        name: "three cells",
-        text: THREE_CELLS,
-        target: Spot::Before(0, 8, Var::Local(5)),
-        rows: &OF_THREE_CELLS,
-    },
-    // Before the return of `main`.
-    Case {
-        name: "passed on",
-        text: PASSED_ON,
-        target: Spot::Before(2, 7, Var::Local(4)),
-        rows: &OF_PASSED_ON,
-    },
-    // The object, as it is made, and its copy in each of four locals share one cell in each kind of system.
-    Case {
-        name: "a chain of copies",
-        text: COPIES,
-        target: Spot::Before(0, 4, Var::Local(3)),
-        rows: &[Row::Holds(5, 2)],
-    },
-];
+// The object, as it is made, and its copy in each of four locals share one cell in each kind of system.
+const OF_COPIES: &str = "0.4.l3 | holds 5 2";
 
-fn string_is(string: &[Place], calls: &[(u32, u32)]) -> bool {
-    string.len() == calls.len()
-        && string
-            .iter()
-            .zip(calls)
-            .all(|(place, call)| *place == before(call.0, call.1))
-}
-
-fn is_meeting(sites: &[Site], met: &Met, meeting: &Meeting) -> bool {
-    sites.get(met.object as usize) == Some(&site(meeting.object))
-        && sites.get(met.base as usize) == Some(&site(meeting.base))
-        && string_is(met.string.as_slice(), meeting.string)
+// Whether the meet is this one.
+fn is_meeting(sites: &[Site], met: &Met, text: &str) -> bool {
+    let Some((object, rest)) = text.split_once(' ') else {
+        return false;
+    };
+    let Some((base, string)) = rest.split_once(' ') else {
+        return false;
+    };
+    site(object).as_ref() == sites.get(met.object as usize)
+        && site(base).as_ref() == sites.get(met.base as usize)
+        && is_string(met.string.as_slice(), string)
 }
 
 // Whether the meet is told as one, and isn't with its object and its base reversed, if these are two.
@@ -156,18 +60,16 @@ fn is_told(solved: &Solved, met: &Met) -> bool {
 }
 
 // Whether the meets are these, in any order.
-fn are_these(sites: &[Site], solved: &Solved, meetings: &[Meeting]) -> bool {
+fn are_these(sites: &[Site], solved: &Solved, wanted: &str) -> bool {
     let meets = solved.meets();
-    meets.len() == meetings.len()
-        && meetings.iter().all(|meeting| meets.iter().any(|met| is_meeting(sites, met, meeting)))
-        && meets.iter().all(|met| is_told(solved, met))
-}
-
-fn is_the_shared(at: Site, shared: Option<Origin>) -> bool {
-    match shared {
-        Some(origin) => at == site(origin),
-        None => false,
+    let mut count: usize = 0;
+    for text in wanted.split("; ") {
+        if !meets.iter().any(|met| is_meeting(sites, met, text)) {
+            return false;
+        }
+        count = count.saturating_add(1);
     }
+    meets.len() == count && meets.iter().all(|met| is_told(solved, met))
 }
 
 // Whether of all sites just the shared one is at both nodes, and under one call string.
@@ -176,14 +78,14 @@ fn are_shared(
     sites: &[Site],
     solved: &Solved,
     nodes: (u32, u32),
-    shared: Option<Origin>,
+    shared: Option<Site>,
 ) -> Result<bool, NoMemory> {
     let (first, second) = nodes;
     for (place, at) in sites.iter().enumerate() {
         let Ok(number) = u32::try_from(place) else {
             return Ok(false);
         };
-        let is_shared = is_the_shared(*at, shared);
+        let is_shared = shared == Some(*at);
         let is_held = solved.holds(number, first) && solved.holds(number, second);
         if is_held != is_shared {
             return Ok(false);
@@ -195,43 +97,51 @@ fn are_shared(
     Ok(true)
 }
 
+// Whether the target and the other node share this site.
+fn shares(
+    alloc: Global,
+    found: &Demand,
+    solved: &Solved,
+    target: Node,
+    wanted: &str,
+) -> Result<bool, NoMemory> {
+    let Some((other, shared)) = wanted.split_once(' ') else {
+        return Ok(false);
+    };
+    let Some(other) = node(other) else {
+        return Ok(false);
+    };
+    let shared = site(shared);
+    if shared.is_none() && !wanted.ends_with(" -") {
+        return Ok(false);
+    }
+    match (found.number_of(target), found.number_of(other)) {
+        (Some(first), Some(second)) => {
+            are_shared(alloc, found.sites(), solved, (first, second), shared)
+        }
+        _ => Ok(false),
+    }
+}
+
+// Whether so many nodes are demanded, and there are so many facts.
+fn holds(alloc: Global, found: &Demand, solved: &Solved, wanted: &str) -> Result<bool, NoMemory> {
+    let told = format!(in alloc; "{} {}", found.nodes().len(), solved.size().facts)?;
+    Ok(told.as_str() == wanted)
+}
+
 fn is_found(
     alloc: Global,
     found: &Demand,
     solved: &Solved,
     target: Node,
-    row: &Row,
+    wanted: &str,
 ) -> Result<bool, NoMemory> {
-    match row {
-        Row::Meets(meetings) => Ok(are_these(found.sites(), solved, meetings)),
-        Row::Shares(spot, shared) => {
-            let (Some(first), Some(second)) = (
-                found.number_of(target),
-                found.number_of(node(*spot)),
-            ) else {
-                return Ok(false);
-            };
-            are_shared(alloc, found.sites(), solved, (first, second), *shared)
-        }
-        Row::Holds(nodes, facts) => {
-            Ok(found.nodes().len() == *nodes && solved.size().facts == *facts)
-        }
+    match wanted.split_once(' ') {
+        Some(("meets", wanted)) => Ok(are_these(found.sites(), solved, wanted)),
+        Some(("shares", wanted)) => shares(alloc, found, solved, target, wanted),
+        Some(("holds", wanted)) => holds(alloc, found, solved, wanted),
+        _ => Ok(false),
     }
-}
-
-fn are_found(
-    alloc: Global,
-    found: &Demand,
-    solved: &Solved,
-    target: Node,
-    rows: &[Row],
-) -> Result<bool, NoMemory> {
-    for row in rows {
-        if !is_found(alloc, found, solved, target, row)? {
-            return Ok(false);
-        }
-    }
-    Ok(true)
 }
 
 // What is owned is lent on, each by a function of its own, since the prover goes over it at each way out of the function that owns it.
@@ -240,41 +150,53 @@ fn is_solved(
     linked: &Linked,
     found: &Demand,
     target: Node,
-    rows: &[Row],
+    wanted: &str,
 ) -> Result<bool, NoMemory>
     requires well { IsWellLinked linked.now }
     requires demanded { (q : Asked) × IsDemandOf linked.now q found.now }
 {
     match solve(alloc, linked, found) {
-        Ok(solved) => are_found(alloc, found, &solved, target, rows),
+        Ok(solved) => is_found(alloc, found, &solved, target, wanted),
         Err(error) => Err(error),
     }
 }
 
-fn is_demanded(alloc: Global, linked: &Linked, target: Node, rows: &[Row]) -> Result<bool, NoMemory>
+fn is_demanded(alloc: Global, linked: &Linked, target: Node, wanted: &str) -> Result<bool, NoMemory>
     requires well { IsWellLinked linked.now }
     requires target { IsNode linked.now target }
 {
     match demand(alloc, linked, &[target], Reach::Plain, u32::MAX) {
-        Ok(found) => is_solved(alloc, linked, &found, target, rows),
+        Ok(found) => is_solved(alloc, linked, &found, target, wanted),
         Err(DemandError::OverBudget { .. }) => Ok(false),
         Err(DemandError::NoMemory) => Err(AllocError),
     }
 }
 
-fn is_right(alloc: Global, case: &Case) -> Result<bool, NoMemory> {
-    let target = node(case.target);
-    match linked_of(alloc, case.text) {
-        Some(linked) if is_node(&linked, target) => is_demanded(alloc, &linked, target, case.rows),
-        _ => Ok(false),
+struct Queries;
+
+impl Rows for Queries {
+    fn is_right(&self, alloc: Global, linked: &Linked, row: &str) -> Result<bool, NoMemory>
+        requires { IsWellLinked linked.now }
+    {
+        let Some((target, wanted)) = row.split_once(" | ") else {
+            return Ok(false);
+        };
+        match node(target) {
+            Some(target) if is_node(linked, target) => is_demanded(alloc, linked, target, wanted),
+            _ => Ok(false),
+        }
     }
 }
 
 #[test]
 fn meets_answers_and_cells(rt: HostRuntime) -> Result<(), Fail> {
-    for case in &CASES {
-        let name = case.name;
-        assert!(rt; is_right(rt.alloc(), case)?, "{name}");
+    for (text, rows) in [
+        (TWO_BOXES, OF_TWO_BOXES),
+        (THREE_CELLS, OF_THREE_CELLS),
+        (PASSED_ON, OF_PASSED_ON),
+        (COPIES, OF_COPIES),
+    ] {
+        assert_eq!(rt; first_wrong(rt.alloc(), text, &Queries, rows)?, None);
     }
     Ok(())
 }

@@ -7,7 +7,7 @@ ghost use Rattle.report_text.specs.Answers.{IsQueryNode};
 use jim_ast::NoMemory;
 use link_program::Linked;
 use link_sites::{Place, Site};
-use linked_text::linked_of;
+use linked_text::{Rows, first_wrong};
 use report_text::{alias_text, answer_text, place_text, site_text};
 use spds_rules::{Node, Var};
 use std::alloc::Global;
@@ -200,18 +200,21 @@ fn push_texts(alloc: Global, lines: &mut Vec<u8>, linked: &Linked) -> Result<(),
     push_answers(alloc, lines, linked)
 }
 
-// The texts of the program above; nothing where there is none.
-fn put_all(alloc: Global, lines: &mut Vec<u8>) -> Result<(), NoMemory> {
-    match linked_of(alloc, PROGRAM) {
-        Some(linked) => push_texts(alloc, lines, &linked),
-        None => Ok(()),
+struct Texts;
+
+impl Rows for Texts {
+    fn is_right(&self, alloc: Global, linked: &Linked, _: &str) -> Result<bool, NoMemory> {
+        let mut lines = Vec::new(alloc);
+        push_texts(alloc, &mut lines, linked)?;
+        Ok(lines.as_slice() == TEXTS.as_bytes())
     }
 }
 
 #[test]
 fn tells_places_sites_and_answers(rt: HostRuntime) -> Result<(), Fail> {
-    let mut lines = Vec::new(rt.alloc());
-    put_all(rt.alloc(), &mut lines)?;
-    assert_eq!(rt; lines.as_slice(), TEXTS.as_bytes());
+    assert_eq!(rt;
+        first_wrong(rt.alloc(), PROGRAM, &Texts, "all texts")?,
+        None
+    );
     Ok(())
 }

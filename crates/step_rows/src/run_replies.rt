@@ -4,7 +4,7 @@ ghost use Rattle.std.specs.Char.{IsAsciiDigit};
 
 use jim_ast::NoMemory;
 use link_program::Linked;
-use linked_text::linked_of;
+use linked_text::{Rows, first_wrong};
 use run_report::run_text;
 use std::alloc::Global;
 use std::test::Fail;
@@ -21,7 +21,18 @@ fn are_digits(characters: &[u8]) -> bool
     characters.iter().all(|c| c.is_ascii_digit())
 }
 
-// Whether that is the reply about a run of a program.
+// Whether the text has these lines, with `; ` between two.
+fn has_lines(text: &str, wanted: &str) -> bool {
+    let mut lines = text.lines();
+    for line in wanted.split("; ") {
+        if lines.next() != Some(line) {
+            return false;
+        }
+    }
+    lines.next().is_none() && text.ends_with('\n')
+}
+
+// Whether those are the lines of the reply about a run of a program.
 fn is_told(
     alloc: Global,
     linked: &Linked,
@@ -34,79 +45,45 @@ fn is_told(
         return Ok(false);
     }
     let text = run_text(alloc, linked, "Main", steps, characters)?;
-    Ok(text.as_slice() == wanted.as_bytes())
-}
-
-// The steps, the digits of a run, and the reply about it.
-type Row = (u32, &'static str, &'static str);
-
-// The first run about which something else is told.
-fn first_wrong_of(
-    alloc: Global,
-    linked: &Linked,
-    rows: &[Row],
-) -> Result<Option<(u32, &'static str)>, NoMemory> {
-    for (steps, digits, wanted) in rows {
-        if !is_told(alloc, linked, *steps, digits, wanted)? {
-            return Ok(Some((*steps, *digits)));
-        }
-    }
-    Ok(None)
-}
-
-// The same of the program above; where it isn't linked, no steps by its text.
-fn first_wrong(alloc: Global, rows: &[Row]) -> Result<Option<(u32, &'static str)>, NoMemory> {
-    match linked_of(alloc, PROGRAM) {
-        Some(linked) => first_wrong_of(alloc, &linked, rows),
-        None => Ok(Some((0, PROGRAM))),
+    match str::from_utf8(&text) {
+        Ok(text) => Ok(has_lines(text, wanted)),
+        Err(_) => Ok(false),
     }
 }
 
-const STANDS: [Row; 4] = [
-    (0, "", "run Main\nsteps 0\nend running\nat root 0\n"),
-    (
-        3,
-        "",
-        "run Main\nsteps 3\nend running\nat root 3\nlocal text root 0 new java.lang.String\nlocal args root 1 new java.lang.String[]\n",
-    ),
-    (
-        10,
-        "",
-        "run Main\nsteps 10\nend running\nat <Main: void main(java.lang.String[])> 6\nlocal x <Main: void main(java.lang.String[])> 0 new A\n\
-local n number\nlocal t text \"a b\"\nlocal c class \"LA;\"\nlocal o null\nlocal y <Main: void main(java.lang.String[])> 4 new A[]\n",
-    ),
-    (
-        6,
-        "007",
-        "run Main\nsteps 6\nend running\nat <Main: void main(java.lang.String[])> 1 raised <Main: void main(java.lang.String[])> 1 raise \
-java.lang.ArithmeticException\nlocal x <Main: void main(java.lang.String[])> 0 new A\n",
-    ),
-];
-
-#[test]
-fn tells_where_a_run_stands(rt: HostRuntime) -> Result<(), Fail> {
-    assert_eq!(rt; first_wrong(rt.alloc(), &STANDS)?, None);
-    Ok(())
+// A row has the steps and the digits of a run, `-` for none, and the lines of the reply behind ` = `.
+fn parts(row: &str) -> Option<(u32, &str, &str)> {
+    let (asked, wanted) = row.split_once(" = ")?;
+    let (steps, digits) = asked.split_once(' ')?;
+    Some((steps.parse::<u32>().ok()?, digits, wanted))
 }
 
-const ENDED: [Row; 5] = [
-    (13, "0000", "run Main\nsteps 13\nend ended\n"),
-    (1_000_000, "", "run Main\nsteps 13\nend ended\n"),
-    (12, "000019", "run Main\nsteps 12\nend ill-typed\n"),
-    (
-        4,
-        "03",
-        "run Main\nsteps 4\nend uncaught root 2 raise java.lang.ArrayStoreException\n",
-    ),
-    (
-        50,
-        "001",
-        "run Main\nsteps 8\nend uncaught <Main: void main(java.lang.String[])> 1 raise java.lang.ArithmeticException\n",
-    ),
-];
+struct Replies;
+
+impl Rows for Replies {
+    fn is_right(&self, alloc: Global, linked: &Linked, row: &str) -> Result<bool, NoMemory> {
+        let Some((steps, digits, wanted)) = parts(row) else {
+            return Ok(false);
+        };
+        let digits = if digits == "-" { "" } else { digits };
+        is_told(alloc, linked, steps, digits, wanted)
+    }
+}
+
+const ROWS: &str = r#"# Where it stands.
+0 - = run Main; steps 0; end running; at root 0
+3 - = run Main; steps 3; end running; at root 3; local text root 0 new java.lang.String; local args root 1 new java.lang.String[]
+10 - = run Main; steps 10; end running; at <Main: void main(java.lang.String[])> 6; local x <Main: void main(java.lang.String[])> 0 new A; local n number; local t text "a b"; local c class "LA;"; local o null; local y <Main: void main(java.lang.String[])> 4 new A[]
+6 007 = run Main; steps 6; end running; at <Main: void main(java.lang.String[])> 1 raised <Main: void main(java.lang.String[])> 1 raise java.lang.ArithmeticException; local x <Main: void main(java.lang.String[])> 0 new A
+# How it has ended.
+13 0000 = run Main; steps 13; end ended
+1000000 - = run Main; steps 13; end ended
+12 000019 = run Main; steps 12; end ill-typed
+4 03 = run Main; steps 4; end uncaught root 2 raise java.lang.ArrayStoreException
+50 001 = run Main; steps 8; end uncaught <Main: void main(java.lang.String[])> 1 raise java.lang.ArithmeticException"#;
 
 #[test]
-fn tells_how_a_run_has_ended(rt: HostRuntime) -> Result<(), Fail> {
-    assert_eq!(rt; first_wrong(rt.alloc(), &ENDED)?, None);
+fn tells_where_a_run_stands_and_how_it_has_ended(rt: HostRuntime) -> Result<(), Fail> {
+    assert_eq!(rt; first_wrong(rt.alloc(), PROGRAM, &Replies, ROWS)?, None);
     Ok(())
 }

@@ -6,7 +6,7 @@ use jim_ast::NoMemory;
 use jim_step::{Machine, start};
 use link_program::Linked;
 use link_sites::{Place, Site};
-use linked_text::linked_of;
+use linked_text::{Rows, first_wrong};
 use std::alloc::Global;
 use std::test::Fail;
 use step_rules::{Moved, Slot, Value};
@@ -134,24 +134,32 @@ fn run_linked(
     run(alloc, &mut machine, steps, digits)
 }
 
-// The run of a text.
-fn run_text(alloc: Global, text: &str, steps: u32, digits: &str) -> Result<String, NoMemory> {
-    match linked_of(alloc, text) {
-        Some(linked) => run_linked(alloc, &linked, steps, digits.as_bytes()),
-        None => String::from_str(alloc, "not linked"),
+// Whether that is told: all of it, or how it begins and ends, with two dots between.
+fn agrees(told: &str, wanted: &str) -> bool {
+    match wanted.split_once(" .. ") {
+        Some((first, last)) => told.starts_with(first) && told.ends_with(last),
+        None => told == wanted,
     }
 }
 
-// What is told of a run, beside what it must be.
-fn agrees(
-    alloc: Global,
-    text: &str,
-    steps: u32,
-    digits: &str,
-    wanted: &str,
-) -> Result<bool, NoMemory> {
-    let told = run_text(alloc, text, steps, digits)?;
-    Ok(told.as_str() == wanted)
+// A row has the steps and the digits of a run, `-` for none, and what is told of it behind ` = `.
+fn parts(row: &str) -> Option<(u32, &str, &str)> {
+    let (asked, wanted) = row.split_once(" = ")?;
+    let (steps, digits) = asked.split_once(' ')?;
+    Some((steps.parse::<u32>().ok()?, digits, wanted))
+}
+
+struct Runs;
+
+impl Rows for Runs {
+    fn is_right(&self, alloc: Global, linked: &Linked, row: &str) -> Result<bool, NoMemory> {
+        let Some((steps, digits, wanted)) = parts(row) else {
+            return Ok(false);
+        };
+        let digits = if digits == "-" { "" } else { digits };
+        let told = run_linked(alloc, linked, steps, digits.as_bytes())?;
+        Ok(agrees(told.as_str(), wanted))
+    }
 }
 
 const LOOP: &str =
@@ -159,14 +167,9 @@ const LOOP: &str =
 label2: return; } }";
 
 // A loop with an allocation: after one turn both locals hold the first object, at the end nothing is left; an exception may leave the root.
-#[test]
-fn runs_a_loop(rt: HostRuntime) -> Result<(), Fail> {
-    let alloc = rt.alloc();
-    assert!(rt; agrees(alloc, LOOP, 7, "", "7 at 0.3; 0.0 new; 0.0 new")?);
-    assert!(rt; agrees(alloc, LOOP, 100, "001", "9 ended")?);
-    assert!(rt; agrees(alloc, LOOP, 100, "1", "3 uncaught 1.1 raise 3")?);
-    Ok(())
-}
+const OF_LOOP: &str = "7 - = 7 at 0.3; 0.0 new; 0.0 new
+100 001 = 9 ended
+100 1 = 3 uncaught 1.1 raise 3";
 
 const CAUGHT: &str =
     "class Main { static void main(java.lang.String[]) { java.lang.Object a; java.lang.Throwable t; label1: a = null; \
@@ -174,14 +177,9 @@ virtualinvoke a.<java.lang.Object: int hashCode()>(); label2: return; label3: t 
 catch java.lang.NullPointerException from label1 to label2 with label3; } }";
 
 // A call on null raises an exception, which a handler catches.
-#[test]
-fn runs_into_a_handler(rt: HostRuntime) -> Result<(), Fail> {
-    let alloc = rt.alloc();
-    assert!(rt; agrees(alloc, CAUGHT, 6, "", "6 at 0.1!; null")?);
-    assert!(rt; agrees(alloc, CAUGHT, 8, "", "8 at 0.4; null; 0.1 raise 0")?);
-    assert!(rt; agrees(alloc, CAUGHT, 100, "", "10 ended")?);
-    Ok(())
-}
+const OF_CAUGHT: &str = "6 - = 6 at 0.1!; null
+8 - = 8 at 0.4; null; 0.1 raise 0
+100 - = 10 ended";
 
 const KINDS: &str =
     "class A { java.lang.Object f; static java.lang.Object s; java.lang.Object id(java.lang.Object) { A r; java.lang.Object p; r := @this: A; \
@@ -192,91 +190,54 @@ b = virtualinvoke a.<A: java.lang.Object id(java.lang.Object)>(c); e = 1 + 2; en
 tableswitch(0) { case 0: goto label1; default: goto label2; }; label1: nop; label2: t = new java.lang.NullPointerException; throw t; \
 label3: t := @caughtexception; return; catch java.lang.Throwable from label2 to label3 with label3; } }";
 
-// Whether what is told of a run begins and ends so.
-fn is_between(
-    alloc: Global,
-    text: &str,
-    steps: u32,
-    digits: &str,
-    first: &str,
-    last: &str,
-) -> Result<bool, NoMemory> {
-    let told = run_text(alloc, text, steps, digits)?;
-    Ok(told.as_str().starts_with(first) && told.as_str().ends_with(last))
-}
-
-// Each kind of statement: fields, elements, static fields, casts, calls, numbers, monitors, jumps, throws and handlers.
-#[test]
-fn runs_each_kind(rt: HostRuntime) -> Result<(), Fail> {
-    let alloc = rt.alloc();
-    let rest = "1.0 new; text 0; text 0; 1.0 new; 1.0 new; 1.3 new";
-    assert!(rt; is_between(alloc, KINDS, 13, "00001", "13 at 1.9; ", rest)?);
-    assert!(rt; agrees(alloc, KINDS, 14, "00001", "14 at 0.0")?);
-    assert!(rt; agrees(alloc, KINDS, 16, "00001", "16 at 0.2; 1.0 new; text 0")?);
-    let thrown = "24 at 1.16!; 1.0 new; text 0; text 0; 1.0 new; number; 1.3 new; 1.15 new";
-    assert!(rt; agrees(alloc, KINDS, 24, "00001", thrown)?);
-    assert!(rt; agrees(alloc, KINDS, 27, "00001", "27 at 2.4; 2.0 new; 2.1 new")?);
-    assert!(rt; agrees(alloc, KINDS, 100, "00001", "28 ended")?);
-    Ok(())
-}
+// Each kind of statement: fields, elements, static fields, casts, calls, numbers, monitors, jumps, throws and handlers. Then the exceptions that
+// statements raise by themselves, which leave a method that doesn't catch them.
+const OF_KINDS: &str = "13 00001 = 13 at 1.9;  .. 1.0 new; text 0; text 0; 1.0 new; 1.0 new; 1.3 new
+14 00001 = 14 at 0.0
+16 00001 = 16 at 0.2; 1.0 new; text 0
+24 00001 = 24 at 1.16!; 1.0 new; text 0; text 0; 1.0 new; number; 1.3 new; 1.15 new
+27 00001 = 27 at 2.4; 2.0 new; 2.1 new
+100 00001 = 28 ended
+100 000011 = 15 uncaught 1.8 raise 4
+100 0002 = 11 uncaught 1.4 raise 2
+100 00009 = 12 uncaught 1.5 raise 1";
 
 const LEVELS: &str =
     "class Main { static void main(java.lang.String[]) { java.lang.Object[][] a; java.lang.Object[] b, c; \
 a = newmultiarray (java.lang.Object)[2][3]; b = a[0]; c = b[0]; c = a[0]; return; } }";
 
 // An array within an array comes to be when it is loaded, and is then an element; the last level has none.
-#[test]
-fn loads_arrays_of_arrays(rt: HostRuntime) -> Result<(), Fail> {
-    let alloc = rt.alloc();
-    assert!(rt; agrees(alloc, LEVELS, 6, "0002", "6 at 0.2; 0.0 new; 0.0 level 1")?);
-    assert!(rt;
-        agrees(
-            alloc,
-            LEVELS,
-            7,
-            "0002",
-            "7 at 0.3; 0.0 new; 0.0 level 1; null"
-        )?
-    );
-    assert!(rt;
-        agrees(
-            alloc,
-            LEVELS,
-            8,
-            "000201",
-            "8 at 0.4; 0.0 new; 0.0 level 1; 0.0 level 1"
-        )?
-    );
-    assert!(rt; agrees(alloc, LEVELS, 100, "0001", "8 uncaught 0.1 raise 1")?);
-    assert!(rt; agrees(alloc, LEVELS, 100, "00022", "9 uncaught 0.2 raise 1")?);
-    assert!(rt; agrees(alloc, LEVELS, 100, "001", "7 uncaught 0.0 raise 3")?);
-    Ok(())
-}
+const OF_LEVELS: &str = "6 0002 = 6 at 0.2; 0.0 new; 0.0 level 1
+7 0002 = 7 at 0.3; 0.0 new; 0.0 level 1; null
+8 000201 = 8 at 0.4; 0.0 new; 0.0 level 1; 0.0 level 1
+100 0001 = 8 uncaught 0.1 raise 1
+100 00022 = 9 uncaught 0.2 raise 1
+100 001 = 7 uncaught 0.0 raise 3";
 
-// The exceptions that statements raise by themselves leave a method that doesn't catch them.
-#[test]
-fn raises_by_choice(rt: HostRuntime) -> Result<(), Fail> {
-    let alloc = rt.alloc();
-    assert!(rt; agrees(alloc, KINDS, 100, "000011", "15 uncaught 1.8 raise 4")?);
-    assert!(rt; agrees(alloc, KINDS, 100, "0002", "11 uncaught 1.4 raise 2")?);
-    assert!(rt; agrees(alloc, KINDS, 100, "00009", "12 uncaught 1.5 raise 1")?);
-    Ok(())
-}
+// Reads of an unset local, and of a field of a number, which aren't well typed; a field has the value that was written last.
+const UNSET: &str =
+    "class Main { static void main(java.lang.String[]) { java.lang.Object a, b; a = b; return; } }";
 
-// A read of an unset local, or of a field of a number, isn't well typed; a field has the value that was written last.
-#[test]
-fn reads_what_is_set(rt: HostRuntime) -> Result<(), Fail> {
-    let alloc = rt.alloc();
-    let unset =
-        "class Main { static void main(java.lang.String[]) { java.lang.Object a, b; a = b; return; } }";
-    assert!(rt; agrees(alloc, unset, 100, "", "5 ill-typed")?);
-    let number =
-        "class A { java.lang.Object f; } class Main { static void main(java.lang.String[]) { java.lang.Object a, b; a = 1; \
+const NUMBER: &str =
+    "class A { java.lang.Object f; } class Main { static void main(java.lang.String[]) { java.lang.Object a, b; a = 1; \
 b = a.<A: java.lang.Object f>; return; } }";
-    assert!(rt; agrees(alloc, number, 100, "", "6 ill-typed")?);
-    let last =
-        "class A { java.lang.Object f; } class Main { static void main(java.lang.String[]) { A a; java.lang.Object b; a = new A; \
+
+const LAST: &str =
+    "class A { java.lang.Object f; } class Main { static void main(java.lang.String[]) { A a; java.lang.Object b; a = new A; \
 a.<A: java.lang.Object f> = \"k\"; a.<A: java.lang.Object f> = a; b = a.<A: java.lang.Object f>; return; } }";
-    assert!(rt; agrees(alloc, last, 8, "", "8 at 0.4; 0.0 new; 0.0 new")?);
+
+#[test]
+fn runs_are_as_told(rt: HostRuntime) -> Result<(), Fail> {
+    for (text, rows) in [
+        (LOOP, OF_LOOP),
+        (CAUGHT, OF_CAUGHT),
+        (KINDS, OF_KINDS),
+        (LEVELS, OF_LEVELS),
+        (UNSET, "100 - = 5 ill-typed"),
+        (NUMBER, "100 - = 6 ill-typed"),
+        (LAST, "8 - = 8 at 0.4; 0.0 new; 0.0 new"),
+    ] {
+        assert_eq!(rt; first_wrong(rt.alloc(), text, &Runs, rows)?, None);
+    }
     Ok(())
 }

@@ -4,9 +4,8 @@ ghost use Rattle.call_side.specs.Calls.{AreTheCalls};
 use call_side::{Calls, bases};
 use jim_ast::NoMemory;
 use link_program::Linked;
-use link_sites::Place;
-use linked_text::linked_of;
-use linked_text::spots::before;
+use linked_text::spelled::call;
+use linked_text::{Rows, first_wrong};
 use post_star::BaseStep;
 use std::alloc::Global;
 use std::test::Fail;
@@ -17,20 +16,30 @@ class Main { static java.lang.Object id(java.lang.Object) { java.lang.Object p; 
 static void main(java.lang.String[]) { java.lang.Object a, b, x, y; a = new A; b = new A;
 x = staticinvoke <Main: java.lang.Object id(java.lang.Object)>(a); y = staticinvoke <Main: java.lang.Object id(java.lang.Object)>(b); return; } }";
 
-// Whether the two calls of `main` have the first numbers, both ways, and neither another statement nor a call with an exception in flight has one.
+// The calls of `main`, and a statement and a call with an exception in flight, which have no number.
+const NUMBERS: [(&str, Option<u32>); 4] = [
+    ("1.2", Some(0)),
+    ("1.3", Some(1)),
+    ("1.4", None),
+    ("1.2!", None),
+];
+
+// Whether the calls have these numbers, both ways, and the last number is none's.
 fn are_numbered(calls: &Calls) -> bool {
-    let (first, second) = (before(1, 2), before(1, 3));
-    let in_flight = Place {
-        raised: true,
-        ..first
-    };
-    calls.mark_of(first) == Some(0)
-        && calls.mark_of(second) == Some(1)
-        && calls.call_of(0) == Some(first)
-        && calls.call_of(1) == Some(second)
-        && calls.mark_of(before(1, 4)).is_none()
-        && calls.mark_of(in_flight).is_none()
-        && calls.call_of(u32::MAX).is_none()
+    for (text, number) in &NUMBERS {
+        let Some(place) = call(text) else {
+            return false;
+        };
+        if calls.mark_of(place) != *number {
+            return false;
+        }
+        if let Some(number) = number
+            && calls.call_of(*number) != Some(place)
+        {
+            return false;
+        }
+    }
+    calls.call_of(u32::MAX).is_none()
 }
 
 // Whether the method that both call leads to `main` by each of them, and `main` leads to the root by one call.
@@ -55,22 +64,28 @@ fn lead_home(alloc: Global, linked: &Linked, calls: &Calls) -> Result<bool, NoMe
     Ok(are_strings(&steps, linked.root()))
 }
 
-fn is_right(alloc: Global, linked: &Linked) -> Result<bool, NoMemory> {
-    match Calls::new(alloc, linked) {
-        Ok(calls) => Ok(are_numbered(&calls) && lead_home(alloc, linked, &calls)?),
-        Err(error) => Err(error),
-    }
+fn is_right(alloc: Global, linked: &Linked, calls: &Calls) -> Result<bool, NoMemory>
+    requires { AreTheCalls linked.now calls.now }
+{
+    Ok(are_numbered(calls) && lead_home(alloc, linked, calls)?)
 }
 
-fn is_right_of(alloc: Global, text: &str) -> Result<bool, NoMemory> {
-    match linked_of(alloc, text) {
-        Some(linked) => is_right(alloc, &linked),
-        None => Ok(false),
+struct Numbered;
+
+impl Rows for Numbered {
+    fn is_right(&self, alloc: Global, linked: &Linked, _: &str) -> Result<bool, NoMemory> {
+        match Calls::new(alloc, linked) {
+            Ok(calls) => is_right(alloc, linked, &calls),
+            Err(error) => Err(error),
+        }
     }
 }
 
 #[test]
 fn numbers_both_ways(rt: HostRuntime) -> Result<(), Fail> {
-    assert!(rt; is_right_of(rt.alloc(), TWO_CALLS)?);
+    assert_eq!(rt;
+        first_wrong(rt.alloc(), TWO_CALLS, &Numbered, "calls and strings")?,
+        None
+    );
     Ok(())
 }
