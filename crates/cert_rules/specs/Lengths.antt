@@ -16,7 +16,7 @@ use Rattle.cert_rules.specs.Certified.{AreGiven, EndsWith}
 use Rattle.cert_rules.specs.Given.{Cites, Facts, about}
 
 -- the rules of a derivation in the field system: one for each edge and for each store that it goes along. What justifies the meets isn't counted
-pub rules : {p : LinkedProgram} {q : Asked} {Meet : Site → Site → StoreAt → Type 0} {o : Site} {n : Node} {word : List ℕ} → InFields p q Meet o n word → ℕ
+abbrev pub rules : {p : LinkedProgram} {q : Asked} {Meet : Site → Site → StoreAt → Type 0} {o : Site} {n : Node} {word : List ℕ} → InFields p q Meet o n word → ℕ
 rules (InFields.start st) = 0
 rules (InFields.keep e k h) = rules h + 1
 rules (InFields.load e h) = rules h + 1

@@ -1,0 +1,4 @@
+pub mod Closed
+pub mod Readings
+pub mod SameReading
+pub mod Meeting

@@ -1,0 +1,88 @@
+-- Lines that are closed over meets, one meet after another.
+use Rattle.std.proofs.Common.{◌≡◌, ◌∙◌, inl, inr, ℕ, ◌+◌, List, [], ◌∷◌, ◌++◌, Some, length, map, slice_get, take, refl, sym, ap, subst}
+use Rattle.jim_ast.specs.Lists.{Has}
+use Rattle.lists.proofs.Places.{slice_get-pushed, take-next}
+use Rattle.link_rules.specs.Linked.{LinkedProgram}
+use Rattle.link_sites.specs.declared.site.Site.{Site}
+use Rattle.spds_rules.specs.declared.node.Node.{Node}
+use Rattle.spds_rules.specs.declared.store.StoreAt.{StoreAt}
+use Rattle.spds_laws.proofs.Strings.{calls_strings}
+use Rattle.demand_set.specs.Demands.{DemandParts}
+use Rattle.cert_rules.specs.declared.fact.Entry.{Entry}
+use Rattle.cert_rules.specs.declared.fact.Entry.TheVariants.{Base}
+use Rattle.cert_rules.specs.declared.fact.Fact.TheVariants.{At, Met as IsMet}
+use Rattle.cert_rules.specs.declared.line.Side.TheVariants.{Field}
+use Rattle.cert_rules.specs.Certified.{AreGiven}
+use Rattle.cert_rules.specs.Given.{about}
+use Rattle.cert_rules.specs.Lengths.{lengths_of}
+use Rattle.cert_lines.specs.Noted.{IsThere, Noted}
+use Rattle.cert_make.specs.Lengths.{as_told}
+use Rattle.cert_work.specs.declared.roads.View.{View}
+use Rattle.cert_work.specs.declared.work.Work.{Work}
+use Rattle.cert_work.specs.Added.{AreAdded}
+use Rattle.cert_work.specs.Rules.{AreWorked}
+use Rattle.cert_work.specs.Work.{IsWorkOf}
+use Rattle.cert_work.proofs.Growing.{there_more}
+use Rattle.cert_reads.specs.declared.meeting.Meeting.{Meeting}
+use Rattle.cert_reads.specs.Closed.{AreClosed}
+use Rattle.cert_reads.specs.Meeting.{IsJustified}
+use Rattle.cert_reads.proofs.Held.{calls_read, fields_held}
+use Rattle.cert_reads.proofs.Told.{added_given, added_told}
+use Rattle.spds_solve.specs.declared.met.Met.{Met}
+use Rattle.spds_solve.specs.Solved.{IsListed, RestsOn, StandsForMeet}
+use Rattle.cert_trace.specs.Resting.{IsTraced}
+
+module _ (p : LinkedProgram) (t : Node) where
+  pub all_worked : (k : Noted) (done : ℕ) → done ≡ length k.given → AreWorked p t k done → AreWorked p t k (length k.given)
+  all_worked k done all worked = subst (AreWorked p t k) all worked
+
+  pub given_first : (w new : Noted) → w.lines ≡ [] → w.given ≡ [] → AreAdded p t w new → AreGiven p t new.lines new.given
+  given_first w new lines given added =
+      let none : AreGiven p t [] [] = record { as_many = refl; each = λ i l there. cc } in
+      let first : AreGiven p t w.lines w.given = subst (λ ls. AreGiven p t ls w.given) (sym lines) (subst (λ gs. AreGiven p t [] gs) (sym given) none) in
+      added_given p t added first
+
+  pub told_first : (w new : Noted) → w.lines ≡ [] → w.lengths ≡ [] → AreAdded p t w new → new.lengths ≡ map as_told (lengths_of new.lines)
+  told_first w new lines lengths added = added_told p t added (lengths ∙ ap (λ ls. map as_told (lengths_of ls)) (sym lines))
+
+module _ (v : View) (d : DemandParts) (before : List Met) (w : Noted) (closed : AreClosed v.linked.now v.target w (IsListed d before)) (met : Met)
+    (rests : RestsOn v.linked.now (about v.target) d before met) where
+  pub rests_justified : (m : Meeting) → m.object ≡ rests.object → m.base ≡ rests.base → m.store ≡ rests.store → m.string.now ≡ met.string → IsJustified v w m
+  rests_justified m o b s string =
+      let p = v.linked.now in
+      let under = rests.stores in
+      let base = fields_held p v.target w (IsListed d before) closed rests.base under.is_base in
+      let at : IsThere w (At Field rests.base Base rests.store.base) base.front
+      = subst (λ (x : Entry). IsThere w (At Field rests.base x rests.store.base) base.front) base.spelled base.at in
+      rw (o, b, s, string) (record {
+        store = under.store;
+        at_arg = calls_strings p (about v.target) (IsListed d before) rests.object under.at_arg;
+        at_base = calls_strings p (about v.target) (IsListed d before) rests.base under.at_base;
+        reads_object = calls_read p v.target w (IsListed d before) closed rests.object under.at_arg;
+        reads_base = calls_read p v.target w (IsListed d before) closed rests.base under.at_base;
+        is_base = (base.front, at);
+        has = under.has;
+      })
+
+-- one meet more
+pub traced_next : (v : View) (d : DemandParts) (mets : List Met) (i : ℕ) (met : Met) → slice_get mets i ≡ Some met → (old new : Work) → IsTraced v d (take i mets) old
+    → AreAdded v.linked.now v.target old.written new.written → IsWorkOf v new → new.done ≡ length new.written.given
+    → ((o base : Site) (s : StoreAt) → StandsForMeet d met o base s → IsThere new.written (IsMet o base s) 0) → IsTraced v d (take (i + 1) mets) new
+traced_next v d mets i met there old new traced added work all is = record {
+  work = work;
+  all = all;
+  closed = record {
+    worked = all_worked v.linked.now v.target new.written new.done all work.worked;
+    starts = λ side o n st. there_more v.linked.now v.target added _ _ (traced.closed.starts side o n st);
+    mets = λ o base s listed.
+        let has : Has (take i mets ++ met ∷ []) listed.0 = subst (λ (ms : List Met). Has ms listed.0) (take-next mets i met there) listed.1 in
+        elim (slice_get-pushed (take i mets) met has.0 listed.0 has.1) [
+          | inl before ↦ (let m = traced.closed.mets o base s (listed.0, (has.0, before), listed.2) in (m.0, there_more v.linked.now v.target added _ _ m.1))
+          | inr e ↦ (0, is o base s (subst (λ (m : Met). StandsForMeet d m o base s) e.1 listed.2))
+        ];
+  };
+}
+
+pub met_there : (w : Noted) (x y : Site) (z : StoreAt) (o base : Site) (s : StoreAt) → IsThere w (IsMet x y z) 0 → x ≡ o → y ≡ base → z ≡ s → IsThere w (IsMet o base s) 0
+met_there w x y z o base s there a b c =
+    subst (λ (u : Site). IsThere w (IsMet u base s) 0) a (subst (λ (u : Site). IsThere w (IsMet x u s) 0) b (subst (λ (u : StoreAt). IsThere w (IsMet x y u) 0) c there))

@@ -1,0 +1,35 @@
+use Rattle.std.proofs.Common.{List, subst, sym}
+use Rattle.lists.specs.Lists.{Has}
+use Rattle.spds_rules.specs.declared.node.Node.{Node}
+use Rattle.cert_work.proofs.Growing.{added_more, there_more}
+use Rattle.cert_work.proofs.Turns.{work_more}
+use Rattle.cert_trace.proofs.Traced.{all_worked, given_first, told_first}
+use Rattle.cert_trace.proofs.tracing.begin.Goals as goal
+
+pub start_all-requires : goal.start_all-requires
+start_all-requires c = λ n has. c.requires.demand.nodes.each n (subst (λ (xs : List Node). Has xs n) c.nodes.ensures has)
+
+pub work_off-requires-clause-work : goal.work_off-requires-clause-work
+work_off-requires-clause-work c = work_more c.args.view.now.linked.now c.args.view.now.target c.nothing-work.result c.nothing-work.ensures.work c.start_all.new.written c.in_ok-start_all.ensures.added
+
+pub returns-clause-traced : goal.returns-clause-traced
+returns-clause-traced c = record {
+  work = c.in_ok-work_off.ensures.work;
+  all = c.in_ok-work_off.ensures.all;
+  closed = record {
+    worked = all_worked c.args.view.now.linked.now c.args.view.now.target c.work_off.new.work.written c.work_off.new.work.done c.in_ok-work_off.ensures.all c.in_ok-work_off.ensures.work.worked;
+    starts = λ side o n st. there_more c.args.view.now.linked.now c.args.view.now.target c.in_ok-work_off.ensures.added _ _
+        (c.in_ok-start_all.ensures.there side o n (subst (λ (xs : List Node). Has xs n) (sym c.nodes.ensures) (c.requires.demand.nodes.all n st.1)) st);
+    mets = λ o base s listed. let h = listed.1.1 in cc;
+  };
+}
+
+pub returns-clause-given : goal.returns-clause-given
+returns-clause-given c =
+    given_first c.args.view.now.linked.now c.args.view.now.target c.nothing-work.result.written c.work_off.new.work.written c.nothing-work.ensures.lines c.nothing-work.ensures.given
+    (added_more c.args.view.now.linked.now c.args.view.now.target c.in_ok-start_all.ensures.added c.in_ok-work_off.ensures.added)
+
+pub returns-clause-told : goal.returns-clause-told
+returns-clause-told c =
+    told_first c.args.view.now.linked.now c.args.view.now.target c.nothing-work.result.written c.work_off.new.work.written c.nothing-work.ensures.lines c.nothing-work.ensures.lengths
+    (added_more c.args.view.now.linked.now c.args.view.now.target c.in_ok-start_all.ensures.added c.in_ok-work_off.ensures.added)

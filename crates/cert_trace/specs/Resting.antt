@@ -1,0 +1,22 @@
+-- Lines that are closed over the first meets of a demand, and the next meet.
+use Rattle.std.specs.Prelude.{◌≡◌, List, length}
+use Rattle.demand_set.specs.Demands.{DemandParts}
+use Rattle.cert_rules.specs.Given.{about}
+use Rattle.cert_work.specs.declared.roads.View.{View}
+use Rattle.cert_work.specs.declared.work.Work.{Work}
+use Rattle.cert_work.specs.Work.{IsWorkOf}
+use Rattle.cert_reads.specs.Closed.{AreClosed}
+use Rattle.spds_solve.specs.declared.met.Met.{Met}
+use Rattle.spds_solve.specs.Solved.{IsListed, RestsOn}
+
+-- all lines were gone through, and they are closed over these meets
+pub record IsTraced (v : View) (d : DemandParts) (mets : List Met) (k : Work) : Type 0 where
+  pub work : IsWorkOf v k
+  pub all : k.done ≡ length k.written.given
+  pub closed : AreClosed v.linked.now v.target k.written (IsListed d mets)
+
+-- and the next meet rests on these
+pub record IsNext (v : View) (d : DemandParts) (k : Work) (met : Met) : Type 0 where
+  pub before : List Met
+  pub traced : IsTraced v d before k
+  pub rests : RestsOn v.linked.now (about v.target) d before met

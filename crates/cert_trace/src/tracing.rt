@@ -1,0 +1,106 @@
+//! The trace.
+ghost use Rattle.std.specs.Prelude.{◌≡◌, [], length, map, take, IfOk, OnOk};
+ghost use Rattle.link_sites.specs.declared.site.Site.{Site as AnySite};
+ghost use Rattle.spds_rules.specs.declared.store.StoreAt.{StoreAt as AnyStore};
+ghost use Rattle.spds_rules.specs.Systems.{Meets};
+ghost use Rattle.demand_set.specs.Demands.{IsDemandOf};
+ghost use Rattle.cert_rules.specs.declared.fact.Fact.TheVariants.{Met as IsMet};
+ghost use Rattle.cert_rules.specs.Certified.{AreGiven};
+ghost use Rattle.cert_rules.specs.Given.{about};
+ghost use Rattle.cert_rules.specs.Lengths.{lengths_of};
+ghost use Rattle.cert_lines.specs.Noted.{IsThere};
+ghost use Rattle.cert_make.specs.Lengths.{as_told};
+ghost use Rattle.cert_work.specs.Roads.{AreAddedIn, IsView};
+ghost use Rattle.cert_work.specs.Work.{IsWorkOf};
+ghost use Rattle.cert_reads.specs.Closed.{AreClosed};
+ghost use Rattle.cert_reads.specs.Readings.{AreAllFiled};
+ghost use Rattle.spds_solve.specs.Solved.{AreMeets, IsSolved, StandsForMeet};
+ghost use Rattle.cert_trace.specs.Resting.{IsNext, IsTraced};
+
+use cert_reads::{Meeting, meet};
+use cert_work::{View, Work, nothing, start_all, work_off};
+use demand_set::Demand;
+use jim_ast::NoMemory;
+use spds_solve::{Met, Solved};
+use std::alloc::Global;
+
+// What starts, and all that comes of it without a meet.
+fn begin(alloc: Global, view: &View<'_>, demand: &Demand) -> Result<Work, NoMemory>
+    requires view { IsView view.now }
+    requires demand { IsDemandOf view.now.linked.now (about view.now.target) demand.now }
+    ensures traced { IfOk result (IsTraced view.now demand.now []) }
+    ensures given { IfOk result (λ k. AreGiven view.now.linked.now view.now.target k.written.lines k.written.given) }
+    ensures told { IfOk result (λ k. k.written.lengths ≡ map as_told (lengths_of k.written.lines)) }
+{
+    let mut work = nothing(alloc, view);
+    start_all(view, &mut work.written, demand.nodes())?;
+    work_off(view, &mut work)?;
+    Ok(work)
+}
+
+// The lines for the next meet, and all that comes of it.
+fn follow(
+    alloc: Global,
+    view: &View<'_>,
+    demand: &Demand,
+    work: &mut Work,
+    met: &Met,
+) -> Result<(), NoMemory>
+    requires view { IsView view.now }
+    requires next { IsNext view.now demand.now work.old met.now }
+    ensures added { OnOk result (AreAddedIn view.now work.old.written work.new.written) }
+    ensures work { OnOk result (IsWorkOf view.now work.new) }
+    ensures all { OnOk result (work.new.done ≡ length work.new.written.given) }
+    ensures there { OnOk result ((o base : AnySite) (s : AnyStore) → StandsForMeet demand.now met.now o base s → IsThere work.new.written (IsMet o base s) 0) }
+{
+    let meeting = Meeting {
+        object: demand.sites()[met.object as usize],
+        base: demand.sites()[met.base as usize],
+        store: demand.stores()[met.store as usize],
+        string: met.string.as_slice(),
+    };
+    meet(alloc, view, work, &meeting)?;
+    work_off(view, work)?;
+    Ok(())
+}
+
+// Those for all meets, one after another.
+fn follow_all(
+    alloc: Global,
+    view: &View<'_>,
+    demand: &Demand,
+    work: &mut Work,
+    mets: &[Met],
+) -> Result<(), NoMemory>
+    requires view { IsView view.now }
+    requires traced { IsTraced view.now demand.now [] work.old }
+    requires mets { AreMeets view.now.linked.now (about view.now.target) demand.now mets.now }
+    ensures added { OnOk result (AreAddedIn view.now work.old.written work.new.written) }
+    ensures traced { OnOk result (IsTraced view.now demand.now mets.now work.new) }
+{
+    for met in mets {
+        follow(alloc, view, demand, work, met)?;
+    }
+    Ok(())
+}
+
+/// Lines that give each fact of both systems of a solved demand, over all its meets: of each fact one that is no longer than any derivation. All are gone
+/// through. Costs time and memory for each fact of all its sites.
+pub fn trace_of(
+    alloc: Global,
+    view: &View<'_>,
+    demand: &Demand,
+    solved: &Solved,
+) -> Result<Work, NoMemory>
+    requires view { IsView view.now }
+    requires demand { IsDemandOf view.now.linked.now (about view.now.target) demand.now }
+    requires solved { IsSolved view.now.linked.now (about view.now.target) demand.now solved.now }
+    ensures given { IfOk result (λ k. AreGiven view.now.linked.now view.now.target k.written.lines k.written.given) }
+    ensures told { IfOk result (λ k. k.written.lengths ≡ map as_told (lengths_of k.written.lines)) }
+    ensures closed { IfOk result (λ k. AreClosed view.now.linked.now view.now.target k.written (Meets view.now.linked.now (about view.now.target))) }
+    ensures filed { IfOk result (λ k. AreAllFiled k) }
+{
+    let mut work = begin(alloc, view, demand)?;
+    follow_all(alloc, view, demand, &mut work, solved.meets())?;
+    Ok(work)
+}

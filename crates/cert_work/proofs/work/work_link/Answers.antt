@@ -1,0 +1,18 @@
+use Rattle.std.proofs.Common.{ℕ, List, arith, subst, sym}
+use Rattle.lists.specs.Lists.{Has}
+use Rattle.cert_work.proofs.Growing.{cites_kept, many_more, second}
+use Rattle.cert_work.proofs.Turns.{turn_link}
+use Rattle.cert_work.proofs.Working.{cites_low}
+use Rattle.cert_work.proofs.work.work_link.Goals as goal
+
+pub pop_takers-requires-clause-takers : goal.pop_takers-requires-clause-takers
+pop_takers-requires-clause-takers c = λ i has.
+    second ((c.requires.work.filed.takers c.args.word i).0 (subst (λ (xs : List ℕ). Has xs i) c.at-takers.ensures has))
+
+pub returns-clause-work : goal.returns-clause-work
+returns-clause-work c =
+    let low = cites_low c.args.work.now.written.given c.args.below.number _ c.requires.below in
+    let many = many_more c.args.view.now.linked.now c.args.view.now.target c.in_ok-pop_takers.ensures.added in
+    turn_link c.args.view.now.linked.now c.args.view.now.target c.args.work.now c.requires.work c.pop_takers.new.written c.in_ok-pop_takers.ensures.added c.args.below.number c.requires.number (omega arith)
+    c.args.word c.args.below.entry (cites_kept c.args.view.now.linked.now c.args.view.now.target c.in_ok-pop_takers.ensures.added _ _ c.requires.below) c.add.new.self c.in_ok-add.ensures
+    (λ i has. c.in_ok-pop_takers.ensures.there i (subst (λ (xs : List ℕ). Has xs i) (sym c.at-takers.ensures) has))

@@ -1,0 +1,5 @@
+pub mod Added
+pub mod Rules
+pub mod Roads
+pub mod Held
+pub mod Work

@@ -1,0 +1,40 @@
+-- The edges and the start nodes of a demand by look-ups.
+use Rattle.std.specs.Prelude.{◌≡◌, ◌↔◌, Some}
+use Rattle.link_rules.specs.Linked.{LinkedProgram}
+use Rattle.link_sites.specs.declared.site.Site.{Site}
+use Rattle.lists.specs.Groups.{found_at}
+use Rattle.lists.specs.Lists.{Has}
+use Rattle.spds_rules.specs.contracts.node.NodePartialEq.TheImpl as node
+use Rattle.spds_rules.specs.declared.edge.Edge.{Edge}
+use Rattle.spds_rules.specs.declared.node.Node.{Node}
+use Rattle.spds_rules.specs.Demand.{EdgeIn, StartIn}
+use Rattle.cert_rules.specs.declared.fact.Fact.{Fact}
+use Rattle.cert_rules.specs.declared.line.Line.{Line}
+use Rattle.cert_rules.specs.Given.{Gives, about}
+use Rattle.cert_lines.specs.contracts.keys.OriginPartialEq.TheImpl as origin
+use Rattle.cert_work.specs.declared.roads.Roads.{Roads}
+use Rattle.cert_work.specs.declared.roads.View.{View}
+use Rattle.cert_work.specs.Added.{AreAdded}
+use Rattle.cert_lines.specs.Noted.{Noted}
+
+-- by its source exactly the demanded edges, and by its site exactly the demanded start nodes
+pub record AreRoads (p : LinkedProgram) (t : Node) (r : Roads) : Type 0 where
+  pub edges : (n : Node) (e : Edge) → Has (found_at node.eq-value.it r.edges n) e ↔ ((e.from ≡ n) × EdgeIn p (about t) e.from e.kind e.to)
+  pub starts : (o : Site) (n : Node) → Has (found_at origin.eq-value.it r.starts (record { site = o })) n ↔ StartIn p (about t) o n
+
+-- those of the view are of its program and its target
+abbrev pub IsView : View → Type 0
+IsView v = AreRoads v.linked.now v.target v.roads.now
+
+-- what holds in the view's program, of its target
+abbrev pub EdgeOf : View → Edge → Type 0
+EdgeOf v e = EdgeIn v.linked.now (about v.target) e.from e.kind e.to
+
+abbrev pub StartOf : View → Site → Node → Type 0
+StartOf v o n = StartIn v.linked.now (about v.target) o n
+
+abbrev pub AreAddedIn : View → Noted → Noted → Type 0
+AreAddedIn v old new = AreAdded v.linked.now v.target old new
+
+abbrev pub GivesIn : View → Noted → Line → Fact → Type 0
+GivesIn v w line fact = Gives v.linked.now v.target w.given line (Some fact)

@@ -1,0 +1,270 @@
+//! Along an edge.
+ghost use Rattle.std.specs.Prelude.{◌≡◌, OnOk};
+ghost use Rattle.spds_rules.specs.declared.edge.Edge.{Edge as AnyEdge};
+ghost use Rattle.spds_rules.specs.declared.edge.EdgeKind.TheVariants as edge_kind;
+ghost use Rattle.cert_rules.specs.declared.fact.Entry.TheVariants as entry;
+ghost use Rattle.cert_rules.specs.declared.fact.Entry.TheVariants.{Base};
+ghost use Rattle.cert_rules.specs.declared.fact.Fact.TheVariants.{At, Link};
+ghost use Rattle.cert_rules.specs.declared.line.Side.TheVariants.{Call as OfCalls, Field as OfFields};
+ghost use Rattle.cert_rules.specs.Given.{Keeps};
+ghost use Rattle.cert_lines.specs.Noted.{IsThere};
+ghost use Rattle.cert_work.specs.Held.{IsHeld};
+ghost use Rattle.cert_work.specs.Roads.{AreAddedIn, EdgeOf, IsView};
+ghost use Rattle.cert_work.specs.Rules.{GoesOn, IsAlong, one_more};
+
+use super::adding::add;
+use super::held::{Held, one_more};
+use super::roads::View;
+use cert_lines::Written;
+use cert_rules::{Entry, Fact, Line, Side};
+use jim_ast::NoMemory;
+use link_sites::Place;
+use spds_rules::{Edge, EdgeKind};
+
+// Goes on under the same words.
+fn flow(view: &View<'_>, written: &mut Written, held: Held, edge: Edge) -> Result<(), NoMemory>
+    requires held { IsHeld written.old held }
+    requires edge { EdgeOf view.now edge }
+    requires from { edge.from ≡ held.node }
+    requires keeps { Keeps held.side edge.kind }
+    ensures added { OnOk result (AreAddedIn view.now written.old written.new) }
+    ensures there { OnOk result (IsThere written.new (At held.side held.site held.entry edge.to) (one_more held.side held.length)) }
+{
+    let line = Line::Flow {
+        side: held.side,
+        from: held.number,
+        node: edge.to,
+    };
+    let fact = Fact::At {
+        side: held.side,
+        site: held.site,
+        entry: held.entry,
+        node: edge.to,
+    };
+    add(view, written, line, fact, one_more(held.side, held.length))?;
+    Ok(())
+}
+
+// Goes through a static field: what comes through one may be there under each call string.
+fn jump(view: &View<'_>, written: &mut Written, held: Held, edge: Edge) -> Result<(), NoMemory>
+    requires held { IsHeld written.old held }
+    requires edge { EdgeOf view.now edge }
+    requires from { edge.from ≡ held.node }
+    requires side { held.side ≡ OfCalls }
+    requires kind { edge.kind ≡ edge_kind.Jump }
+    ensures added { OnOk result (AreAddedIn view.now written.old written.new) }
+    ensures there { OnOk result (IsThere written.new (At OfCalls held.site Base edge.to) 0) }
+{
+    let line = Line::Jump {
+        from: held.number,
+        node: edge.to,
+    };
+    let fact = Fact::At {
+        side: Side::Call,
+        site: held.site,
+        entry: Entry::Base,
+        node: edge.to,
+    };
+    add(view, written, line, fact, 0)
+}
+
+// Comes back from a method in which it may be under each call string.
+fn return_base(
+    view: &View<'_>,
+    written: &mut Written,
+    held: Held,
+    edge: Edge,
+    call: Place,
+) -> Result<(), NoMemory>
+    requires held { IsHeld written.old held }
+    requires edge { EdgeOf view.now edge }
+    requires from { edge.from ≡ held.node }
+    requires side { held.side ≡ OfCalls }
+    requires entry { held.entry ≡ Base }
+    requires kind { edge.kind ≡ edge_kind.Return call }
+    ensures added { OnOk result (AreAddedIn view.now written.old written.new) }
+    ensures there { OnOk result (IsThere written.new (At OfCalls held.site Base edge.to) 0) }
+{
+    let line = Line::BasePop {
+        from: held.number,
+        node: edge.to,
+    };
+    let fact = Fact::At {
+        side: Side::Call,
+        site: held.site,
+        entry: Entry::Base,
+        node: edge.to,
+    };
+    add(view, written, line, fact, 0)
+}
+
+// Is passed into a call.
+fn pass(
+    view: &View<'_>,
+    written: &mut Written,
+    held: Held,
+    edge: Edge,
+    call: Place,
+) -> Result<(), NoMemory>
+    requires held { IsHeld written.old held }
+    requires edge { EdgeOf view.now edge }
+    requires from { edge.from ≡ held.node }
+    requires side { held.side ≡ OfCalls }
+    requires kind { edge.kind ≡ edge_kind.Call call }
+    ensures added { OnOk result (AreAddedIn view.now written.old written.new) }
+    ensures there { OnOk result (IsThere written.new (At OfCalls held.site (entry.Call edge.to call) edge.to) 0) }
+{
+    let line = Line::PushCall {
+        from: held.number,
+        node: edge.to,
+    };
+    let fact = Fact::At {
+        side: Side::Call,
+        site: held.site,
+        entry: Entry::Call {
+            node: edge.to,
+            call,
+        },
+        node: edge.to,
+    };
+    add(view, written, line, fact, 0)
+}
+
+// What then stands below the call.
+fn link(
+    view: &View<'_>,
+    written: &mut Written,
+    held: Held,
+    edge: Edge,
+    call: Place,
+) -> Result<(), NoMemory>
+    requires held { IsHeld written.old held }
+    requires edge { EdgeOf view.now edge }
+    requires from { edge.from ≡ held.node }
+    requires side { held.side ≡ OfCalls }
+    requires kind { edge.kind ≡ edge_kind.Call call }
+    ensures added { OnOk result (AreAddedIn view.now written.old written.new) }
+    ensures there { OnOk result (IsThere written.new (Link OfCalls held.site (entry.Call edge.to call) held.entry) 0) }
+{
+    let line = Line::LinkCall {
+        from: held.number,
+        node: edge.to,
+    };
+    let fact = Fact::Link {
+        side: Side::Call,
+        site: held.site,
+        entry: Entry::Call {
+            node: edge.to,
+            call,
+        },
+        below: held.entry,
+    };
+    add(view, written, line, fact, 0)
+}
+
+// Is passed into a call, and what then stands below it.
+fn enter(
+    view: &View<'_>,
+    written: &mut Written,
+    held: Held,
+    edge: Edge,
+    call: Place,
+) -> Result<(), NoMemory>
+    requires held { IsHeld written.old held }
+    requires edge { EdgeOf view.now edge }
+    requires from { edge.from ≡ held.node }
+    requires side { held.side ≡ OfCalls }
+    requires kind { edge.kind ≡ edge_kind.Call call }
+    ensures added { OnOk result (AreAddedIn view.now written.old written.new) }
+    ensures there { OnOk result (IsThere written.new (At OfCalls held.site (entry.Call edge.to call) edge.to) 0) }
+    ensures below { OnOk result (IsThere written.new (Link OfCalls held.site (entry.Call edge.to call) held.entry) 0) }
+{
+    pass(view, written, held, edge, call)?;
+    link(view, written, held, edge, call)?;
+    Ok(())
+}
+
+// Goes on along an edge in the system of calls.
+fn along_calls(
+    view: &View<'_>,
+    written: &mut Written,
+    held: Held,
+    edge: Edge,
+) -> Result<(), NoMemory>
+    requires held { IsHeld written.old held }
+    requires edge { EdgeOf view.now edge }
+    requires from { edge.from ≡ held.node }
+    requires side { held.side ≡ OfCalls }
+    ensures added { OnOk result (AreAddedIn view.now written.old written.new) }
+    ensures there { OnOk result (GoesOn written.new held.length OfCalls held.site held.entry edge.kind edge.to) }
+{
+    match edge.kind {
+        EdgeKind::Flow => flow(view, written, held, edge),
+        EdgeKind::Load(_field) => flow(view, written, held, edge),
+        EdgeKind::Call(call) => enter(view, written, held, edge, call),
+        EdgeKind::Return(call) => {
+            if held.entry == Entry::Base {
+                return_base(view, written, held, edge, call)
+            } else {
+                Ok(())
+            }
+        }
+        EdgeKind::Jump => jump(view, written, held, edge),
+    }
+}
+
+// Goes on along an edge in the system of fields.
+fn along_fields(
+    view: &View<'_>,
+    written: &mut Written,
+    held: Held,
+    edge: Edge,
+) -> Result<(), NoMemory>
+    requires held { IsHeld written.old held }
+    requires edge { EdgeOf view.now edge }
+    requires from { edge.from ≡ held.node }
+    requires side { held.side ≡ OfFields }
+    ensures added { OnOk result (AreAddedIn view.now written.old written.new) }
+    ensures there { OnOk result (GoesOn written.new held.length OfFields held.site held.entry edge.kind edge.to) }
+{
+    match edge.kind {
+        EdgeKind::Load(_field) => Ok(()),
+        EdgeKind::Flow => flow(view, written, held, edge),
+        EdgeKind::Call(_call) => flow(view, written, held, edge),
+        EdgeKind::Return(_call) => flow(view, written, held, edge),
+        EdgeKind::Jump => flow(view, written, held, edge),
+    }
+}
+
+/// Goes on along an edge, but for letters that are taken off.
+pub(crate) fn along(
+    view: &View<'_>,
+    written: &mut Written,
+    held: Held,
+    edge: Edge,
+) -> Result<(), NoMemory>
+    requires held { IsHeld written.old held }
+    requires edge { EdgeOf view.now edge }
+    requires from { edge.from ≡ held.node }
+    ensures added { OnOk result (AreAddedIn view.now written.old written.new) }
+    ensures there { OnOk result (GoesOn written.new held.length held.side held.site held.entry edge.kind edge.to) }
+{
+    match held.side {
+        Side::Field => along_fields(view, written, held, edge),
+        Side::Call => along_calls(view, written, held, edge),
+    }
+}
+
+/// Goes on along each edge from where the object is.
+pub(crate) fn along_all(view: &View<'_>, written: &mut Written, held: Held) -> Result<(), NoMemory>
+    requires view { IsView view.now }
+    requires held { IsHeld written.old held }
+    ensures added { OnOk result (AreAddedIn view.now written.old written.new) }
+    ensures there { OnOk result ((e : AnyEdge) → EdgeOf view.now e → IsAlong written.new held.number e) }
+{
+    let edges = view.edges(held.node);
+    for edge in edges {
+        along(view, written, held, *edge)?;
+    }
+    Ok(())
+}

@@ -1,0 +1,104 @@
+//! Letters are taken off.
+ghost use Rattle.std.specs.Prelude.{◌≡◌, ◌↔◌, ◌+◌, IsTrue, OnOk};
+ghost use Rattle.spds_rules.specs.declared.edge.Edge.{Edge as AnyEdge};
+ghost use Rattle.cert_rules.specs.declared.fact.Fact.TheVariants.{At};
+ghost use Rattle.cert_rules.specs.Given.{Takes};
+ghost use Rattle.cert_lines.specs.Noted.{IsThere};
+ghost use Rattle.cert_work.specs.Held.{IsBelowHeld, IsHeld};
+ghost use Rattle.cert_work.specs.Roads.{AreAddedIn, EdgeOf, IsView};
+ghost use Rattle.cert_work.specs.Rules.{IsPopped, one_more};
+
+use super::adding::add;
+use super::held::{Below, Held, one_more};
+use super::roads::View;
+use cert_lines::Written;
+use cert_rules::{Entry, Fact, Line, Side};
+use jim_ast::NoMemory;
+use spds_rules::{Edge, EdgeKind};
+
+// Whether an edge of the kind takes the first letter of the entry off.
+fn takes(side: Side, entry: Entry, kind: EdgeKind) -> bool
+    ensures { IsTrue result ↔ Takes side entry kind }
+{
+    match (side, entry, kind) {
+        (Side::Field, Entry::Field { field, .. }, EdgeKind::Load(loaded)) => field == loaded,
+        (Side::Call, Entry::Call { call, .. }, EdgeKind::Return(returned)) => call == returned,
+        _ => false,
+    }
+}
+
+// Goes on along an edge, which takes the first letter off.
+fn pop(
+    view: &View<'_>,
+    written: &mut Written,
+    held: Held,
+    below: Below,
+    edge: Edge,
+) -> Result<(), NoMemory>
+    requires held { IsHeld written.old held }
+    requires below { IsBelowHeld written.old held below }
+    requires edge { EdgeOf view.now edge }
+    requires from { edge.from ≡ held.node }
+    requires takes { Takes held.side held.entry edge.kind }
+    ensures added { OnOk result (AreAddedIn view.now written.old written.new) }
+    ensures there { OnOk result (IsThere written.new (At held.side held.site below.entry edge.to) (one_more held.side (held.length + below.length))) }
+{
+    let line = Line::Pop {
+        side: held.side,
+        from: held.number,
+        link: below.number,
+        node: edge.to,
+    };
+    let fact = Fact::At {
+        side: held.side,
+        site: held.site,
+        entry: below.entry,
+        node: edge.to,
+    };
+    let length = one_more(held.side, held.length.saturating_add(below.length));
+    add(view, written, line, fact, length)?;
+    Ok(())
+}
+
+// Goes on along an edge, if it takes the first letter off.
+fn pop_if(
+    view: &View<'_>,
+    written: &mut Written,
+    held: Held,
+    below: Below,
+    edge: Edge,
+) -> Result<(), NoMemory>
+    requires held { IsHeld written.old held }
+    requires below { IsBelowHeld written.old held below }
+    requires edge { EdgeOf view.now edge }
+    requires from { edge.from ≡ held.node }
+    ensures added { OnOk result (AreAddedIn view.now written.old written.new) }
+    ensures there { OnOk result (Takes held.side held.entry edge.kind
+        → IsThere written.new (At held.side held.site below.entry edge.to) (one_more held.side (held.length + below.length))) }
+{
+    if takes(held.side, held.entry, edge.kind) {
+        pop(view, written, held, below, edge)?;
+        return Ok(());
+    }
+    Ok(())
+}
+
+/// Goes on along each edge that takes the first letter off.
+pub(crate) fn pop_all(
+    view: &View<'_>,
+    written: &mut Written,
+    held: Held,
+    below: Below,
+) -> Result<(), NoMemory>
+    requires view { IsView view.now }
+    requires held { IsHeld written.old held }
+    requires below { IsBelowHeld written.old held below }
+    ensures added { OnOk result (AreAddedIn view.now written.old written.new) }
+    ensures there { OnOk result ((e : AnyEdge) → EdgeOf view.now e → IsPopped written.new held.number below.number e) }
+{
+    let edges = view.edges(held.node);
+    for edge in edges {
+        pop_if(view, written, held, below, *edge)?;
+    }
+    Ok(())
+}

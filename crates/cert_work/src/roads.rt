@@ -1,0 +1,116 @@
+//! The edges and the start nodes of a demand by look-ups.
+ghost use Rattle.std.specs.Prelude.{◌≡◌, ◌↔◌, ◌⊎◌, IfOk, OnOk};
+ghost use Rattle.lists.specs.Lists.{Has};
+ghost use Rattle.link_sites.specs.declared.site.Site.{Site as AnySite};
+ghost use Rattle.spds_rules.specs.declared.edge.Edge.{Edge as AnyEdge};
+ghost use Rattle.spds_rules.specs.declared.node.Node.{Node as AnyNode};
+ghost use Rattle.spds_rules.specs.Demand.{EdgeIn, StartIn};
+ghost use Rattle.cert_rules.specs.Given.{about};
+ghost use Rattle.spds_rules.specs.Nodes.{IsStart};
+ghost use Rattle.spds_rules.specs.contracts.node.NodePartialEq.TheImpl as of_node;
+ghost use Rattle.lists.specs.Groups.{found_at};
+ghost use Rattle.cert_lines.specs.contracts.keys.OriginPartialEq.TheImpl as of_origin;
+ghost use Rattle.cert_lines.specs.declared.keys.Origin.{Origin as AnyOrigin};
+ghost use Rattle.demand_set.specs.Demands.{IsDemandOf};
+ghost use Rattle.cert_work.specs.Roads.{AreRoads, IsView};
+
+use cert_lines::{Files, Origin};
+use demand_set::Demand;
+use jim_ast::NoMemory;
+use link_program::Linked;
+use link_sites::Site;
+use spds_nodes::{is_node, site_of};
+use spds_rules::{Edge, Node};
+use std::alloc::Global;
+
+/// The edges of a demand by their sources, and its start nodes by their sites.
+#[derive(Drop)]
+pub struct Roads {
+    pub(crate) edges: Files<Node, Edge>,
+    pub(crate) starts: Files<Origin, Node>,
+}
+
+// The edges by their sources.
+fn file_edges(alloc: Global, edges: &[Edge]) -> Result<Files<Node, Edge>, NoMemory>
+    ensures { IfOk result (λ files. (n : AnyNode) (e : AnyEdge) → Has (found_at of_node.eq-value.it files n) e ↔ ((e.from ≡ n) × Has edges.now e)) }
+{
+    let mut files = Files::new(alloc);
+    for edge in edges {
+        files.add(edge.from, *edge)?;
+    }
+    Ok(files)
+}
+
+// One node more, if it is a start node.
+fn file_start(linked: &Linked, files: &mut Files<Origin, Node>, node: Node) -> Result<(), NoMemory>
+    ensures { OnOk result ((k : AnyOrigin) (n : AnyNode) → Has (found_at of_origin.eq-value.it files.new k) n
+        ↔ (Has (found_at of_origin.eq-value.it files.old k) n ⊎ ((n ≡ node) × IsStart linked.now k.site n))) }
+{
+    if !is_node(linked, node) {
+        return Ok(());
+    }
+    let Some(site) = site_of(node) else {
+        return Ok(());
+    };
+    files.add(Origin { site }, node)?;
+    Ok(())
+}
+
+// The start nodes among the nodes, by their sites.
+fn file_starts(
+    alloc: Global,
+    linked: &Linked,
+    nodes: &[Node],
+) -> Result<Files<Origin, Node>, NoMemory>
+    ensures { IfOk result (λ files. (k : AnyOrigin) (n : AnyNode) → Has (found_at of_origin.eq-value.it files k) n ↔ (Has nodes.now n × IsStart linked.now k.site n)) }
+{
+    let mut files = Files::new(alloc);
+    for node in nodes {
+        file_start(linked, &mut files, *node)?;
+    }
+    Ok(files)
+}
+
+impl Roads {
+    /// The roads of what a node demands. Costs a look-up for each edge and each node.
+    pub fn of(
+        alloc: Global,
+        linked: &Linked,
+        target: Node,
+        demand: &Demand,
+    ) -> Result<Roads, NoMemory>
+        requires { IsDemandOf linked.now (about target) demand.now }
+        ensures { IfOk result (λ roads. AreRoads linked.now target roads) }
+    {
+        Ok(Roads {
+            edges: file_edges(alloc, demand.edges())?,
+            starts: file_starts(alloc, linked, demand.nodes())?,
+        })
+    }
+}
+
+/// A program, the node that is asked for, and the roads of what it demands.
+#[derive(Drop)]
+pub struct View<'a> {
+    pub linked: &'a Linked,
+    pub target: Node,
+    pub roads: &'a Roads,
+}
+
+impl<'a> View<'a> {
+    /// The demanded edges from the node.
+    pub fn edges(&self, node: Node) -> &[Edge]
+        requires { IsView self.now }
+        ensures { (e : AnyEdge) → Has result.now e ↔ ((e.from ≡ node) × EdgeIn self.now.linked.now (about self.now.target) e.from e.kind e.to) }
+    {
+        self.roads.edges.at(node)
+    }
+
+    /// The demanded start nodes of the site.
+    pub fn starts(&self, site: Site) -> &[Node]
+        requires { IsView self.now }
+        ensures { (n : AnyNode) → Has result.now n ↔ StartIn self.now.linked.now (about self.now.target) site n }
+    {
+        self.roads.starts.at(Origin { site })
+    }
+}

@@ -1,0 +1,244 @@
+//! Lines and how far they were gone through.
+ghost use Rattle.std.specs.Prelude.{◌≡◌, ◌↔◌, ◌+◌, ◌<◌, ◌≤◌, ℕ, [], length, OnOk};
+ghost use Rattle.lists.specs.Lists.{Has};
+ghost use Rattle.link_sites.specs.declared.site.Site.{Site as AnySite};
+ghost use Rattle.spds_rules.specs.declared.edge.Edge.{Edge as AnyEdge};
+ghost use Rattle.spds_rules.specs.declared.node.Node.{Node as AnyNode};
+ghost use Rattle.cert_rules.specs.declared.fact.Fact.TheVariants.{At, Link, Met};
+ghost use Rattle.cert_rules.specs.Given.{Cites};
+ghost use Rattle.cert_rules.specs.Lengths.{cited_length};
+ghost use Rattle.cert_work.specs.Held.{IsHeld};
+ghost use Rattle.cert_work.specs.Roads.{AreAddedIn, EdgeOf, IsView, StartOf};
+ghost use Rattle.cert_work.specs.Rules.{IsAlong, IsPopped, IsPut};
+ghost use Rattle.cert_work.specs.Work.{AreFiled, IsAt, IsBelow, IsStored, IsWorkOf, spot_of, word_of};
+
+use super::along::along_all;
+use super::held::{Below, Held, Meeting, below_under, held_at};
+use super::pairs::{pop_links, pop_takers, put_mets, put_objects};
+use super::roads::View;
+use cert_lines::{Files, Spot, Word, Written};
+use cert_rules::{Entry, Fact};
+use jim_ast::NoMemory;
+use std::alloc::Global;
+
+/// Lines, the first of which were gone through. Files tell these, by their numbers from 1, by what they are looked for by.
+#[derive(Drop)]
+pub struct Work {
+    pub written: Written,
+    pub done: u32,
+    pub(crate) takers: Files<Word, u32>,
+    pub(crate) links: Files<Word, u32>,
+    pub(crate) spots: Files<Spot, u32>,
+    pub(crate) mets: Files<Spot, u32>,
+}
+
+impl Work {
+    /// The numbers, from 1, of the lines that were gone through and gave what stands below the first letter of the word.
+    pub fn links(&self, word: Word) -> &[u32]
+        requires { AreFiled self.now.written self.now }
+        ensures { (i : ℕ) → Has result.now i ↔ ((i ≤ self.now.done) × IsBelow self.now.written word i) }
+    {
+        self.links.at(word)
+    }
+
+    /// The numbers, from 1, of those that put an object there.
+    pub fn objects(&self, spot: Spot) -> &[u32]
+        requires { AreFiled self.now.written self.now }
+        ensures { (i : ℕ) → Has result.now i ↔ ((i ≤ self.now.done) × IsAt self.now.written spot i) }
+    {
+        self.spots.at(spot)
+    }
+
+    /// What the line with the number, from 1, gave to stand below the first letter of the word.
+    pub fn entry_below(&self, number: u32, word: Word) -> Entry
+        requires { IsBelow self.now.written word number }
+        ensures { Cites self.now.written.given number (Link word.side word.site word.entry result) }
+    {
+        below_under(&self.written, number, word).entry
+    }
+
+    /// The words under which the line with the number, from 1, put an object there.
+    pub fn word_at(&self, number: u32, spot: Spot) -> Word
+        requires { IsAt self.now.written spot number }
+        ensures gives { Cites self.now.written.given number (At result.side spot.site result.entry spot.node) }
+        ensures site { result.site ≡ spot.site }
+    {
+        held_at(&self.written, number, spot).word()
+    }
+}
+
+// What the rules give of an object that a line put somewhere, alone and with these lines.
+fn follow(
+    view: &View<'_>,
+    written: &mut Written,
+    held: Held,
+    links: &[u32],
+    mets: &[u32],
+) -> Result<(), NoMemory>
+    requires view { IsView view.now }
+    requires held { IsHeld written.old held }
+    requires links { (i : ℕ) → Has links.now i → IsBelow written.old (word_of held) i }
+    requires mets { (i : ℕ) → Has mets.now i → IsStored written.old (spot_of held) i }
+    ensures added { OnOk result (AreAddedIn view.now written.old written.new) }
+    ensures along { OnOk result ((e : AnyEdge) → EdgeOf view.now e → IsAlong written.new held.number e) }
+    ensures popped { OnOk result ((i : ℕ) → Has links.now i → (e : AnyEdge) → EdgeOf view.now e → IsPopped written.new held.number i e) }
+    ensures put { OnOk result ((i : ℕ) → Has mets.now i → (base : AnySite) (n : AnyNode) → StartOf view.now base n → IsPut written.new held.number i base n) }
+{
+    along_all(view, written, held)?;
+    pop_links(view, written, held, links)?;
+    put_mets(view, written, held, mets)?;
+    Ok(())
+}
+
+// Goes through a line that put an object somewhere.
+fn work_at(view: &View<'_>, work: &mut Work, held: Held) -> Result<(), NoMemory>
+    requires view { IsView view.now }
+    requires work { IsWorkOf view.now work.old }
+    requires held { IsHeld work.old.written held }
+    requires number { held.number ≡ work.old.done + 1 }
+    ensures added { OnOk result (AreAddedIn view.now work.old.written work.new.written) }
+    ensures work { OnOk result (IsWorkOf view.now work.new) }
+    ensures done { OnOk result (work.new.done ≡ work.old.done + 1) }
+{
+    let word = held.word();
+    let spot = held.spot();
+    let links = work.links.at(word);
+    let mets = work.mets.at(spot);
+    follow(view, &mut work.written, held, links, mets)?;
+    work.takers.add(word, held.number)?;
+    work.spots.add(spot, held.number)?;
+    work.done = held.number;
+    Ok(())
+}
+
+// Goes through a line that gave what stands below the first letter of a word.
+fn work_link(view: &View<'_>, work: &mut Work, word: Word, below: Below) -> Result<(), NoMemory>
+    requires view { IsView view.now }
+    requires work { IsWorkOf view.now work.old }
+    requires below { Cites work.old.written.given below.number (Link word.side word.site word.entry below.entry) }
+    requires long { cited_length work.old.written.lengths below.number ≡ below.length }
+    requires number { below.number ≡ work.old.done + 1 }
+    ensures added { OnOk result (AreAddedIn view.now work.old.written work.new.written) }
+    ensures work { OnOk result (IsWorkOf view.now work.new) }
+    ensures done { OnOk result (work.new.done ≡ work.old.done + 1) }
+{
+    let takers = work.takers.at(word);
+    pop_takers(view, &mut work.written, word, below, takers)?;
+    work.links.add(word, below.number)?;
+    work.done = below.number;
+    Ok(())
+}
+
+// Goes through a line by which an object that is there may be stored.
+fn work_met(view: &View<'_>, work: &mut Work, spot: Spot, meeting: Meeting) -> Result<(), NoMemory>
+    requires view { IsView view.now }
+    requires work { IsWorkOf view.now work.old }
+    requires meets { Cites work.old.written.given meeting.number (Met spot.site meeting.base meeting.store) }
+    requires arg { meeting.store.arg ≡ spot.node }
+    requires number { meeting.number ≡ work.old.done + 1 }
+    ensures added { OnOk result (AreAddedIn view.now work.old.written work.new.written) }
+    ensures work { OnOk result (IsWorkOf view.now work.new) }
+    ensures done { OnOk result (work.new.done ≡ work.old.done + 1) }
+{
+    let objects = work.spots.at(spot);
+    put_objects(view, &mut work.written, spot, meeting, objects)?;
+    work.mets.add(spot, meeting.number)?;
+    work.done = meeting.number;
+    Ok(())
+}
+
+// Goes through the next line.
+fn work_next(view: &View<'_>, work: &mut Work) -> Result<(), NoMemory>
+    requires view { IsView view.now }
+    requires work { IsWorkOf view.now work.old }
+    requires more { work.old.done < length work.old.written.given }
+    ensures added { OnOk result (AreAddedIn view.now work.old.written work.new.written) }
+    ensures work { OnOk result (IsWorkOf view.now work.new) }
+    ensures done { OnOk result (work.new.done ≡ work.old.done + 1) }
+{
+    let _count = work.written.len();
+    let number = work.done + 1;
+    let length = work.written.length(work.done);
+    match work.written.fact(work.done) {
+        Fact::At {
+            side,
+            site,
+            entry,
+            node,
+        } => {
+            let held = Held {
+                number,
+                side,
+                site,
+                entry,
+                node,
+                length,
+            };
+            work_at(view, work, held)
+        }
+        Fact::Link {
+            side,
+            site,
+            entry,
+            below,
+        } => {
+            let below = Below {
+                number,
+                entry: below,
+                length,
+            };
+            work_link(view, work, Word { side, site, entry }, below)
+        }
+        Fact::Met {
+            object,
+            base,
+            store,
+        } => {
+            let meeting = Meeting {
+                number,
+                base,
+                store,
+            };
+            let spot = Spot {
+                site: object,
+                node: store.arg,
+            };
+            work_met(view, work, spot, meeting)
+        }
+        Fact::Shared { .. } => {
+            work.done = number;
+            Ok(())
+        }
+    }
+}
+
+/// Goes through the lines that are left, and through those that are put behind them, until none is left.
+pub fn work_off(view: &View<'_>, work: &mut Work) -> Result<(), NoMemory>
+    requires view { IsView view.now }
+    requires work { IsWorkOf view.now work.old }
+    ensures added { OnOk result (AreAddedIn view.now work.old.written work.new.written) }
+    ensures work { OnOk result (IsWorkOf view.now work.new) }
+    ensures all { OnOk result (work.new.done ≡ length work.new.written.given) }
+{
+    while work.done < work.written.len() {
+        work_next(view, work)?;
+    }
+    Ok(())
+}
+
+/// No lines. Takes no memory.
+pub fn nothing(alloc: Global, view: &View<'_>) -> Work
+    ensures lines { result.written.lines ≡ [] }
+    ensures given { result.written.given ≡ [] }
+    ensures lengths { result.written.lengths ≡ [] }
+    ensures work { IsWorkOf view.now result }
+{
+    Work {
+        written: Written::new(alloc),
+        done: 0,
+        takers: Files::new(alloc),
+        links: Files::new(alloc),
+        spots: Files::new(alloc),
+        mets: Files::new(alloc),
+    }
+}
