@@ -3,3 +3,5 @@ pub mod Means
 pub mod Sound
 pub mod Writing
 pub mod Complete
+pub mod Stores
+pub mod OneFact

@@ -26,7 +26,7 @@ use Rattle.cert_laws.proofs.Givens.{cites_one, claim_held, slice_get-taken, take
 use Rattle.cert_laws.proofs.Means.{Means, MeansAt, Reaches, called_below, kept, popped, reaches_at, reaches_link, returned_base, some_string, stored_below}
 
 -- an element of an option is the one
-some_same : {X : Type 0} {a b : X} → Some a ≡ Some b → a ≡ b
+pub some_same : {X : Type 0} {a b : X} → Some a ≡ Some b → a ≡ b
 some_same e = cc
 
 module _ (p : LinkedProgram) (t : Node) (well : IsWellLinked p) where

@@ -1,5 +1,5 @@
 mod Selecting
 mod Marking
-mod Anew
+pub mod Anew
 mod Written
-mod Sums
+pub mod Sums

@@ -1,3 +1,2 @@
-pub mod OneFact
 pub mod Rejections
 pub mod Outcomes

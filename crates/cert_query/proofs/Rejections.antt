@@ -10,7 +10,7 @@ use Rattle.cert_rules.specs.declared.line.Line.{Line}
 use Rattle.cert_rules.specs.Certified.{AreGiven, IsCertified, IsRejected, IsUngiven}
 use Rattle.cert_rules.specs.Given.{Facts, Gives}
 use Rattle.cert_laws.proofs.Givens.{given_front, slice_get-front}
-use Rattle.cert_query.proofs.OneFact.{given_one}
+use Rattle.cert_laws.proofs.OneFact.{given_one}
 
 module _ (p : LinkedProgram) (t : Node) (lines : List Line) where
   -- no list behind a line that gives nothing gives something

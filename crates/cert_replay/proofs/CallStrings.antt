@@ -13,7 +13,7 @@ use Rattle.link_sites.specs.Places.{CodeAt}
 use Rattle.spds_rules.specs.Systems.{IsString}
 use Rattle.spds_laws.proofs.Strings.{call_string, string_called}
 use Rattle.demand_walk.proofs.Selected.{has-found, not-found}
-use Rattle.cert_replay.proofs.Stores.{one_code}
+use Rattle.cert_laws.proofs.Stores.{one_code}
 
 module _ (p : LinkedProgram) (method : ℕ) where
   -- a call string goes on behind its first call

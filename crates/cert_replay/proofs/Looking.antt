@@ -23,7 +23,7 @@ use Rattle.cert_replay.specs.declared.edges.Step.{Step}
 use Rattle.cert_replay.specs.declared.edges.Way.TheVariants.{Returns, Only}
 use Rattle.cert_replay.specs.Joins.{Goes, HasStep, IsReturn, joined_by}
 use Rattle.cert_replay.proofs.From.{Finds}
-use Rattle.cert_replay.proofs.Stores.{store_one}
+use Rattle.cert_laws.proofs.Stores.{store_one}
 
 -- where a look-up finds a number exactly where the list has the element
 abbrev pub Looks : {X : Type 0} → List X → X → Option ℕ → Type 0

@@ -1,2 +1,4 @@
 mod Traced
 mod Claimed
+mod Unraised
+mod Apart

@@ -1,5 +1,5 @@
 -- Lines that are closed over meets, one meet after another.
-use Rattle.std.proofs.Common.{◌≡◌, ◌∙◌, inl, inr, ℕ, ◌+◌, List, [], ◌∷◌, ◌++◌, Some, length, map, slice_get, take, refl, sym, ap, subst}
+use Rattle.std.proofs.Common.{◌≡◌, inl, inr, ℕ, ◌+◌, List, [], ◌∷◌, ◌++◌, Some, length, map, slice_get, take, refl, subst}
 use Rattle.jim_ast.specs.Lists.{Has}
 use Rattle.lists.proofs.Places.{slice_get-pushed, take-next}
 use Rattle.link_rules.specs.Linked.{LinkedProgram}
@@ -30,20 +30,22 @@ use Rattle.cert_reads.proofs.Held.{calls_read, fields_held}
 use Rattle.cert_reads.proofs.Told.{added_given, added_told}
 use Rattle.spds_solve.specs.declared.met.Met.{Met}
 use Rattle.spds_solve.specs.Solved.{IsListed, RestsOn, StandsForMeet}
-use Rattle.cert_trace.specs.Resting.{IsTraced}
+use Rattle.cert_trace.specs.Resting.{IsTraced, no_lines}
 
 module _ (p : LinkedProgram) (t : Node) where
   pub all_worked : (k : Noted) (done : ℕ) → done ≡ length k.given → AreWorked p t k done → AreWorked p t k (length k.given)
   all_worked k done all worked = subst (AreWorked p t k) all worked
 
-  pub given_first : (w new : Noted) → w.lines ≡ [] → w.given ≡ [] → AreAdded p t w new → AreGiven p t new.lines new.given
-  given_first w new lines given added =
-      let none : AreGiven p t [] [] = record { as_many = refl; each = λ i l there. cc } in
-      let first : AreGiven p t w.lines w.given = subst (λ ls. AreGiven p t ls w.given) (sym lines) (subst (λ gs. AreGiven p t [] gs) (sym given) none) in
-      added_given p t added first
+  -- what was put behind a new list is put behind none
+  pub added_first : (w new : Noted) → w.lines ≡ [] → w.given ≡ [] → w.lengths ≡ [] → AreAdded p t w new → AreAdded p t no_lines new
+  added_first w new lines given lengths added =
+      let none : w ≡ no_lines = (λ j. record { lines = lines j; given = given j; lengths = lengths j }) in subst (λ (k : Noted). AreAdded p t k new) none added
 
-  pub told_first : (w new : Noted) → w.lines ≡ [] → w.lengths ≡ [] → AreAdded p t w new → new.lengths ≡ map as_told (lengths_of new.lines)
-  told_first w new lines lengths added = added_told p t added (lengths ∙ ap (λ ls. map as_told (lengths_of ls)) (sym lines))
+  pub given_first : (new : Noted) → AreAdded p t no_lines new → AreGiven p t new.lines new.given
+  given_first new added = added_given p t added (record { as_many = refl; each = λ i l there. cc })
+
+  pub told_first : (new : Noted) → AreAdded p t no_lines new → new.lengths ≡ map as_told (lengths_of new.lines)
+  told_first new added = added_told p t added refl
 
 module _ (v : View) (d : DemandParts) (before : List Met) (w : Noted) (closed : AreClosed v.linked.now v.target w (IsListed d before)) (met : Met)
     (rests : RestsOn v.linked.now (about v.target) d before met) where

@@ -1,7 +1,8 @@
 -- Lines that are closed over the first meets of a demand, and the next meet.
-use Rattle.std.specs.Prelude.{◌≡◌, List, length}
+use Rattle.std.specs.Prelude.{◌≡◌, List, [], length}
 use Rattle.demand_set.specs.Demands.{DemandParts}
 use Rattle.cert_rules.specs.Given.{about}
+use Rattle.cert_lines.specs.Noted.{Noted}
 use Rattle.cert_work.specs.declared.roads.View.{View}
 use Rattle.cert_work.specs.declared.work.Work.{Work}
 use Rattle.cert_work.specs.Work.{IsWorkOf}
@@ -20,3 +21,7 @@ pub record IsNext (v : View) (d : DemandParts) (k : Work) (met : Met) : Type 0 w
   pub before : List Met
   pub traced : IsTraced v d before k
   pub rests : RestsOn v.linked.now (about v.target) d before met
+
+-- no line, which gives nothing
+abbrev pub no_lines : Noted
+no_lines = record { lines = []; given = []; lengths = [] }

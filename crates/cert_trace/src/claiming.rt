@@ -1,22 +1,21 @@
 //! What a claim cites.
-ghost use Rattle.std.specs.Prelude.{◌≡◌, ◌↔◌, ℕ, map, IsTrue};
+ghost use Rattle.std.specs.Prelude.{◌≡◌, ◌↔◌, ℕ, IsTrue};
+ghost use Rattle.link_rules.specs.Linked.{LinkedProgram};
 ghost use Rattle.spds_rules.specs.Answers.{IsAnswered};
-ghost use Rattle.spds_rules.specs.Systems.{Meets};
 ghost use Rattle.cert_rules.specs.declared.fact.Entry.{Entry as AnEntry};
 ghost use Rattle.cert_rules.specs.declared.fact.Fact.TheVariants.{At};
 ghost use Rattle.cert_rules.specs.declared.line.Side.TheVariants.{Call as OfCalls};
-ghost use Rattle.cert_rules.specs.Certified.{AreGiven};
 ghost use Rattle.cert_rules.specs.Given.{Cites, about};
-ghost use Rattle.cert_rules.specs.Lengths.{CanClaim, lengths_of};
-ghost use Rattle.cert_make.specs.Lengths.{as_told};
-ghost use Rattle.cert_reads.specs.Closed.{AreClosed};
+ghost use Rattle.cert_rules.specs.Lengths.{CanClaim};
 ghost use Rattle.cert_reads.specs.Readings.{AreAllFiled};
+ghost use Rattle.cert_trace.specs.Traces.{IsTraceOf};
 
 use cert_lines::Spot;
 use cert_make::ClaimLines;
 use cert_rules::{Entry, Fact, Side};
-use cert_work::{View, Work, number_of};
+use cert_work::{Work, number_of};
 use link_sites::Site;
+use spds_rules::Node;
 
 // Whether it is the side of calls.
 fn is_of_calls(side: Side) -> bool
@@ -44,24 +43,18 @@ fn call_line(work: &Work, spot: Spot) -> u32
 }
 
 /// The lines of a trace that a claim of an answered site cites: no derivation of its field fact is shorter than the line of that.
-pub fn claim(view: &View<'_>, work: &Work, site: Site) -> ClaimLines
-    requires given { AreGiven view.now.linked.now view.now.target work.now.written.lines work.now.written.given }
-    requires told { work.now.written.lengths ≡ map as_told (lengths_of work.now.written.lines) }
-    requires closed { AreClosed view.now.linked.now view.now.target work.now.written (Meets view.now.linked.now (about view.now.target)) }
-    requires filed { AreAllFiled work.now }
-    requires answered { IsAnswered view.now.linked.now (about view.now.target) view.now.target site }
-    ensures { CanClaim view.now.linked.now view.now.target work.now.written.lines site result.field result.call }
+pub fn claim(work: &Work, target: Node, site: Site) -> ClaimLines
+    requires answered { (p : LinkedProgram) × IsTraceOf p target work.now × IsAnswered p (about target) target site }
+    ensures { (p : LinkedProgram) → IsTraceOf p target work.now → IsAnswered p (about target) target site
+        → CanClaim p target work.now.written.lines site result.field result.call }
 {
     let itself = Fact::At {
         side: Side::Field,
         site,
         entry: Entry::Base,
-        node: view.target,
+        node: target,
     };
-    let spot = Spot {
-        site,
-        node: view.target,
-    };
+    let spot = Spot { site, node: target };
     ClaimLines {
         field: number_of(&work.written, itself),
         call: call_line(work, spot),

@@ -2,6 +2,7 @@
 #![tactic(auto)]
 
 mod claiming;
+mod fitting;
 mod tracing;
 
 pub use claiming::claim;

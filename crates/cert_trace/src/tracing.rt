@@ -1,5 +1,6 @@
 //! The trace.
-ghost use Rattle.std.specs.Prelude.{◌≡◌, [], length, map, take, IfOk, OnOk};
+ghost use Rattle.std.specs.Prelude.{◌≡◌, [], All, length, map, take, IfOk, OnOk};
+ghost use Rattle.lists.specs.Lists.{IsApart};
 ghost use Rattle.link_sites.specs.declared.site.Site.{Site as AnySite};
 ghost use Rattle.spds_rules.specs.declared.store.StoreAt.{StoreAt as AnyStore};
 ghost use Rattle.spds_rules.specs.Systems.{Meets};
@@ -8,6 +9,7 @@ ghost use Rattle.cert_rules.specs.declared.fact.Fact.TheVariants.{Met as IsMet};
 ghost use Rattle.cert_rules.specs.Certified.{AreGiven};
 ghost use Rattle.cert_rules.specs.Given.{about};
 ghost use Rattle.cert_rules.specs.Lengths.{lengths_of};
+ghost use Rattle.cert_rules.specs.Spelled.{FitsLine};
 ghost use Rattle.cert_lines.specs.Noted.{IsThere};
 ghost use Rattle.cert_make.specs.Lengths.{as_told};
 ghost use Rattle.cert_work.specs.Roads.{AreAddedIn, IsView};
@@ -15,8 +17,9 @@ ghost use Rattle.cert_work.specs.Work.{IsWorkOf};
 ghost use Rattle.cert_reads.specs.Closed.{AreClosed};
 ghost use Rattle.cert_reads.specs.Readings.{AreAllFiled};
 ghost use Rattle.spds_solve.specs.Solved.{AreMeets, IsSolved, StandsForMeet};
-ghost use Rattle.cert_trace.specs.Resting.{IsNext, IsTraced};
+ghost use Rattle.cert_trace.specs.Resting.{IsNext, IsTraced, no_lines};
 
+use super::fitting::all_fit;
 use cert_reads::{Meeting, meet};
 use cert_work::{View, Work, nothing, start_all, work_off};
 use demand_set::Demand;
@@ -29,8 +32,7 @@ fn begin(alloc: Global, view: &View<'_>, demand: &Demand) -> Result<Work, NoMemo
     requires view { IsView view.now }
     requires demand { IsDemandOf view.now.linked.now (about view.now.target) demand.now }
     ensures traced { IfOk result (IsTraced view.now demand.now []) }
-    ensures given { IfOk result (λ k. AreGiven view.now.linked.now view.now.target k.written.lines k.written.given) }
-    ensures told { IfOk result (λ k. k.written.lengths ≡ map as_told (lengths_of k.written.lines)) }
+    ensures added { IfOk result (λ k. AreAddedIn view.now no_lines k.written) }
 {
     let mut work = nothing(alloc, view);
     start_all(view, &mut work.written, demand.nodes())?;
@@ -85,7 +87,7 @@ fn follow_all(
 }
 
 /// Lines that give each fact of both systems of a solved demand, over all its meets: of each fact one that is no longer than any derivation. All are gone
-/// through. Costs time and memory for each fact of all its sites.
+/// through. No two are the same, and each can be spelled. Costs time and memory for each fact of all its sites.
 pub fn trace_of(
     alloc: Global,
     view: &View<'_>,
@@ -97,10 +99,13 @@ pub fn trace_of(
     requires solved { IsSolved view.now.linked.now (about view.now.target) demand.now solved.now }
     ensures given { IfOk result (λ k. AreGiven view.now.linked.now view.now.target k.written.lines k.written.given) }
     ensures told { IfOk result (λ k. k.written.lengths ≡ map as_told (lengths_of k.written.lines)) }
+    ensures apart { IfOk result (λ k. IsApart k.written.lines) }
+    ensures fits { IfOk result (λ k. All FitsLine k.written.lines) }
     ensures closed { IfOk result (λ k. AreClosed view.now.linked.now view.now.target k.written (Meets view.now.linked.now (about view.now.target))) }
     ensures filed { IfOk result (λ k. AreAllFiled k) }
 {
     let mut work = begin(alloc, view, demand)?;
     follow_all(alloc, view, demand, &mut work, solved.meets())?;
+    all_fit(work.written.lines());
     Ok(work)
 }

@@ -3,7 +3,7 @@ use Rattle.lists.specs.Lists.{Has}
 use Rattle.spds_rules.specs.declared.node.Node.{Node}
 use Rattle.cert_work.proofs.Growing.{added_more, there_more}
 use Rattle.cert_work.proofs.Turns.{work_more}
-use Rattle.cert_trace.proofs.Traced.{all_worked, given_first, told_first}
+use Rattle.cert_trace.proofs.Traced.{added_first, all_worked}
 use Rattle.cert_trace.proofs.tracing.begin.Goals as goal
 
 pub start_all-requires : goal.start_all-requires
@@ -24,12 +24,8 @@ returns-clause-traced c = record {
   };
 }
 
-pub returns-clause-given : goal.returns-clause-given
-returns-clause-given c =
-    given_first c.args.view.now.linked.now c.args.view.now.target c.nothing-work.result.written c.work_off.new.work.written c.nothing-work.ensures.lines c.nothing-work.ensures.given
-    (added_more c.args.view.now.linked.now c.args.view.now.target c.in_ok-start_all.ensures.added c.in_ok-work_off.ensures.added)
-
-pub returns-clause-told : goal.returns-clause-told
-returns-clause-told c =
-    told_first c.args.view.now.linked.now c.args.view.now.target c.nothing-work.result.written c.work_off.new.work.written c.nothing-work.ensures.lines c.nothing-work.ensures.lengths
+pub returns-clause-added : goal.returns-clause-added
+returns-clause-added c =
+    added_first c.args.view.now.linked.now c.args.view.now.target c.nothing-work.result.written c.work_off.new.work.written c.nothing-work.ensures.lines c.nothing-work.ensures.given
+    c.nothing-work.ensures.lengths
     (added_more c.args.view.now.linked.now c.args.view.now.target c.in_ok-start_all.ensures.added c.in_ok-work_off.ensures.added)

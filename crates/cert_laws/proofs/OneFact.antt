@@ -7,6 +7,7 @@ use Rattle.link_rules.specs.Linked.{LinkedProgram}
 use Rattle.link_sites.specs.declared.place.Place.{Place}
 use Rattle.link_sites.specs.declared.site.Site.{Site}
 use Rattle.spds_rules.specs.declared.node.Node.{Node}
+use Rattle.spds_laws.proofs.Crossings.{call_leads}
 use Rattle.cert_rules.specs.declared.fact.Entry.TheVariants as entry
 use Rattle.cert_rules.specs.declared.fact.Entry.TheVariants.{Base}
 use Rattle.cert_rules.specs.declared.fact.Fact.{Fact}
@@ -17,9 +18,8 @@ use Rattle.cert_rules.specs.declared.line.Side.TheVariants.{Field, Call}
 use Rattle.cert_rules.specs.Certified.{AreGiven}
 use Rattle.cert_rules.specs.Given.{Facts, Gives, Reads}
 use Rattle.cert_laws.proofs.Givens.{cites_one}
-use Rattle.cert_replay.proofs.Table.{from_call}
-use Rattle.cert_replay.proofs.Stores.{store_one}
-use Rattle.cert_text.proofs.NodeWords.{some_one}
+use Rattle.cert_laws.proofs.Sound.{some_same}
+use Rattle.cert_laws.proofs.Stores.{store_one}
 
 -- the first line that is cited for a string tells whose it is, and where
 reads_one : (p : LinkedProgram) (given : Facts) (links : List ℕ) (o x : Site) (n m : Node) (v w : List Place) → Reads p given o links n v → Reads p given x links m w
@@ -34,7 +34,7 @@ reads_one p given (first ∷ links) o x n m v w a b =
 module _ (p : LinkedProgram) (t : Node) (given : Facts) where
   pub gives_one : (l : Line) (g h : Option Fact) → Gives p t given l g → Gives p t given l h → g ≡ h
   gives_one (line.Start side n) g h a b =
-      let site : a.0 ≡ b.0 = some_one a.0 b.0 (sym a.1.0.1 ∙ b.1.0.1) in
+      let site : a.0 ≡ b.0 = some_same (sym a.1.0.1 ∙ b.1.0.1) in
       a.2 ∙ ap (λ (o : Site). Some (At side o Base n)) site ∙ sym b.2
   gives_one (line.Jump from n) g h a b =
       let same = cites_one given from _ _ a.0.cited b.0.cited in
@@ -59,7 +59,7 @@ module _ (p : LinkedProgram) (t : Node) (given : Facts) where
       let same = cites_one given from _ _ a.1.cited b.1.cited in
       let site : a.1.site ≡ b.1.site = cc in
       let source : a.1.source ≡ b.1.source = cc in
-      let call = sym (from_call p t a.1.source n a.0 a.1.edge) ∙ ap (λ (m : Node). m.place) source ∙ from_call p t b.1.source n b.0 b.1.edge in
+      let call = sym (call_leads p a.1.source n a.0 a.1.edge.0).from ∙ ap (λ (m : Node). m.place) source ∙ (call_leads p b.1.source n b.0 b.1.edge.0).from in
       a.2 ∙ (λ j. Some (At Call (site j) (entry.Call n (call j)) n)) ∙ sym b.2
   gives_one (line.LinkField from meet n) g h a b =
       let same = cites_one given from _ _ a.0.cited b.0.cited in
@@ -73,7 +73,7 @@ module _ (p : LinkedProgram) (t : Node) (given : Facts) where
       let site : a.1.site ≡ b.1.site = cc in
       let words : a.1.entry ≡ b.1.entry = cc in
       let source : a.1.source ≡ b.1.source = cc in
-      let call = sym (from_call p t a.1.source n a.0 a.1.edge) ∙ ap (λ (m : Node). m.place) source ∙ from_call p t b.1.source n b.0 b.1.edge in
+      let call = sym (call_leads p a.1.source n a.0 a.1.edge.0).from ∙ ap (λ (m : Node). m.place) source ∙ (call_leads p b.1.source n b.0 b.1.edge.0).from in
       a.2 ∙ (λ j. Some (Link Call (site j) (entry.Call n (call j)) (words j))) ∙ sym b.2
   gives_one (line.Pop side from link n) g h a b =
       let same = cites_one given from _ _ a.2.cited b.2.cited in
