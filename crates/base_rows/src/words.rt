@@ -11,6 +11,7 @@ const ROWS: &str =
     "points-to,Main,<Main: void main(java.lang.String[])>,5,x,100 => of Main: <Main: void main(java.lang.String[])> at 5, x, within 100
 points-to,,,0,,0 => of :  at 0, , within 0
 points-to,run,alias,4294967295,-,4294967295 => of run: alias at 4294967295, -, within 4294967295
+explain,Main,m,5,explain,4294967295 => of Main: why m at 5, explain, within 4294967295
 alias,Main,<Main: void main(java.lang.String[])>,5,x,y,100 => of Main: <Main: void main(java.lang.String[])> at 5, x and y, within 100
 alias,A,m,0,x,x,0 => of A: m at 0, x and x, within 0
 alias,A,m,4294967295,5,07,4294967295 => of A: m at 4294967295, 5 and 07, within 4294967295
@@ -33,11 +34,13 @@ alias => no command
 run => no command
 run,Main => no command
 help,Main => no command
+explain,Main,m,05,x,100 => no command
+explain,Main,m,5,x,100, => no command
 # another first word
 Points-to,Main,<Main: void main(java.lang.String[])>,5,x,100 => no command
 points-to ,Main,<Main: void main(java.lang.String[])>,5,x,100 => no command
 pointsto,Main,<Main: void main(java.lang.String[])>,5,x,100 => no command
-explain,Main,<Main: void main(java.lang.String[])>,5,x,100 => no command
+explains,Main,<Main: void main(java.lang.String[])>,5,x,100 => no command
 alias,Main,<Main: void main(java.lang.String[])>,5,x,100 => no command
 points-to,Main,<Main: void main(java.lang.String[])>,5,x,y,100 => no command
 aliases,Main,<Main: void main(java.lang.String[])>,5,x,y,100 => no command
@@ -154,6 +157,10 @@ fn asked_of(alloc: Global, query: &Query<'_>) -> Result<String, AllocError> {
     match query {
         Query::PointsTo(a) => of_one(alloc, a),
         Query::Alias(a) => of_both(alloc, a),
+        Query::Explain(a) => format!(in alloc;
+            "why {} at {}, {}, within {}",
+            a.method, a.index, a.local, a.budget
+        ),
         Query::Run(a) => of_run(alloc, a),
         Query::Replay { budget } => format!(in alloc; "a certificate, within {budget}"),
         Query::Typestate(a) => format!(in alloc; "'{}', within {}", a.protocol, a.budget),

@@ -6,6 +6,8 @@ mod asking;
 #[cfg(test)]
 mod commands;
 #[cfg(test)]
+mod explains;
+#[cfg(test)]
 mod refusals;
 #[cfg(test)]
 mod replays;

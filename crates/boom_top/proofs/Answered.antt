@@ -15,6 +15,7 @@ use Rattle.query_core.proofs.NamedPlaces.{places_one}
 use Rattle.report_text.specs.Aliases.{IsAliasText, verdict_lines}
 use Rattle.report_text.specs.Answers.{IsAnswerText, count_lines}
 use Rattle.report_text.specs.Lines.{text_of}
+use Rattle.explain_text.specs.Explanations.{IsExplainText}
 use Rattle.boom_words.specs.Requests.{Alias, PointsTo}
 use Rattle.boom_top.specs.Demo.{IsDemoText, statement_count}
 use Rattle.boom_top.specs.Parts.{Makes, Tells}
@@ -37,6 +38,9 @@ HasLines text = (lines : List (List ℕ)) × (text ≡ text_of lines)
 
 pub answer_lines : (p : LinkedProgram) (n : Node) (sites : List Site) (demanded : ℕ) (text : List ℕ) → IsAnswerText p n sites demanded text → HasLines text
 answer_lines p n sites demanded text t = (t.query ∷ (t.lines ++ count_lines (length sites) demanded), t.text_is)
+
+pub explain_lines : (p : LinkedProgram) (n : Node) (sites : List Site) (demanded : ℕ) (text : List ℕ) → IsExplainText p n sites demanded text → HasLines text
+explain_lines p n sites demanded text t = (t.query ∷ (t.lines ++ count_lines (length sites) demanded), t.text_is)
 
 pub demo_lines : (p : LinkedProgram) (boxes : ℕ) (sites : List Site) (demanded : ℕ) (text : List ℕ) → IsDemoText p boxes sites demanded text → HasLines text
 demo_lines p boxes sites demanded text t = (

@@ -22,7 +22,7 @@ use Rattle.query_core.proofs.Sound.{answer_sound, shared_sound}
 use Rattle.report_text.specs.Aliases.{IsSharedLine, verdict_lines}
 use Rattle.report_text.specs.Answers.{IsAcceptedText, IsAnswerText, IsSiteLine, count_lines}
 use Rattle.report_text.specs.Lines.{text_of}
-use Rattle.boom_words.specs.Requests.{Alias, PointsTo, Question, Request, Typestate, alias, demo, points_to, replay, run, typestate}
+use Rattle.boom_words.specs.Requests.{Alias, PointsTo, Question, Request, Typestate, alias, demo, explain, points_to, replay, run, typestate}
 use Rattle.boom_top.specs.Demo.{IsDemoText, demo_asked}
 use Rattle.cert_rules.specs.declared.certificate.Certificate.{Certificate}
 use Rattle.cert_laws.proofs.Complete.{answered_certified}
@@ -39,9 +39,13 @@ use Rattle.boom_top.specs.Safety.{SaysSafe}
 use Rattle.track_rules.specs.Protocols.{IsProtocolOf, ProtocolParts}
 use Rattle.track_runs.specs.Monitor.{IsSafe}
 use Rattle.track_verdicts.specs.Verdicts as verdict
+use Rattle.explain_text.specs.Explanations.{IsExplainText}
+use Rattle.explain_text.proofs.Asked.{place_named}
+use Rattle.explain_text.proofs.Found.{explanation_of, has_explained}
 use Rattle.boom_top.proofs.Ending.{says_none}
 use Rattle.boom_top.proofs.Judged.{demand_within, safe_verdict}
 use Rattle.boom_top.proofs.Once.{not_refused, prelude_one, spelled_read}
+use Rattle.boom_top.proofs.Replayed.{explanation_accepted}
 use Rattle.boom_top.proofs.Worded.{protocol_one, protocol_there}
 
 has_middle : {X : Type 0} (first : X) (xs ys : List X) (x : X) → Has xs x → Has (first ∷ (xs ++ ys)) x
@@ -107,6 +111,7 @@ module _ (p : LinkedProgram) (s : Status) (lines : List (List ℕ)) where
 
   pub linked_enough : (entry rest : List ℕ) (q : Question) → HasAnswer p rest q → IsLinkedReply p entry rest q s lines → s ≡ Done
   linked_enough entry rest (points_to asked) has reply = place_enough asked (IsAnswerText p) has reply
+  linked_enough entry rest (explain asked) has reply = place_enough asked (IsExplainText p) has reply
   linked_enough entry rest (alias asked) has reply = alias_enough asked has reply
   linked_enough entry rest (run asked) has reply = reply.1
   linked_enough entry rest (replay budget) has reply = replay_enough budget rest has reply
@@ -140,6 +145,33 @@ module _ (p : LinkedProgram) (well : IsWellLinked p) (covered : IsCovered p) (ol
   place_covered asked (inr (m, here, inl over)) n place = absurd (let no : Done ≡ OverBudget asked.budget = over.1.0 in cc)
   place_covered asked (inr (m, here, inr a)) n place =
       node_covered asked.budget n (subst (λ (n : Node). IsAnswered p (IsAnswerText p) asked.budget n lines)
+      (place_one p asked.method asked.index asked.local m n here place) a.0)
+
+  -- so has the answer that shows its sites
+  explained_covered : (budget : ℕ) (n : Node) → IsAnswered p (IsExplainText p) budget n lines → PrintsAllRuns p n old new
+  explained_covered budget n a = λ count state number frame x o run holds is.
+      let found = answer_sound p well covered n a.sites a.demanded a.answer count state number frame x o run holds is in
+      let line = has_explained p n a.sites a.told.lines a.told.lines_are found.0.site found.2 in (
+        found.0,
+        found.1,
+        line.0,
+        line.1,
+        (
+          text_of lines,
+          wrote,
+          record {
+            lines = a.told.query ∷ (a.told.lines ++ count_lines (length a.sites) a.demanded);
+            text_is = a.told.text_is;
+            has = has_middle a.told.query a.told.lines (count_lines (length a.sites) a.demanded) line.0 line.2;
+          },
+        ),
+      )
+
+  explain_covered : (asked : PointsTo) → IsPlaceReply p asked (IsExplainText p) Done lines → CoversAllRuns p (explain asked) old new
+  explain_covered asked (inl a) n place = absurd (place_there p asked.method asked.index asked.local n place a.0 a.1)
+  explain_covered asked (inr (m, here, inl over)) n place = absurd (let no : Done ≡ OverBudget asked.budget = over.1.0 in cc)
+  explain_covered asked (inr (m, here, inr a)) n place =
+      explained_covered asked.budget n (subst (λ (n : Node). IsAnswered p (IsExplainText p) asked.budget n lines)
       (place_one p asked.method asked.index asked.local m n here place) a.0)
 
   -- the answer about two nodes has the line of the site of each object that a run brings to both, and says that they are aliases
@@ -184,6 +216,7 @@ module _ (p : LinkedProgram) (well : IsWellLinked p) (covered : IsCovered p) (ol
 
   pub linked_covered : (entry rest : List ℕ) (q : Question) → IsLinkedReply p entry rest q Done lines → CoversAllRuns p q old new
   linked_covered entry rest (points_to asked) reply = place_covered asked reply
+  linked_covered entry rest (explain asked) reply = explain_covered asked reply
   linked_covered entry rest (alias asked) reply = alias_covered asked reply
   linked_covered entry rest (run asked) reply = tt
   linked_covered entry rest (replay budget) reply = tt
@@ -216,6 +249,22 @@ module _ (p : LinkedProgram) (old new : Option (List ℕ)) (lines : List (List �
     shown = λ o has. answered_certified p m o ((a.0.answer.answer.each o).0 has);
   }
 
+  -- or by the certificate that is printed with it
+  explain_evident : (rest : List ℕ) (asked : PointsTo) → IsPlaceReply p asked (IsExplainText p) Done lines → HasEvidence p rest (explain asked) old new
+  explain_evident rest asked (inl a) = absurd (let no : Done ≡ NoSuchPlace a.0 = a.2.0 in cc)
+  explain_evident rest asked (inr (m, here, inl over)) = absurd (let no : Done ≡ OverBudget asked.budget = over.1.0 in cc)
+  explain_evident rest asked (inr (m, here, inr a)) = record {
+    node = m;
+    place = here;
+    sites = a.0.sites;
+    demanded = a.0.demanded;
+    text = text_of lines;
+    told = a.0.told;
+    wrote = wrote;
+    shown = λ o has. let shown = explanation_of p m a.0.sites a.0.told.lines a.0.told.lines_are o has in (shown.1.certificate, shown.1.explained);
+    replayed = explanation_accepted p m a.0.sites a.0.demanded (place_named p asked.method asked.index asked.local m here) a.0.answer;
+  }
+
   -- and what a certificate claims by its own
   replay_evident : (budget : ℕ) (rest : List ℕ) → IsReplayReply p budget rest Done lines → HasEvidence p rest (replay budget) old new
   replay_evident budget rest (inl a) = absurd (let no : Done ≡ NotCertificate a.0 = a.2.0 in cc)
@@ -234,6 +283,7 @@ module _ (p : LinkedProgram) (old new : Option (List ℕ)) (lines : List (List �
 
   pub linked_evident : (entry rest : List ℕ) (q : Question) → IsLinkedReply p entry rest q Done lines → HasEvidence p rest q old new
   linked_evident entry rest (points_to asked) reply = place_evident rest asked reply
+  linked_evident entry rest (explain asked) reply = explain_evident rest asked reply
   linked_evident entry rest (replay budget) reply = replay_evident budget rest reply
   linked_evident entry rest (alias asked) reply = tt
   linked_evident entry rest (run asked) reply = tt

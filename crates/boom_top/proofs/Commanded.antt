@@ -13,6 +13,7 @@ own_source q boxes e bytes = rw e refl
 -- other commands are about the bytes that are read
 pub read_source : (q : Query) → ((boxes : ℕ) → q ≡ query.Demo boxes → ⊥) → (bytes : List ℕ) → bytes ≡ source_of (question_of q) bytes
 read_source (query.PointsTo asked) other bytes = refl
+read_source (query.Explain asked) other bytes = refl
 read_source (query.Alias asked) other bytes = refl
 read_source (query.Run asked) other bytes = refl
 read_source (query.Replay budget) other bytes = refl
@@ -21,6 +22,7 @@ read_source (query.Demo boxes) other bytes = absurd (other boxes refl)
 
 pub other_question : (q : Query) → ((boxes : ℕ) → q ≡ query.Demo boxes → ⊥) → IsDemo (question_of q) → ⊥
 other_question (query.PointsTo asked) other is = is
+other_question (query.Explain asked) other is = is
 other_question (query.Alias asked) other is = is
 other_question (query.Run asked) other is = is
 other_question (query.Replay budget) other is = is

@@ -8,6 +8,7 @@ pub mod Judged
 pub mod Marked
 pub mod Noded
 pub mod Once
+pub mod Replayed
 pub mod Replied
 pub mod Sent
 pub mod Worded

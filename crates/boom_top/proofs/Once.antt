@@ -11,7 +11,7 @@ use Rattle.link_rules.specs.declared.refusal.LinkError.TheVariants as link
 use Rattle.link_once.proofs.OneLink.{link_one}
 use Rattle.link_once.proofs.OneRefusal.{refused_one}
 use Rattle.link_sites.specs.declared.site.Site.{Site}
-use Rattle.boom_words.specs.Requests.{Alias, PointsTo, Question, Request, Typestate, alias, demo, points_to, replay, run, typestate}
+use Rattle.boom_words.specs.Requests.{Alias, PointsTo, Question, Request, Typestate, alias, demo, explain, points_to, replay, run, typestate}
 use Rattle.boom_top.specs.Demo.{IsDemoText, demo_asked}
 use Rattle.boom_top.specs.Parts.{IsGiven}
 use Rattle.boom_top.specs.Replies.{AreAliased, IsAliasReply, IsAnswered, IsBudgetReply, IsCertificateReply, IsJoinedReply, IsLinkedReply, IsNotLinked, IsPlaceReply, IsProgramReply, IsProtocolReply, IsReplayReply, IsSourceReply, IsTextReply, IsTypestateReply, IsUnread}
@@ -23,6 +23,7 @@ use Rattle.query_core.specs.Answers.{IsOver}
 use Rattle.query_core.proofs.Determined.{answer_over, shared_over}
 use Rattle.query_core.proofs.NamedPlaces.{missing_one, missing_one_of_two, place_one, place_there, places_one, places_there}
 use Rattle.report_text.specs.Answers.{IsAnswerText}
+use Rattle.explain_text.specs.Explanations.{IsExplainText}
 use Rattle.cert_rules.specs.declared.certificate.Certificate.{Certificate}
 use Rattle.cert_text.proofs.OneText.{bad_one, certificate_one, spelled_bad}
 use Rattle.cert_query.proofs.Outcomes.{over_accepted, rejected_accepted, rejected_at_one, rejected_over}
@@ -182,6 +183,7 @@ module _ (p : LinkedProgram) where
     -- what is asked of a linked program has one status
     linked_one : (q : Question) (s t : Status) (xs ys : List (List ℕ)) → IsLinkedReply p entry rest q s xs → IsLinkedReply p entry rest q t ys → s ≡ t
     linked_one (points_to asked) s t xs ys a b = place_status asked (IsAnswerText p) s t xs ys a b
+    linked_one (explain asked) s t xs ys a b = place_status asked (IsExplainText p) s t xs ys a b
     linked_one (alias asked) s t xs ys a b = alias_status asked s t xs ys a b
     linked_one (run asked) s t xs ys a b = a.1 ∙ sym b.1
     linked_one (replay budget) s t xs ys a b = replay_status budget rest s t xs ys a b
@@ -190,6 +192,7 @@ module _ (p : LinkedProgram) where
 
     linked_given : (q : Question) (s : Status) (lines : List (List ℕ)) → IsLinkedReply p entry rest q s lines → IsGiven s
     linked_given (points_to asked) s lines a = place_given asked (IsAnswerText p) s lines a
+    linked_given (explain asked) s lines a = place_given asked (IsExplainText p) s lines a
     linked_given (alias asked) s lines a = alias_given asked s lines a
     linked_given (run asked) s lines a = subst IsGiven (sym a.1) tt
     linked_given (replay budget) s lines a = replay_given budget rest s lines a

@@ -1,5 +1,5 @@
 -- The evidence for the sites that are printed.
-use Rattle.std.specs.Prelude.{ℕ, List}
+use Rattle.std.specs.Prelude.{ℕ, ◌≤◌, List}
 use Rattle.std.specs.declared.option.Option.{Option}
 use Rattle.std.specs.Io.KnownBytes.{Appends}
 use Rattle.jim_ast.specs.Lists.{Has}
@@ -10,9 +10,12 @@ use Rattle.cert_rules.specs.declared.certificate.Certificate.{Certificate}
 use Rattle.cert_rules.specs.Certified.{IsCertified}
 use Rattle.cert_rules.specs.Spelled.{SpellsCertificate}
 use Rattle.cert_laws.specs.Shown.{IsShown}
+use Rattle.cert_query.specs.Replays.{IsAccepted}
+use Rattle.cert_evidence.specs.Explained.{IsExplained}
+use Rattle.explain_text.specs.Explanations.{IsExplainText, IsExplanation}
 use Rattle.query_core.specs.Places.{IsPlaceOf}
 use Rattle.report_text.specs.Answers.{IsAcceptedText, IsAnswerText}
-use Rattle.boom_words.specs.Requests.{PointsTo, Question, alias, demo, points_to, replay, run, typestate}
+use Rattle.boom_words.specs.Requests.{PointsTo, Question, alias, demo, explain, points_to, replay, run, typestate}
 
 -- The answer about the place was written, and for each site that it prints some list of lines is certified: step by step, that an object of the site may be
 -- at the node in the system of fields and in the system of calls.
@@ -25,6 +28,21 @@ pub record PrintsShown (p : LinkedProgram) (asked : PointsTo) (old new : Option 
   pub told : IsAnswerText p node sites demanded text
   pub wrote : Appends old new text
   pub shown : (o : Site) → Has sites o → IsShown p node o
+
+-- The answer about the place was written, and with each site that it prints a certificate of the node that shows it: its lines are certified for the site,
+-- none stands twice, its claim needs each of them, and no derivation in the system of fields is shorter than the one that it writes down. Its text spells
+-- it, and a replay accepts it with each budget of at least the size of the demand, which is printed.
+pub record PrintsExplained (p : LinkedProgram) (asked : PointsTo) (old new : Option (List ℕ)) : Type 0 where
+  pub node : Node
+  pub place : IsPlaceOf p asked.method asked.index asked.local node
+  pub sites : List Site
+  pub demanded : ℕ
+  pub text : List ℕ
+  pub told : IsExplainText p node sites demanded text
+  pub wrote : Appends old new text
+  pub shown : (o : Site) → Has sites o → (c : Certificate) × IsExplained p node o c
+  pub replayed : (o : Site) (own : List (List ℕ)) (e : IsExplanation p node o own) (budget : ℕ) → demanded ≤ budget
+      → IsAccepted p budget e.certificate node o demanded
 
 -- What a certificate claims was written, and it is the one that the text spells, whose lines are certified for the site that is printed.
 pub record PrintsCertified (p : LinkedProgram) (certificate : List ℕ) (old new : Option (List ℕ)) : Type 0 where
@@ -40,6 +58,7 @@ pub record PrintsCertified (p : LinkedProgram) (certificate : List ℕ) (old new
 -- The evidence, by what was asked, of a program and of what stands behind its text. Other commands print no answer about one local.
 abbrev pub HasEvidence : LinkedProgram → List ℕ → Question → Option (List ℕ) → Option (List ℕ) → Type 0
 HasEvidence p rest (points_to asked) old new = PrintsShown p asked old new
+HasEvidence p rest (explain asked) old new = PrintsExplained p asked old new
 HasEvidence p rest (replay budget) old new = PrintsCertified p rest old new
 HasEvidence p rest (alias asked) old new = Unit {0}
 HasEvidence p rest (run asked) old new = Unit {0}

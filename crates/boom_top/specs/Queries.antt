@@ -6,7 +6,7 @@ use Rattle.jim_parse.specs.Derives.{Spells}
 use Rattle.jim_prelude.specs.Text.{prelude_text}
 use Rattle.link_rules.specs.Conditions.{DeclaresNine}
 use Rattle.link_rules.specs.Linked.{LinkedProgram, Links}
-use Rattle.boom_words.specs.Requests.{Question, Request, alias, demo, points_to, replay, run, typestate}
+use Rattle.boom_words.specs.Requests.{Question, Request, alias, demo, explain, points_to, replay, run, typestate}
 use Rattle.demo_text.specs.Demo.{demo_source}
 use Rattle.boom_top.specs.Cuts.{before_mark, behind_mark, lines_of}
 
@@ -17,6 +17,7 @@ limit = 16777216
 -- the bytes that a question is about: those that are read, but for the demo its own text
 abbrev pub source_of : Question → List ℕ → List ℕ
 source_of (points_to asked) bytes = bytes
+source_of (explain asked) bytes = bytes
 source_of (alias asked) bytes = bytes
 source_of (run asked) bytes = bytes
 source_of (replay budget) bytes = bytes
@@ -27,6 +28,7 @@ source_of (demo boxes) bytes = demo_source boxes
 abbrev pub program_in : Question → List ℕ → List ℕ
 program_in (replay budget) text = before_mark (lines_of text)
 program_in (points_to asked) text = text
+program_in (explain asked) text = text
 program_in (alias asked) text = text
 program_in (run asked) text = text
 program_in (typestate asked) text = text
@@ -36,6 +38,7 @@ program_in (demo boxes) text = text
 abbrev pub rest_in : Question → List ℕ → List ℕ
 rest_in (replay budget) text = behind_mark (lines_of text)
 rest_in (points_to asked) text = []
+rest_in (explain asked) text = []
 rest_in (alias asked) text = []
 rest_in (run asked) text = []
 rest_in (typestate asked) text = []
@@ -45,6 +48,7 @@ rest_in (demo boxes) text = []
 abbrev pub IsDemo : Question → Type 0
 IsDemo (demo boxes) = Unit {0}
 IsDemo (points_to asked) = ⊥
+IsDemo (explain asked) = ⊥
 IsDemo (alias asked) = ⊥
 IsDemo (run asked) = ⊥
 IsDemo (replay budget) = ⊥
@@ -55,6 +59,7 @@ abbrev pub IsFit : Question → Type 0
 IsFit (run asked) = All IsAsciiDigit asked.choices
 IsFit (demo boxes) = (0 < boxes) × (boxes ≤ 400)
 IsFit (points_to asked) = Unit {0}
+IsFit (explain asked) = Unit {0}
 IsFit (alias asked) = Unit {0}
 IsFit (replay budget) = Unit {0}
 IsFit (typestate asked) = Unit {0}

@@ -24,9 +24,10 @@ use Rattle.query_core.specs.Places.{ArePlacesOf, IsMissing, IsMissingOfTwo, IsPl
 use Rattle.report_text.specs.Aliases.{IsAliasText}
 use Rattle.report_text.specs.Answers.{IsAcceptedText, IsAnswerText}
 use Rattle.report_text.specs.Lines.{text_of}
+use Rattle.explain_text.specs.Explanations.{IsExplainText}
 use Rattle.run_report.specs.Named.{digits_of}
 use Rattle.run_report.specs.Reports.{IsRunText}
-use Rattle.boom_words.specs.Requests.{Alias, PointsTo, Question, Request, RunFor, Typestate, IsRequest, NoRequest, alias, demo, points_to, replay, run, typestate}
+use Rattle.boom_words.specs.Requests.{Alias, PointsTo, Question, Request, RunFor, Typestate, IsRequest, NoRequest, alias, demo, explain, points_to, replay, run, typestate}
 use Rattle.boom_top.specs.Demo.{IsDemoText, demo_asked}
 use Rattle.boom_top.specs.Queries.{HasNoPrelude, IsPrelude, limit, program_in, rest_in, source_of}
 use Rattle.boom_top.specs.Refusals.{refusal}
@@ -123,6 +124,7 @@ IsTypestateReply p entry asked status lines =
 -- about a linked program, and what stands behind its text
 abbrev pub IsLinkedReply : LinkedProgram → List ℕ → List ℕ → Question → Status → List (List ℕ) → Type 0
 IsLinkedReply p entry rest (points_to asked) = IsPlaceReply p asked (IsAnswerText p)
+IsLinkedReply p entry rest (explain asked) = IsPlaceReply p asked (IsExplainText p)
 IsLinkedReply p entry rest (alias asked) = IsAliasReply p asked
 IsLinkedReply p entry rest (run asked) = IsRunReply p entry asked
 IsLinkedReply p entry rest (replay budget) = IsReplayReply p budget rest

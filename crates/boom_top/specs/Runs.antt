@@ -19,7 +19,7 @@ use Rattle.query_core.specs.Places.{ArePlacesOf, IsPlaceOf}
 use Rattle.report_text.specs.Aliases.{IsSharedLine}
 use Rattle.report_text.specs.Answers.{IsSiteLine}
 use Rattle.report_text.specs.Lines.{text_of}
-use Rattle.boom_words.specs.Requests.{PointsTo, Question, Request, Typestate, IsRequest, alias, demo, points_to, replay, run, typestate}
+use Rattle.boom_words.specs.Requests.{PointsTo, Question, Request, Typestate, IsRequest, alias, demo, explain, points_to, replay, run, typestate}
 use Rattle.track_rules.specs.Protocols.{IsProtocolOf, ProtocolParts}
 use Rattle.track_verdicts.specs.Verdicts as verdict
 use Rattle.boom_top.specs.Demo.{demo_asked}
@@ -55,6 +55,7 @@ PrintsAllAliases p a b old new = (count : ℕ) (s : State) (number : ℕ) (frame
 -- runs stands in `Safety`.
 abbrev pub CoversAllRuns : LinkedProgram → Question → Option (List ℕ) → Option (List ℕ) → Type 0
 CoversAllRuns p (points_to asked) old new = (n : Node) → IsPlaceOf p asked.method asked.index asked.local n → PrintsAllRuns p n old new
+CoversAllRuns p (explain asked) old new = (n : Node) → IsPlaceOf p asked.method asked.index asked.local n → PrintsAllRuns p n old new
 CoversAllRuns p (alias asked) old new = (a b : Node) → ArePlacesOf p asked.method asked.index asked.first asked.second a b
     → PrintsAllAliases p a b old new
 CoversAllRuns p (run asked) old new = Unit {0}
@@ -77,6 +78,7 @@ IsJudgeable p asked = (k : ProtocolParts) × IsProtocolOf p asked.protocol k × 
 -- what is asked of a linked program, with what stands behind its text, can be answered
 abbrev pub HasAnswer : LinkedProgram → List ℕ → Question → Type 0
 HasAnswer p rest (points_to asked) = IsWithin p asked
+HasAnswer p rest (explain asked) = IsWithin p asked
 HasAnswer p rest (alias asked) = (a : Node) × (b : Node) × ArePlacesOf p asked.method asked.index asked.first asked.second a b
     × IsAffordable p (a ∷ b ∷ []) asked.budget
 HasAnswer p rest (run asked) = Unit {0}

@@ -4,6 +4,7 @@
 mod aliases;
 mod cutting;
 mod demo;
+mod explaining;
 mod linked;
 mod query;
 mod reading;

@@ -14,6 +14,7 @@ ghost use Rattle.boom_top.specs.Replies.{IsLinkedReply, IsPlaceReply, IsRunReply
 
 use super::aliases::alias_reply;
 use super::demo::demo_reply;
+use super::explaining::explain_reply;
 use super::refusal::refusal_text;
 use super::replays::replay_reply;
 use super::status::Status;
@@ -151,6 +152,7 @@ pub(crate) fn linked_reply(
 {
     match &command.query {
         Query::PointsTo(asked) => points_to_reply(alloc, asked, linked),
+        Query::Explain(asked) => explain_reply(alloc, asked, linked),
         Query::Alias(asked) => alias_reply(alloc, asked, linked),
         Query::Run(asked) => run_reply(alloc, command.entry, asked, linked),
         Query::Replay { budget } => replay_reply(alloc, *budget, rest, linked),

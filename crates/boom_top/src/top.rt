@@ -120,6 +120,8 @@ fn words_reply<S: Source>(alloc: Global, words: &[String], source: &mut S) -> Re
 /// `words` are the words of the command line behind the program's name. INDEX counts the statements of METHOD from 0.
 ///
 /// - `points-to ENTRY METHOD INDEX LOCAL BUDGET`: which sites may be those of the object that LOCAL holds just before the statement?
+/// - `explain ENTRY METHOD INDEX LOCAL BUDGET`: the same, and for each site a certificate that shows it, by a derivation in the system of fields than which
+///   none is shorter.
 /// - `alias ENTRY METHOD INDEX LOCAL LOCAL BUDGET`: which sites may be those of one object that both locals hold there?
 /// - `run ENTRY STEPS CHOICES`: how does the machine stand after so many steps of the run that the digits name?
 /// - `replay ENTRY BUDGET`: does the certificate behind the program show that a local may hold an object of a site? The program is what stands before the
@@ -157,8 +159,8 @@ pub fn boomer<S: Source, K: Sink>(
         → (entry : List ℕ) (asked : Typestate) → IsTypestate (map string_bytes words.now) entry asked
         → (a : Accepted (record { entry = entry; question = typestate asked }) bytes) (k : ProtocolParts) → IsProtocolOf a.linked asked.protocol k
         → SaysSafe (K.written sink.old) (K.written sink.new) → IsSafe a.linked k }
-    // The evidence: for each site that an answer prints some list of lines is certified; and a replay prints the site for which the lines that it was
-    // given are.
+    // The evidence: for each site that an answer prints some list of lines is certified; an explanation prints one for each, without a line twice or one
+    // that its claim doesn't need, and by a shortest derivation; and a replay prints the site for which the lines that it was given are.
     ensures evident { (bytes : List ℕ) → AreAbout (map string_bytes words.now) (S.left source.old) bytes → result ≡ Status.Done
         → (r : Request) → IsRequest (map string_bytes words.now) r → (a : Accepted r bytes)
         → HasEvidence a.linked (rest_in r.question (source_of r.question bytes)) r.question (K.written sink.old) (K.written sink.new) }

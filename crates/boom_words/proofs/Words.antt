@@ -2,7 +2,7 @@
 use Rattle.std.proofs.Common.{◌≡◌, ℕ, ◌^◌, ◌<◌, ◌≤◌, List, [], ◌∷◌, Some, sym, ap, ◌∙◌, map, length, get_or, codes, arith, refl}
 use Rattle.std.proofs.lemmas.List.{length-map}
 use Rattle.std.specs.Fmt.{decimal}
-use Rattle.boom_words.specs.Requests.{AreChoices, IsQuestion, IsRequest, Question, Request, alias, demo, points_to, replay, run, typestate}
+use Rattle.boom_words.specs.Requests.{AreChoices, IsQuestion, IsRequest, PointsTo, Question, Request, alias, demo, explain, points_to, replay, run, typestate}
 
 -- a list of one element is its element
 pub one : {X : Type 0} (xs : List X) (a : X) → length xs ≡ 1 → a ≡ get_or xs 0 a → xs ≡ a ∷ []
@@ -50,8 +50,8 @@ Spells word found = (n : ℕ) → n < 2 ^ 32 → word ≡ decimal n → Some fou
 request_same : (entry : List ℕ) (q : Question) (r : Request) → entry ≡ r.entry → q ≡ r.question → record { entry = entry; question = q } ≡ r
 request_same entry q r e f = rw (e, f) refl
 
--- the numbers of a `points-to` command, by its words
-record PointsToNumbers (entry method index local budget : List ℕ) (named : List ℕ) (q : Question) : Type 0 where
+-- the numbers of a `points-to` or an `explain` command, by its words
+record PlaceNumbers (ask : PointsTo → Question) (entry method index local budget : List ℕ) (named : List ℕ) (q : Question) : Type 0 where
   pub at : ℕ
   pub most : ℕ
   pub small_index : at < 2 ^ 32
@@ -59,11 +59,12 @@ record PointsToNumbers (entry method index local budget : List ℕ) (named : Lis
   pub is_index : index ≡ decimal at
   pub is_budget : budget ≡ decimal most
   pub is_entry : entry ≡ named
-  pub asks : points_to (record { method = method; index = at; local = local; budget = most }) ≡ q
+  pub asks : ask (record { method = method; index = at; local = local; budget = most }) ≡ q
 
 -- words that begin with `points-to` ask for what a local may hold
 points_to_numbers : (entry method index local budget : List ℕ) (named : List ℕ) (q : Question)
-    → IsQuestion (codes "points-to" ∷ entry ∷ method ∷ index ∷ local ∷ budget ∷ []) named q → PointsToNumbers entry method index local budget named q
+    → IsQuestion (codes "points-to" ∷ entry ∷ method ∷ index ∷ local ∷ budget ∷ []) named q
+    → PlaceNumbers points_to entry method index local budget named q
 points_to_numbers entry method index local budget named (points_to asked) h =
     let same = h.in_order in
     let method_same : method ≡ asked.method = cc in
@@ -78,21 +79,53 @@ points_to_numbers entry method index local budget named (points_to asked) h =
       is_entry = cc;
       asks = rw (method_same, local_same) refl;
     }
+points_to_numbers entry method index local budget named (explain asked) h = absurd (let same = h.in_order in cc)
 points_to_numbers entry method index local budget named (alias asked) h = absurd (let same = h.in_order in cc)
 points_to_numbers entry method index local budget named (run asked) h = absurd (let same = h.in_order in cc)
 points_to_numbers entry method index local budget named (replay most) h = absurd (let same = h.in_order in cc)
 points_to_numbers entry method index local budget named (typestate asked) h = absurd (let same = h.in_order in cc)
 points_to_numbers entry method index local budget named (demo count) h = absurd (let same = h.in_order in cc)
 
+-- words that begin with `explain` ask for what shows that a local may hold it
+explain_numbers : (entry method index local budget : List ℕ) (named : List ℕ) (q : Question)
+    → IsQuestion (codes "explain" ∷ entry ∷ method ∷ index ∷ local ∷ budget ∷ []) named q
+    → PlaceNumbers explain entry method index local budget named q
+explain_numbers entry method index local budget named (points_to asked) h = absurd (let same = h.in_order in cc)
+explain_numbers entry method index local budget named (explain asked) h =
+    let same = h.in_order in
+    let method_same : method ≡ asked.method = cc in
+    let local_same : local ≡ asked.local = cc in
+    record {
+      at = asked.index;
+      most = asked.budget;
+      small_index = h.small_index;
+      small_budget = h.small_budget;
+      is_index = cc;
+      is_budget = cc;
+      is_entry = cc;
+      asks = rw (method_same, local_same) refl;
+    }
+explain_numbers entry method index local budget named (alias asked) h = absurd (let same = h.in_order in cc)
+explain_numbers entry method index local budget named (run asked) h = absurd (let same = h.in_order in cc)
+explain_numbers entry method index local budget named (replay most) h = absurd (let same = h.in_order in cc)
+explain_numbers entry method index local budget named (typestate asked) h = absurd (let same = h.in_order in cc)
+explain_numbers entry method index local budget named (demo count) h = absurd (let same = h.in_order in cc)
+
+-- the command with the numbers that its words spell is what the words ask for
+place_only : (ask : PointsTo → Question) (entry method index local budget : List ℕ) (at most : ℕ) (r : Request)
+    → PlaceNumbers ask entry method index local budget r.entry r.question → Spells index at → Spells budget most
+    → record { entry = entry; question = ask (record { method = method; index = at; local = local; budget = most }) } ≡ r
+place_only ask entry method index local budget at most r n spells_index spells_budget =
+    let at_same : at ≡ n.at = (let e = spells_index n.at n.small_index n.is_index in cc) in
+    let most_same : most ≡ n.most = (let e = spells_budget n.most n.small_budget n.is_budget in cc) in
+    request_same entry _ r n.is_entry (rw (at_same, most_same) n.asks)
+
 -- the `points-to` command with the numbers that its words spell is what the words ask for
 pub points_to_only : (entry method index local budget : List ℕ) (at most : ℕ) (r : Request)
     → IsRequest (codes "points-to" ∷ entry ∷ method ∷ index ∷ local ∷ budget ∷ []) r → Spells index at → Spells budget most
     → record { entry = entry; question = points_to (record { method = method; index = at; local = local; budget = most }) } ≡ r
-points_to_only entry method index local budget at most r h spells_index spells_budget =
-    let n = points_to_numbers entry method index local budget r.entry r.question h in
-    let at_same : at ≡ n.at = (let e = spells_index n.at n.small_index n.is_index in cc) in
-    let most_same : most ≡ n.most = (let e = spells_budget n.most n.small_budget n.is_budget in cc) in
-    request_same entry _ r n.is_entry (rw (at_same, most_same) n.asks)
+points_to_only entry method index local budget at most r h =
+    place_only points_to entry method index local budget at most r (points_to_numbers entry method index local budget r.entry r.question h)
 
 -- a `points-to` command has an index
 pub points_to_has_index : (entry method index local budget : List ℕ) (r : Request)
@@ -106,6 +139,27 @@ pub points_to_has_budget : (entry method index local budget : List ℕ) (r : Req
     → IsRequest (codes "points-to" ∷ entry ∷ method ∷ index ∷ local ∷ budget ∷ []) r → ((n : ℕ) → n < 2 ^ 32 → ¬ (budget ≡ decimal n)) → ⊥
 points_to_has_budget entry method index local budget r h none =
     let n = points_to_numbers entry method index local budget r.entry r.question h in
+    none n.most n.small_budget n.is_budget
+
+-- the `explain` command with the numbers that its words spell is what the words ask for
+pub explain_only : (entry method index local budget : List ℕ) (at most : ℕ) (r : Request)
+    → IsRequest (codes "explain" ∷ entry ∷ method ∷ index ∷ local ∷ budget ∷ []) r → Spells index at → Spells budget most
+    → record { entry = entry; question = explain (record { method = method; index = at; local = local; budget = most }) } ≡ r
+explain_only entry method index local budget at most r h =
+    place_only explain entry method index local budget at most r (explain_numbers entry method index local budget r.entry r.question h)
+
+-- an `explain` command has an index
+pub explain_has_index : (entry method index local budget : List ℕ) (r : Request)
+    → IsRequest (codes "explain" ∷ entry ∷ method ∷ index ∷ local ∷ budget ∷ []) r → ((n : ℕ) → n < 2 ^ 32 → ¬ (index ≡ decimal n)) → ⊥
+explain_has_index entry method index local budget r h none =
+    let n = explain_numbers entry method index local budget r.entry r.question h in
+    none n.at n.small_index n.is_index
+
+-- an `explain` command has a budget
+pub explain_has_budget : (entry method index local budget : List ℕ) (r : Request)
+    → IsRequest (codes "explain" ∷ entry ∷ method ∷ index ∷ local ∷ budget ∷ []) r → ((n : ℕ) → n < 2 ^ 32 → ¬ (budget ≡ decimal n)) → ⊥
+explain_has_budget entry method index local budget r h none =
+    let n = explain_numbers entry method index local budget r.entry r.question h in
     none n.most n.small_budget n.is_budget
 
 -- the numbers of an `alias` command, by its words
@@ -124,6 +178,7 @@ alias_numbers : (entry method index first second budget : List ℕ) (named : Lis
     → IsQuestion (codes "alias" ∷ entry ∷ method ∷ index ∷ first ∷ second ∷ budget ∷ []) named q
     → AliasNumbers entry method index first second budget named q
 alias_numbers entry method index first second budget named (points_to asked) h = absurd (let same = h.in_order in cc)
+alias_numbers entry method index first second budget named (explain asked) h = absurd (let same = h.in_order in cc)
 alias_numbers entry method index first second budget named (alias asked) h =
     let same = h.in_order in
     let method_same : method ≡ asked.method = cc in
@@ -182,6 +237,7 @@ record RunNumbers (entry steps word : List ℕ) (named : List ℕ) (q : Question
 run_numbers : (entry steps word : List ℕ) (named : List ℕ) (q : Question)
     → IsQuestion (codes "run" ∷ entry ∷ steps ∷ word ∷ []) named q → RunNumbers entry steps word named q
 run_numbers entry steps word named (points_to asked) h = absurd (let same = h.in_order in cc)
+run_numbers entry steps word named (explain asked) h = absurd (let same = h.in_order in cc)
 run_numbers entry steps word named (alias asked) h = absurd (let same = h.in_order in cc)
 run_numbers entry steps word named (run asked) h =
     let same = h.in_order in
@@ -235,6 +291,7 @@ points_to_counted entry words named (points_to asked) h =
     let same = h.in_order in
     let behind : words ≡ asked.method ∷ decimal asked.index ∷ asked.local ∷ decimal asked.budget ∷ [] = cc in
     rw behind refl
+points_to_counted entry words named (explain asked) h = absurd (let same = h.in_order in cc)
 points_to_counted entry words named (alias asked) h = absurd (let same = h.in_order in cc)
 points_to_counted entry words named (run asked) h = absurd (let same = h.in_order in cc)
 points_to_counted entry words named (replay most) h = absurd (let same = h.in_order in cc)
@@ -246,9 +303,28 @@ pub points_to_count : {X : Type 0} (bytes : X → List ℕ) (entry : List ℕ) (
     → IsRequest (codes "points-to" ∷ entry ∷ map bytes words) r → length words ≡ 4
 points_to_count bytes entry words r h = sym (length-map words bytes) ∙ points_to_counted entry (map bytes words) r.entry r.question h
 
+-- the words behind the entry of `explain`, by the question
+explain_counted : (entry : List ℕ) (words : List (List ℕ)) (named : List ℕ) (q : Question) → IsQuestion (codes "explain" ∷ entry ∷ words) named q → length words ≡ 4
+explain_counted entry words named (explain asked) h =
+    let same = h.in_order in
+    let behind : words ≡ asked.method ∷ decimal asked.index ∷ asked.local ∷ decimal asked.budget ∷ [] = cc in
+    rw behind refl
+explain_counted entry words named (points_to asked) h = absurd (let same = h.in_order in cc)
+explain_counted entry words named (alias asked) h = absurd (let same = h.in_order in cc)
+explain_counted entry words named (run asked) h = absurd (let same = h.in_order in cc)
+explain_counted entry words named (replay most) h = absurd (let same = h.in_order in cc)
+explain_counted entry words named (typestate asked) h = absurd (let same = h.in_order in cc)
+explain_counted entry words named (demo count) h = absurd (let same = h.in_order in cc)
+
+-- an `explain` command has four words behind its entry
+pub explain_count : {X : Type 0} (bytes : X → List ℕ) (entry : List ℕ) (words : List X) (r : Request)
+    → IsRequest (codes "explain" ∷ entry ∷ map bytes words) r → length words ≡ 4
+explain_count bytes entry words r h = sym (length-map words bytes) ∙ explain_counted entry (map bytes words) r.entry r.question h
+
 -- the words behind the entry of `alias`, by the question
 alias_counted : (entry : List ℕ) (words : List (List ℕ)) (named : List ℕ) (q : Question) → IsQuestion (codes "alias" ∷ entry ∷ words) named q → length words ≡ 5
 alias_counted entry words named (points_to asked) h = absurd (let same = h.in_order in cc)
+alias_counted entry words named (explain asked) h = absurd (let same = h.in_order in cc)
 alias_counted entry words named (alias asked) h =
     let same = h.in_order in
     let behind : words ≡ asked.method ∷ decimal asked.index ∷ asked.first ∷ asked.second ∷ decimal asked.budget ∷ [] = cc in
@@ -266,6 +342,7 @@ alias_count bytes entry words r h = sym (length-map words bytes) ∙ alias_count
 -- the words behind the entry of `run`, by the question
 run_counted : (entry : List ℕ) (words : List (List ℕ)) (named : List ℕ) (q : Question) → IsQuestion (codes "run" ∷ entry ∷ words) named q → length words ≡ 2
 run_counted entry words named (points_to asked) h = absurd (let same = h.in_order in cc)
+run_counted entry words named (explain asked) h = absurd (let same = h.in_order in cc)
 run_counted entry words named (alias asked) h = absurd (let same = h.in_order in cc)
 run_counted entry words named (run asked) h =
     let same = h.in_order in
@@ -292,6 +369,7 @@ record ReplayNumbers (entry budget : List ℕ) (named : List ℕ) (q : Question)
 replay_numbers : (entry budget : List ℕ) (named : List ℕ) (q : Question) → IsQuestion (codes "replay" ∷ entry ∷ budget ∷ []) named q
     → ReplayNumbers entry budget named q
 replay_numbers entry budget named (points_to asked) h = absurd (let same = h.in_order in cc)
+replay_numbers entry budget named (explain asked) h = absurd (let same = h.in_order in cc)
 replay_numbers entry budget named (alias asked) h = absurd (let same = h.in_order in cc)
 replay_numbers entry budget named (run asked) h = absurd (let same = h.in_order in cc)
 replay_numbers entry budget named (replay most) h =
@@ -324,6 +402,7 @@ replay_has_budget entry budget r h none =
 -- the words behind the entry of `replay`, by the question
 replay_counted : (entry : List ℕ) (words : List (List ℕ)) (named : List ℕ) (q : Question) → IsQuestion (codes "replay" ∷ entry ∷ words) named q → length words ≡ 1
 replay_counted entry words named (points_to asked) h = absurd (let same = h.in_order in cc)
+replay_counted entry words named (explain asked) h = absurd (let same = h.in_order in cc)
 replay_counted entry words named (alias asked) h = absurd (let same = h.in_order in cc)
 replay_counted entry words named (run asked) h = absurd (let same = h.in_order in cc)
 replay_counted entry words named (replay most) h =
@@ -350,6 +429,7 @@ record TypestateNumbers (entry protocol budget : List ℕ) (named : List ℕ) (q
 typestate_numbers : (entry protocol budget : List ℕ) (named : List ℕ) (q : Question) → IsQuestion (codes "typestate" ∷ entry ∷ protocol ∷ budget ∷ []) named q
     → TypestateNumbers entry protocol budget named q
 typestate_numbers entry protocol budget named (points_to asked) h = absurd (let same = h.in_order in cc)
+typestate_numbers entry protocol budget named (explain asked) h = absurd (let same = h.in_order in cc)
 typestate_numbers entry protocol budget named (alias asked) h = absurd (let same = h.in_order in cc)
 typestate_numbers entry protocol budget named (run asked) h = absurd (let same = h.in_order in cc)
 typestate_numbers entry protocol budget named (replay most) h = absurd (let same = h.in_order in cc)
@@ -383,6 +463,7 @@ typestate_has_budget entry protocol budget r h none =
 -- the words behind the entry of `typestate`, by the question
 typestate_counted : (entry : List ℕ) (words : List (List ℕ)) (named : List ℕ) (q : Question) → IsQuestion (codes "typestate" ∷ entry ∷ words) named q → length words ≡ 2
 typestate_counted entry words named (points_to asked) h = absurd (let same : 116 ≡ 112 = ap letter h.in_order in omega (arith, same))
+typestate_counted entry words named (explain asked) h = absurd (let same = h.in_order in cc)
 typestate_counted entry words named (alias asked) h = absurd (let same = h.in_order in cc)
 typestate_counted entry words named (run asked) h = absurd (let same = h.in_order in cc)
 typestate_counted entry words named (replay most) h = absurd (let same = h.in_order in cc)

@@ -1,5 +1,5 @@
 -- What a command's fields are.
-use Rattle.boom_words.specs.Requests.{Alias, PointsTo, Question, Request, RunFor, Typestate, alias, demo, points_to, replay, run, typestate}
+use Rattle.boom_words.specs.Requests.{Alias, PointsTo, Question, Request, RunFor, Typestate, alias, demo, explain, points_to, replay, run, typestate}
 use Rattle.boom_words.specs.declared.request.Asked.{Asked}
 use Rattle.boom_words.specs.declared.request.AskedBoth.{AskedBoth}
 use Rattle.boom_words.specs.declared.request.Command.{Command}
@@ -8,7 +8,7 @@ use Rattle.boom_words.specs.declared.request.Query.TheVariants as query
 use Rattle.boom_words.specs.declared.request.Running.{Running}
 use Rattle.boom_words.specs.declared.request.Tracking.{Tracking}
 
--- what a `points-to` command asks for
+-- what a `points-to` or an `explain` command asks for
 abbrev pub points_to_of : Asked → PointsTo
 points_to_of a = record { method = a.method.now; index = a.index; local = a.local.now; budget = a.budget }
 
@@ -27,6 +27,7 @@ typestate_of a = record { protocol = a.protocol.now; budget = a.budget }
 -- what a query asks
 abbrev pub question_of : Query → Question
 question_of (query.PointsTo asked) = points_to (points_to_of asked)
+question_of (query.Explain asked) = explain (points_to_of asked)
 question_of (query.Alias asked) = alias (alias_of asked)
 question_of (query.Run asked) = run (run_of asked)
 question_of (query.Replay budget) = replay budget

@@ -28,10 +28,11 @@ pub record Typestate : Type 0 where
   pub protocol : List ℕ
   pub budget : ℕ
 
--- what is asked of a linked program. A replay asks whether the certificate behind the program is one, where so many nodes may be demanded. The demo, of
+-- what is asked of a linked program. An explanation is asked what a local may hold, with a certificate for each site. A replay asks whether the certificate behind the program is one, where so many nodes may be demanded. The demo, of
 -- so many boxes, is asked of a program of its own
 pub data Question : Type 0 where
   points_to : PointsTo → Question
+  explain : PointsTo → Question
   alias : Alias → Question
   run : RunFor → Question
   replay : ℕ → Question
@@ -46,6 +47,12 @@ pub record Request : Type 0 where
 -- the words of a `points-to` command, by position: the two numbers are decimal digits without a leading zero, below 2^32
 pub record IsPointsTo (words : List (List ℕ)) (entry : List ℕ) (asked : PointsTo) : Type 0 where
   pub in_order : words ≡ codes "points-to" ∷ entry ∷ asked.method ∷ decimal asked.index ∷ asked.local ∷ decimal asked.budget ∷ []
+  pub small_index : asked.index < 2 ^ 32
+  pub small_budget : asked.budget < 2 ^ 32
+
+-- the words of an `explain` command, by position: they are as those of a `points-to` command
+pub record IsExplain (words : List (List ℕ)) (entry : List ℕ) (asked : PointsTo) : Type 0 where
+  pub in_order : words ≡ codes "explain" ∷ entry ∷ asked.method ∷ decimal asked.index ∷ asked.local ∷ decimal asked.budget ∷ []
   pub small_index : asked.index < 2 ^ 32
   pub small_budget : asked.budget < 2 ^ 32
 
@@ -88,6 +95,7 @@ pub record IsDemo (words : List (List ℕ)) (entry : List ℕ) (boxes : ℕ) : T
 -- the words of a command
 abbrev pub IsQuestion : List (List ℕ) → List ℕ → Question → Type 0
 IsQuestion words entry (points_to asked) = IsPointsTo words entry asked
+IsQuestion words entry (explain asked) = IsExplain words entry asked
 IsQuestion words entry (alias asked) = IsAlias words entry asked
 IsQuestion words entry (run asked) = IsRun words entry asked
 IsQuestion words entry (replay budget) = IsReplay words entry budget

@@ -8,7 +8,7 @@ ghost use Rattle.boom_words.specs.Commands.{request_of};
 use jim_ast::NoMemory;
 use std::alloc::Global;
 
-/// What a `points-to` command asks for.
+/// What a `points-to` or an `explain` command asks for.
 #[derive(Clone, Copy)]
 pub struct Asked<'a> {
     pub method: &'a str,
@@ -46,6 +46,8 @@ pub struct Tracking<'a> {
 pub enum Query<'a> {
     /// Which sites may a local hold?
     PointsTo(Asked<'a>),
+    /// Which sites may a local hold, and what shows of each that it may?
+    Explain(Asked<'a>),
     /// Which sites may two locals both hold?
     Alias(AskedBoth<'a>),
     /// How does a run stand after some steps?
@@ -144,6 +146,38 @@ fn points_to<'a>(
     Ok(Some(Command {
         entry,
         query: Query::PointsTo(asked),
+    }))
+}
+
+// The `explain` command with this entry and these words behind it.
+fn explain<'a>(
+    alloc: Global,
+    entry: &'a str,
+    words: &'a [String],
+) -> Result<Option<Command<'a>>, NoMemory>
+    ensures some { IfOk result (λ found. IfSome found (λ c.
+        IsRequest (codes "explain" ∷ entry.now ∷ map string_bytes words.now) (request_of c))) }
+    ensures only { IfOk result (λ found. (r : Request) → IsRequest (codes "explain" ∷ entry.now ∷ map string_bytes words.now) r
+        → IsSomeAnd found (λ c. request_of c ≡ r)) }
+{
+    let [method, index, local, budget] = words else {
+        return Ok(None);
+    };
+    let Some(index) = number(alloc, index.as_str())? else {
+        return Ok(None);
+    };
+    let Some(budget) = number(alloc, budget.as_str())? else {
+        return Ok(None);
+    };
+    let asked = Asked {
+        method: method.as_str(),
+        index,
+        local: local.as_str(),
+        budget,
+    };
+    Ok(Some(Command {
+        entry,
+        query: Query::Explain(asked),
     }))
 }
 
@@ -283,8 +317,8 @@ fn demo<'a>(
 }
 
 /// The command that the words are, if they are one: `points-to ENTRY METHOD INDEX LOCAL BUDGET`,
-/// `alias ENTRY METHOD INDEX LOCAL LOCAL BUDGET`, `run ENTRY STEPS CHOICES`, `replay ENTRY BUDGET`, `typestate ENTRY PROTOCOL BUDGET` or
-/// `demo BOXES`.
+/// `explain ENTRY METHOD INDEX LOCAL BUDGET`, `alias ENTRY METHOD INDEX LOCAL LOCAL BUDGET`, `run ENTRY STEPS CHOICES`, `replay ENTRY BUDGET`,
+/// `typestate ENTRY PROTOCOL BUDGET` or `demo BOXES`.
 ///
 /// INDEX, BUDGET, STEPS and BOXES are decimal digits without a leading zero, at most 4,294,967,295, STEPS at most 1,000,000 and BOXES from 1 to 400.
 /// CHOICES is a dash for none, or 1 to 1,000 decimal digits. The other words are any texts. The entry of `demo` is its program's class `Demo`.
@@ -297,6 +331,7 @@ pub fn read_words(alloc: Global, words: &[String]) -> Result<Option<Command<'_>>
     };
     match command.as_str() {
         "points-to" => points_to(alloc, second.as_str(), rest),
+        "explain" => explain(alloc, second.as_str(), rest),
         "alias" => alias(alloc, second.as_str(), rest),
         "run" => run(alloc, second.as_str(), rest),
         "replay" => replay(alloc, second.as_str(), rest),

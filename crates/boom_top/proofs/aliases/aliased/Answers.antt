@@ -1,4 +1,4 @@
-use Rattle.boom_top.proofs.Noded.{place_named}
+use Rattle.explain_text.proofs.Asked.{place_named}
 use Rattle.boom_top.proofs.aliases.aliased.Goals as goal
 
 pub alias_text-requires-clause-first : goal.alias_text-requires-clause-first

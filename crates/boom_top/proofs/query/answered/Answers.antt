@@ -1,4 +1,4 @@
-use Rattle.boom_top.proofs.Noded.{place_named}
+use Rattle.explain_text.proofs.Asked.{place_named}
 use Rattle.boom_top.proofs.query.answered.Goals as goal
 
 pub answer_text-requires-clause-target : goal.answer_text-requires-clause-target
