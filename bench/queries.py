@@ -1,6 +1,7 @@
 """How long queries, runs and the demo take, what they demand, and how that grows.
 
-usage: queries.py [--small] [--limit SECONDS] [run] [calls] [fields] [demo] [typestate]      all of them where none is named
+usage: queries.py [--small] [--limit SECONDS] [run] [calls] [fields] [demo] [typestate] [explain]
+       all of them where none is named
 
 It generates programs of growing size and runs the built program on them: that of ./boomer, which builds it first, or the one that BOOMER names. A time is that
 of the whole call: reading, linking, answering. --small takes sizes that end within seconds. It prints figures, and judges nothing; a query that isn't
@@ -216,6 +217,16 @@ def layers(count):
     return main_class([], declared, statements, more), typestate('Bottom fresh;fresh open opened;opened read opened;opened close closed')
 
 
+def explained(shape):
+    """The same query with a certificate for each site."""
+
+    def made(count):
+        text, words = shape(count)
+        return text, ['explain', *words[1:]]
+
+    return made
+
+
 # For each name: what is measured, how it is made, its sizes and its small sizes.
 TABLES = {
     'run': [('steps of a loop that makes objects', loop, [250000, 500000, 1000000], [10000, 20000])],
@@ -240,6 +251,16 @@ TABLES = {
         ('a loop that reads a file at many places', looped_reads, [50, 100, 200, 400], [5, 10]),
         ('objects that go round sixteen states', sixteen_states, [10, 20, 40, 80], [2, 4]),
         ('layers of a library, each over the one below', layers, [5, 10, 20, 40], [2, 4]),
+    ],
+    'explain': [
+        ('a list of cells, built and read', cells, [25, 50, 100, 200], [5, 10]),
+        ('the same, explained', explained(cells), [25, 50, 100, 200], [5, 10]),
+        ('boxes through one put and one get', boxes, [50, 100, 200, 400], [5, 10]),
+        ('the same, explained', explained(boxes), [50, 100, 200, 400], [5, 10]),
+        ('methods that all call each other', clique, [10, 20, 40], [4, 8]),
+        ('the same, explained', explained(clique), [10, 20, 40], [4, 8]),
+        ('a call that many classes answer', dispatch, [125, 250, 500], [10, 20]),
+        ('the same, explained', explained(dispatch), [125, 250, 500], [10, 20]),
     ],
 }
 
