@@ -109,8 +109,8 @@ module _ {W : Type 0} (d : Domain W) (s : Splitting) where
   -- a rule that stays as it is
   abbrev pub IsWhole : Rule W → Type 0
   IsWhole (Flow from to weight) = Unit {0}
-  IsWhole (Push from to mark weight) = s.is_split (s.room to) ≡ false
-  IsWhole (Pop from mark to weight) = s.is_split (s.room from) ≡ false
+  IsWhole (Push from to mark weight) = s.is_split (s.room to) mark ≡ false
+  IsWhole (Pop from mark to weight) = s.is_split (s.room from) mark ≡ false
 
   whole_self : (q : Rule W) → IsWhole q → IsSplitRule d s (q ∷ []) q
   whole_self (Flow from to weight) whole = flow from to weight (the_one _) refl
@@ -123,11 +123,11 @@ module _ {W : Type 0} (d : Domain W) (s : Splitting) where
   whole_alone : (q r : Rule W) → IsWhole q → IsSplitRule d s (q ∷ []) r → r ≡ q
   whole_alone q r whole (flow m n w has e) = e ∙ has_one q _ has
   whole_alone q r whole (push m n k w has t e) = e ∙ has_one q _ has
-  whole_alone q r whole (push_entry m n k w has t e) = absurd (not_both (s.is_split (s.room n)) (subst (λ (p : Rule W). IsWhole p) (sym (has_one q (Push m n k w) has)) whole) t)
-  whole_alone q r whole (push_common m n k w has t e) = absurd (not_both (s.is_split (s.room n)) (subst (λ (p : Rule W). IsWhole p) (sym (has_one q (Push m n k w) has)) whole) t)
+  whole_alone q r whole (push_entry m n k w has t e) = absurd (not_both (s.is_split (s.room n) k) (subst (λ (p : Rule W). IsWhole p) (sym (has_one q (Push m n k w) has)) whole) t)
+  whole_alone q r whole (push_common m n k w has t e) = absurd (not_both (s.is_split (s.room n) k) (subst (λ (p : Rule W). IsWhole p) (sym (has_one q (Push m n k w) has)) whole) t)
   whole_alone q r whole (pop m k n w has t e) = e ∙ has_one q _ has
-  whole_alone q r whole (pop_common m k n w has t e) = absurd (not_both (s.is_split (s.room m)) (subst (λ (p : Rule W). IsWhole p) (sym (has_one q (Pop m k n w) has)) whole) t)
-  whole_alone q r whole (pop_exit m k n w has t e) = absurd (not_both (s.is_split (s.room m)) (subst (λ (p : Rule W). IsWhole p) (sym (has_one q (Pop m k n w) has)) whole) t)
+  whole_alone q r whole (pop_common m k n w has t e) = absurd (not_both (s.is_split (s.room m) k) (subst (λ (p : Rule W). IsWhole p) (sym (has_one q (Pop m k n w) has)) whole) t)
+  whole_alone q r whole (pop_exit m k n w has t e) = absurd (not_both (s.is_split (s.room m) k) (subst (λ (p : Rule W). IsWhole p) (sym (has_one q (Pop m k n w) has)) whole) t)
 
   pub written_whole : (q : Rule W) (old : List (Rule W)) → IsWhole q → AreWritten q old (old ++ q ∷ [])
   written_whole q old whole = record {
@@ -140,20 +140,21 @@ module _ {W : Type 0} (d : Domain W) (s : Splitting) where
   }
 
   -- a push into a split room, and a pop from one
-  push_parts : (from to mark : ℕ) (weight : W) (r : Rule W) → s.is_split (s.room to) ≡ true → IsSplitRule d s (Push from to mark weight ∷ []) r
+  push_parts : (from to mark : ℕ) (weight : W) (r : Rule W) → s.is_split (s.room to) mark ≡ true → IsSplitRule d s (Push from to mark weight ∷ []) r
       → (r ≡ Push from (s.entry to) mark weight) ⊎ (r ≡ Push (s.entry to) to s.common d.one)
   push_parts from to mark weight r split (flow m n w has e) = let one = has_one _ (Flow m n w) has in cc
   push_parts from to mark weight r split (push m n k w has t e) =
       let one = has_one _ (Push m n k w) has in
       let node : n ≡ to = cc in
-      absurd (not_both (s.is_split (s.room to)) (sym (ap (λ (j : ℕ). s.is_split (s.room j)) node) ∙ t) split)
+      let mark_is : k ≡ mark = cc in
+      absurd (not_both (s.is_split (s.room to) mark) (sym (ap (λ (j : ℕ). s.is_split (s.room j) k) node ∙ ap (s.is_split (s.room to)) mark_is) ∙ t) split)
   push_parts from to mark weight r split (push_entry m n k w has t e) = let one = has_one _ (Push m n k w) has in inl cc
   push_parts from to mark weight r split (push_common m n k w has t e) = let one = has_one _ (Push m n k w) has in inr cc
   push_parts from to mark weight r split (pop m k n w has t e) = let one = has_one _ (Pop m k n w) has in cc
   push_parts from to mark weight r split (pop_common m k n w has t e) = let one = has_one _ (Pop m k n w) has in cc
   push_parts from to mark weight r split (pop_exit m k n w has t e) = let one = has_one _ (Pop m k n w) has in cc
 
-  pop_parts : (from mark to : ℕ) (weight : W) (r : Rule W) → s.is_split (s.room from) ≡ true → IsSplitRule d s (Pop from mark to weight ∷ []) r
+  pop_parts : (from mark to : ℕ) (weight : W) (r : Rule W) → s.is_split (s.room from) mark ≡ true → IsSplitRule d s (Pop from mark to weight ∷ []) r
       → (r ≡ Pop (s.exit from) mark to weight) ⊎ (r ≡ Pop from s.common (s.exit from) d.one)
   pop_parts from mark to weight r split (flow m n w has e) = let one = has_one _ (Flow m n w) has in cc
   pop_parts from mark to weight r split (push m n k w has t e) = let one = has_one _ (Push m n k w) has in cc
@@ -162,7 +163,8 @@ module _ {W : Type 0} (d : Domain W) (s : Splitting) where
   pop_parts from mark to weight r split (pop m k n w has t e) =
       let one = has_one _ (Pop m k n w) has in
       let node : m ≡ from = cc in
-      absurd (not_both (s.is_split (s.room from)) (sym (ap (λ (j : ℕ). s.is_split (s.room j)) node) ∙ t) split)
+      let mark_is : k ≡ mark = cc in
+      absurd (not_both (s.is_split (s.room from) mark) (sym (ap (λ (j : ℕ). s.is_split (s.room j) k) node ∙ ap (s.is_split (s.room from)) mark_is) ∙ t) split)
   pop_parts from mark to weight r split (pop_common m k n w has t e) = let one = has_one _ (Pop m k n w) has in inr cc
   pop_parts from mark to weight r split (pop_exit m k n w has t e) = let one = has_one _ (Pop m k n w) has in inl cc
 
@@ -189,7 +191,7 @@ module _ {W : Type 0} (d : Domain W) (s : Splitting) where
 
   -- a rule at the entry or the exit, and the common one where it isn't there
   pub writes_push : (rules : List (Rule W)) (from to mark : ℕ) (weight : W) (a b : Rule W) (old new : List (Rule W)) (entries exits more : List Bool)
-      → s.is_split (s.room to) ≡ true → a ≡ Push from (s.entry to) mark weight → b ≡ Push (s.entry to) to s.common d.one
+      → s.is_split (s.room to) mark ≡ true → a ≡ Push from (s.entry to) mark weight → b ≡ Push (s.entry to) to s.common d.one
       → ((get_or entries to false ≡ true → Has old b) → AreAdded old a b new)
       → ((n : ℕ) → get_or more n false ≡ true → (get_or entries n false ≡ true) ⊎ (n ≡ to))
       → IsWriting d s rules old entries exits → IsWriting d s (rules ++ Push from to mark weight ∷ []) new more exits
@@ -208,7 +210,7 @@ module _ {W : Type 0} (d : Domain W) (s : Splitting) where
       added = adds (λ flag. subst (λ (x : Rule W). Has old x) (sym b_is) (was.entries_there to flag))
 
   pub writes_pop : (rules : List (Rule W)) (from mark to : ℕ) (weight : W) (a b : Rule W) (old new : List (Rule W)) (entries exits more : List Bool)
-      → s.is_split (s.room from) ≡ true → a ≡ Pop (s.exit from) mark to weight → b ≡ Pop from s.common (s.exit from) d.one
+      → s.is_split (s.room from) mark ≡ true → a ≡ Pop (s.exit from) mark to weight → b ≡ Pop from s.common (s.exit from) d.one
       → ((get_or exits from false ≡ true → Has old b) → AreAdded old a b new)
       → ((n : ℕ) → get_or more n false ≡ true → (get_or exits n false ≡ true) ⊎ (n ≡ from))
       → IsWriting d s rules old entries exits → IsWriting d s (rules ++ Pop from mark to weight ∷ []) new entries more
@@ -273,18 +275,19 @@ module _ (s : Splitting) where
     );
   }
 
-  base_of : (q : BaseStep) (b k c : ℕ) → Has (q ∷ []) (step_of b k c) → b ≡ q.base
-  base_of q b k c has = ap (λ (y : BaseStep). y.base) (has_one q (step_of b k c) has)
+  -- whether the mark of a step is split
+  abbrev splits_step : BaseStep → Bool
+  splits_step q = s.is_split (s.base_room q.base) q.mark
 
-  not_split : (q : BaseStep) (b k c : ℕ) → Has (q ∷ []) (step_of b k c) → s.is_split q.base ≡ false → s.is_split b ≡ true → ⊥
-  not_split q b k c has whole t = let same = ap s.is_split (base_of q b k c has) in cc
+  not_split : (q : BaseStep) (b k c : ℕ) → Has (q ∷ []) (step_of b k c) → splits_step q ≡ false → splits_step (step_of b k c) ≡ true → ⊥
+  not_split q b k c has whole t = let same = ap splits_step (has_one q (step_of b k c) has) in cc
 
-  step_whole : (q x : BaseStep) → s.is_split q.base ≡ false → IsSplitStep s (q ∷ []) x → x ≡ q
+  step_whole : (q x : BaseStep) → splits_step q ≡ false → IsSplitStep s (q ∷ []) x → x ≡ q
   step_whole q x whole (step b k c has t e) = e ∙ has_one q (step_of b k c) has
   step_whole q x whole (step_common b k c has t e) = absurd (not_split q b k c has whole t)
   step_whole q x whole (step_below b k c has t e) = absurd (not_split q b k c has whole t)
 
-  pub steps_whole : (steps old : List BaseStep) (q : BaseStep) → s.is_split q.base ≡ false → AreStepsOf s steps old → AreStepsOf s (steps ++ q ∷ []) (old ++ q ∷ [])
+  pub steps_whole : (steps old : List BaseStep) (q : BaseStep) → splits_step q ≡ false → AreStepsOf s steps old → AreStepsOf s (steps ++ q ∷ []) (old ++ q ∷ [])
   steps_whole steps old q whole was = step_written steps old (old ++ q ∷ []) q was
       (λ x has. elim (has_put old q x has) [
         | inl u ↦ inl u
@@ -292,14 +295,14 @@ module _ (s : Splitting) where
       ])
       (λ x has. has_left old (q ∷ []) x has) (λ x is. subst (λ (y : BaseStep). Has (old ++ q ∷ []) y) (sym (step_whole q x whole is)) (has_last old q))
 
-  step_parts : (q x : BaseStep) → s.is_split q.base ≡ true → IsSplitStep s (q ∷ []) x
+  step_parts : (q x : BaseStep) → splits_step q ≡ true → IsSplitStep s (q ∷ []) x
       → (x ≡ step_of q.base s.common (s.below q.base)) ⊎ (x ≡ step_of (s.below q.base) q.mark q.below)
-  step_parts q x split (step b k c has t e) = let same = ap s.is_split (base_of q b k c has) in absurd (let both : false ≡ true = cc in cc)
-  step_parts q x split (step_common b k c has t e) = inl (e ∙ ap (λ (m : ℕ). step_of m s.common (s.below m)) (base_of q b k c has))
+  step_parts q x split (step b k c has t e) = let same = ap splits_step (has_one q (step_of b k c) has) in absurd (let both : false ≡ true = cc in cc)
+  step_parts q x split (step_common b k c has t e) = inl (e ∙ ap (λ (y : BaseStep). step_of y.base s.common (s.below y.base)) (has_one q (step_of b k c) has))
   step_parts q x split (step_below b k c has t e) =
       inr (e ∙ ap (λ (y : BaseStep). step_of (s.below y.base) y.mark y.below) (has_one q (step_of b k c) has))
 
-  pub steps_split : (steps old : List BaseStep) (q : BaseStep) → s.is_split q.base ≡ true → AreStepsOf s steps old
+  pub steps_split : (steps old : List BaseStep) (q : BaseStep) → splits_step q ≡ true → AreStepsOf s steps old
       → AreStepsOf s (steps ++ q ∷ []) ((old ++ step_of q.base s.common (s.below q.base) ∷ []) ++ step_of (s.below q.base) q.mark q.below ∷ [])
   steps_split steps old q split was = step_written steps old _ q was
       (λ x has. elim ((both_put old (step_of q.base s.common (s.below q.base)) (step_of (s.below q.base) q.mark q.below) x).0 has) [

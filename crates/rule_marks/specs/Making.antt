@@ -1,5 +1,5 @@
 -- The split system, by lists of numbers.
-use Rattle.std.specs.Prelude.{◌≡◌, ◌↔◌, ◌⊎◌, ◌<◌, ◌+◌, ◌-◌, ℕ, Bool, true, false, List, [], ◌∷◌, ◌++◌, cond, get_or, length, ltb}
+use Rattle.std.specs.Prelude.{◌≡◌, ◌↔◌, ◌⊎◌, ◌<◌, ◌+◌, ◌-◌, ℕ, Bool, true, false, List, [], ◌∷◌, ◌++◌, ◌||◌, cond, eqb, get_or, ltb}
 use Rattle.auto_table.specs.declared.rule.Rule.{Rule}
 use Rattle.auto_table.specs.declared.rule.Rule.TheVariants.{Push, Pop}
 use Rattle.auto_table.specs.Lists.{Has}
@@ -17,18 +17,23 @@ node_place_of count n = cond (ltb n count) (At n) (cond (ltb n (count + count)) 
 abbrev pub base_place_of : ℕ → ℕ → Place
 base_place_of count b = cond (ltb b count) (At b) (Exit (b - count))
 
--- the rooms of so many nodes, and which of so many rooms are split; a node that the list doesn't have is in none of them
-abbrev pub splitting_of : List ℕ → List Bool → ℕ → (ℕ → ℕ) → Splitting
-splitting_of rooms are_split common home = record {
-  room = λ n. get_or rooms n (length are_split);
-  home = home;
-  is_split = λ b. get_or are_split b false;
+-- the marks that are flagged are split, and the common mark
+abbrev pub splits_by : List Bool → ℕ → ℕ → Bool
+splits_by flags common k = eqb k common || get_or flags k false
+
+-- Marks that are split wherever they stand: all nodes and bases are said to stand in one room. So many nodes and bases are of the system itself.
+abbrev pub splitting_of : (ℕ → Bool) → ℕ → ℕ → ℕ → Splitting
+splitting_of is_split common nodes bases = record {
+  room = λ n. 0;
+  base_room = λ b. 0;
+  home = λ k. 0;
+  is_split = λ room k. is_split k;
   common = common;
-  entry = λ n. length rooms + n;
-  exit = λ n. length rooms + (length rooms + n);
-  below = λ b. length are_split + b;
-  node_place = node_place_of (length rooms);
-  base_place = base_place_of (length are_split);
+  entry = λ n. nodes + n;
+  exit = λ n. nodes + (nodes + n);
+  below = λ b. bases + b;
+  node_place = node_place_of nodes;
+  base_place = base_place_of bases;
 }
 
 -- rules and starts name nodes below the one count, and starts and steps bases below the other
@@ -40,8 +45,8 @@ pub record AreWithin {W : Type 0} (nodes bases : ℕ) (rules : List (Rule W)) (s
 
 -- then nodes and bases have places
 abbrev pub ListsGivePlaces : {W : Type 0} → Domain W → Type 0
-ListsGivePlaces {W} d = (rooms : List ℕ) (are_split : List Bool) (common : ℕ) (home : ℕ → ℕ) (rules : List (Rule W)) (starts : List (Start W)) (steps : List BaseStep)
-    (last : ℕ) → AreWithin (length rooms) (length are_split) rules starts steps last → HavePlaces (splitting_of rooms are_split common home) rules starts steps last
+ListsGivePlaces {W} d = (is_split : ℕ → Bool) (common nodes bases : ℕ) (rules : List (Rule W)) (starts : List (Start W)) (steps : List BaseStep) (last : ℕ)
+    → AreWithin nodes bases rules starts steps last → HavePlaces (splitting_of is_split common nodes bases) rules starts steps last
 
 -- the list has these two besides what it had, and no others
 abbrev pub AreAdded : {X : Type 0} → List X → X → X → List X → Type 0
@@ -53,29 +58,18 @@ pub record IsWriting {W : Type 0} (d : Domain W) (s : Splitting) (rules made : L
   pub entries_there : (n : ℕ) → get_or entries n false ≡ true → Has made (Push (s.entry n) n s.common d.one)
   pub exits_there : (n : ℕ) → get_or exits n false ≡ true → Has made (Pop n s.common (s.exit n) d.one)
 
--- whether a node is in a split room
-abbrev pub splits : List ℕ → List Bool → ℕ → Bool
-splits rooms are_split n = get_or are_split (get_or rooms n (length are_split)) false
-
 -- one rule more is split
-abbrev pub WritesOne : {W : Type 0} → Domain W → List ℕ → List Bool → ℕ → Rule W → List (Rule W) → List Bool → List Bool → List (Rule W) → List Bool → List Bool → Type 0
-WritesOne {W} d rooms are_split common q made entries exits new_made new_entries new_exits =
-    (home : ℕ → ℕ) (rules : List (Rule W)) → IsWriting d (splitting_of rooms are_split common home) rules made entries exits
-    → IsWriting d (splitting_of rooms are_split common home) (rules ++ q ∷ []) new_made new_entries new_exits
+abbrev pub WritesOne : {W : Type 0} → Domain W → Splitting → Rule W → List (Rule W) → List Bool → List Bool → List (Rule W) → List Bool → List Bool → Type 0
+WritesOne {W} d s q made entries exits new_made new_entries new_exits =
+    (rules : List (Rule W)) → IsWriting d s rules made entries exits → IsWriting d s (rules ++ q ∷ []) new_made new_entries new_exits
 
 -- the split rules, and the split steps
-abbrev pub AreSplitRules : {W : Type 0} → Domain W → List ℕ → List Bool → ℕ → List (Rule W) → List (Rule W) → Type 0
-AreSplitRules {W} d rooms are_split common rules made =
-    (home : ℕ → ℕ) (r : Rule W) → Has made r ↔ IsSplitRule d (splitting_of rooms are_split common home) rules r
+abbrev pub AreSplitRules : {W : Type 0} → Domain W → Splitting → List (Rule W) → List (Rule W) → Type 0
+AreSplitRules {W} d s rules made = (r : Rule W) → Has made r ↔ IsSplitRule d s rules r
 
 pub record AreStepsOf (s : Splitting) (steps made : List BaseStep) : Type 0 where
   pub steps_are : (x : BaseStep) → Has made x ↔ IsSplitStep s steps x
 
-abbrev pub AreSplitSteps : List ℕ → List Bool → ℕ → List BaseStep → List BaseStep → Type 0
-AreSplitSteps rooms are_split common steps made = (home : ℕ → ℕ) → AreStepsOf (splitting_of rooms are_split common home) steps made
-
 -- one step more is split
-abbrev pub WritesStep : List ℕ → List Bool → ℕ → BaseStep → List BaseStep → List BaseStep → Type 0
-WritesStep rooms are_split common q made new =
-    (home : ℕ → ℕ) (steps : List BaseStep) → AreStepsOf (splitting_of rooms are_split common home) steps made
-    → AreStepsOf (splitting_of rooms are_split common home) (steps ++ q ∷ []) new
+abbrev pub WritesStep : Splitting → BaseStep → List BaseStep → List BaseStep → Type 0
+WritesStep s q made new = (steps : List BaseStep) → AreStepsOf s steps made → AreStepsOf s (steps ++ q ∷ []) new

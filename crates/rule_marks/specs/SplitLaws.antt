@@ -2,7 +2,7 @@
 use Rattle.std.specs.Prelude.{◌≡◌, ◌↔◌, ℕ, List}
 use Rattle.post_star.specs.Derivations.{Derives, DerivesAny, IsAnyValue, IsLed, IsValue, Leads}
 use Rattle.weight_laws.specs.Law.{Domain}
-use Rattle.rule_marks.specs.Split.{At, IsSplit, SplitSystem, Splitting, coded}
+use Rattle.rule_marks.specs.Split.{At, IsSplit, SplitSystem, Splitting, SplitsCommon, coded}
 
 -- a node of the system has a word exactly with the weights with which it has the coded word in the split system
 abbrev pub DerivationsAreSplit : {W : Type 0} → Domain W → Type 0
@@ -16,7 +16,7 @@ WordsAreCoded {W} d = (s : Splitting) (x : SplitSystem W) → IsSplit d s x → 
 
 -- a word codes one word of a room
 abbrev pub CodesTellWords : Type 0
-CodesTellWords = (s : Splitting) (room : ℕ) (word other : List ℕ) → coded s room word ≡ coded s room other → word ≡ other
+CodesTellWords = (s : Splitting) → SplitsCommon s → (room : ℕ) (word other : List ℕ) → coded s room word ≡ coded s room other → word ≡ other
 
 -- with any word a node has the same weights in both
 abbrev pub AnyDerivationsAreSplit : {W : Type 0} → Domain W → Type 0
@@ -34,8 +34,8 @@ AnyValuesAreSplit {W} d = (s : Splitting) (x : SplitSystem W) → IsSplit d s x 
 
 -- a base leads to the last one by a word exactly where the split steps lead there by the coded word, and by no other words
 pub record LeadsBySplit (s : Splitting) {W : Type 0} (x : SplitSystem W) (base : ℕ) : Type 0 where
-  pub coded_leads : (word : List ℕ) → Leads x.steps base word x.last ↔ Leads x.split_steps base (coded s base word) x.last
-  pub coded_alone : (word : List ℕ) → Leads x.split_steps base word x.last → (plain : List ℕ) × (word ≡ coded s base plain)
+  pub coded_leads : (word : List ℕ) → Leads x.steps base word x.last ↔ Leads x.split_steps base (coded s (s.base_room base) word) x.last
+  pub coded_alone : (word : List ℕ) → Leads x.split_steps base word x.last → (plain : List ℕ) × (word ≡ coded s (s.base_room base) plain)
 
 abbrev pub BasesAreSplit : {W : Type 0} → Domain W → Type 0
 BasesAreSplit {W} d = (s : Splitting) (x : SplitSystem W) → IsSplit d s x → (base : ℕ) → s.base_place base ≡ At base → LeadsBySplit s x base

@@ -10,6 +10,6 @@ mod sharing;
 mod split;
 
 pub use joined::{derivations_are_joined, joining_nodes_have_all, values_are_joined};
-pub use making::{Rooms, split_rules, split_steps};
+pub use making::{Marks, split_rules, split_steps};
 pub use sharing::{join, shared_rules_are_joined};
 pub use split::{bases_are_split, derivations_are_split, lists_give_places, values_are_split};

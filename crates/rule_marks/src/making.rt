@@ -1,41 +1,39 @@
 //! The system with split marks, by lists of numbers.
-ghost use Rattle.std.specs.Prelude.{◌≡◌, ◌⊎◌, ◌*◌, ◌<◌, ◌^◌, ◌++◌, ◌∷◌, [], ℕ, true, false, length, slice_index_or, IfOk, OnOk};
+ghost use Rattle.std.specs.Prelude.{◌≡◌, ◌⊎◌, ◌*◌, ◌+◌, ◌<◌, ◌^◌, ◌++◌, ◌∷◌, [], ℕ, true, false, slice_index_or, IfOk, OnOk};
 ghost use Rattle.auto_table.specs.declared.rule.Rule.TheVariants.{Push, Pop};
 ghost use Rattle.auto_table.specs.Lists.{Has};
-ghost use Rattle.rule_marks.specs.Making.{AreAdded, AreSplitRules, AreSplitSteps, WritesOne, WritesStep, splits};
+ghost use Rattle.post_star.specs.declared.bases.BaseStep.{BaseStep as AStep};
+ghost use Rattle.rule_marks.specs.Joined.{source, target};
+ghost use Rattle.rule_marks.specs.Making.{AreAdded, AreSplitRules, AreStepsOf, WritesOne, WritesStep, splits_by, splitting_of};
+ghost use Rattle.rule_marks.specs.Sharing.{AreBelow};
 
 use auto_table::{NoMemory, Rule};
 use post_star::BaseStep;
 use std::alloc::Global;
 use weight_laws::Weight;
 
-/// The rooms of nodes and which rooms are split, by their numbers, and the common mark. A node that the list doesn't have isn't in a split room.
+/// Which marks are split, by number, and the common mark. So many nodes and bases are of the system itself: the entry of a node stands behind so many nodes,
+/// its exit behind twice as many, and the base below another behind so many bases. The common mark is split too, and no other that the list doesn't have.
 #[derive(Clone, Copy)]
-pub struct Rooms<'a> {
-    pub of_nodes: &'a [u32],
+pub struct Marks<'a> {
     pub are_split: &'a [bool],
     pub common: u32,
+    pub nodes: u32,
+    pub bases: u32,
 }
 
-/// Whether a room is split.
-fn splits_room(rooms: &Rooms<'_>, room: u32) -> bool
-    ensures value { result ≡ slice_index_or rooms.now.are_split.now room false }
-    ensures there { result ≡ true → room < length rooms.now.are_split.now }
-{
-    match rooms.are_split.get(room as usize) {
-        Some(split) => *split,
-        None => false,
-    }
-}
-
-/// Whether a node is in a split room.
-fn splits_node(rooms: &Rooms<'_>, node: u32) -> bool
-    ensures value { result ≡ splits rooms.now.of_nodes.now rooms.now.are_split.now node }
-    ensures there { result ≡ true → node < length rooms.now.of_nodes.now }
-{
-    match rooms.of_nodes.get(node as usize) {
-        Some(room) => splits_room(rooms, *room),
-        None => false,
+impl Marks<'_> {
+    /// Whether a mark is split.
+    fn splits(&self, mark: u32) -> bool
+        ensures { result ≡ splits_by self.now.are_split.now self.now.common mark }
+    {
+        if mark == self.common {
+            return true;
+        }
+        match self.are_split.get(mark as usize) {
+            Some(split) => *split,
+            None => false,
+        }
     }
 }
 
@@ -102,19 +100,19 @@ fn pop_common<W: Weight>(common: u32, node: u32, exit: u32) -> Rule<W>
     }
 }
 
-/// Writes what stands for a rule in the split system. A push into a split room pushes its mark at the entry of its node, and the first time the common mark
-/// from there; a pop from one pops its mark at the exit of its node, and the first time the common mark to there.
+/// Writes what stands for a rule in the split system. A push of a split mark pushes it at the entry of its node, and the first time the common mark from
+/// there; a pop of one pops it at the exit of its node, and the first time the common mark to there.
 fn write<W: Weight>(
-    rooms: &Rooms<'_>,
+    marks: &Marks<'_>,
     rules: &mut Vec<Rule<W>>,
     entries: &mut [bool],
     exits: &mut [bool],
     rule: &Rule<W>,
 ) -> Result<(), NoMemory>
-    requires fits { 3 * length rooms.now.of_nodes.now < 2 ^ 32 }
-    ensures { OnOk result (WritesOne W.domain rooms.now.of_nodes.now rooms.now.are_split.now rooms.now.common rule.now rules.old.items entries.old exits.old rules.new.items entries.new exits.new) }
+    requires fits { 3 * marks.now.nodes < 2 ^ 32 }
+    requires below { (source rule.now < marks.now.nodes) × (target rule.now < marks.now.nodes) }
+    ensures { OnOk result (WritesOne W.domain (splitting_of (splits_by marks.now.are_split.now marks.now.common) marks.now.common marks.now.nodes marks.now.bases) rule.now rules.old.items entries.old exits.old rules.new.items entries.new exits.new) }
 {
-    let count = rooms.of_nodes.len() as u32;
     match *rule {
         Rule::Flow { .. } => put(rules, *rule),
         Rule::Push {
@@ -123,16 +121,16 @@ fn write<W: Weight>(
             mark,
             weight,
         } => {
-            let enters = splits_node(rooms, to);
+            let enters = marks.splits(mark);
             if enters {
-                let entry = count + to;
+                let entry = marks.nodes + to;
                 let own = Rule::Push {
                     from,
                     to: entry,
                     mark,
                     weight,
                 };
-                let common = push_common(rooms.common, entry, to);
+                let common = push_common(marks.common, entry, to);
                 put_both(rules, entries, to, own, common)
             } else {
                 put(rules, *rule)
@@ -144,16 +142,16 @@ fn write<W: Weight>(
             to,
             weight,
         } => {
-            let leaves = splits_node(rooms, from);
+            let leaves = marks.splits(mark);
             if leaves {
-                let exit = count + (count + from);
+                let exit = marks.nodes + (marks.nodes + from);
                 let own = Rule::Pop {
                     from: exit,
                     mark,
                     to,
                     weight,
                 };
-                let common = pop_common(rooms.common, from, exit);
+                let common = pop_common(marks.common, from, exit);
                 put_both(rules, exits, from, own, common)
             } else {
                 put(rules, *rule)
@@ -176,49 +174,51 @@ pub fn unflagged(alloc: Global, count: usize) -> Result<Vec<bool>, NoMemory>
 /// The rules with split marks, where no node is flagged.
 fn write_all<W: Weight>(
     alloc: Global,
-    rooms: &Rooms<'_>,
+    marks: &Marks<'_>,
     entries: &mut [bool],
     exits: &mut [bool],
     rules: &[Rule<W>],
 ) -> Result<Vec<Rule<W>>, NoMemory>
-    requires fits { 3 * length rooms.now.of_nodes.now < 2 ^ 32 }
+    requires fits { 3 * marks.now.nodes < 2 ^ 32 }
+    requires below { AreBelow marks.now.nodes rules.now }
     requires entries { (n : ℕ) → slice_index_or entries.old n false ≡ false }
     requires exits { (n : ℕ) → slice_index_or exits.old n false ≡ false }
-    ensures { IfOk result (λ made. AreSplitRules W.domain rooms.now.of_nodes.now rooms.now.are_split.now rooms.now.common rules.now made.items) }
+    ensures { IfOk result (λ made. AreSplitRules W.domain (splitting_of (splits_by marks.now.are_split.now marks.now.common) marks.now.common marks.now.nodes marks.now.bases) rules.now made.items) }
 {
     let mut made = Vec::with_capacity(alloc, rules.len())?;
     for i in 0..rules.len() {
-        write(rooms, &mut made, entries, exits, &rules[i])?;
+        write(marks, &mut made, entries, exits, &rules[i])?;
     }
     Ok(made)
 }
 
-/// The rules with split marks: a node's entry stands behind so many nodes, and its exit behind twice as many. Want of memory is the only refusal.
+/// The rules with split marks. Nodes below the count have the common push and the common pop once. Want of memory is the only refusal.
 pub fn split_rules<W: Weight>(
     alloc: Global,
-    rooms: &Rooms<'_>,
+    marks: &Marks<'_>,
+    count: usize,
     rules: &[Rule<W>],
 ) -> Result<Vec<Rule<W>>, NoMemory>
-    requires fits { 3 * length rooms.now.of_nodes.now < 2 ^ 32 }
-    ensures { IfOk result (λ made. AreSplitRules W.domain rooms.now.of_nodes.now rooms.now.are_split.now rooms.now.common rules.now made.items) }
+    requires fits { 3 * marks.now.nodes < 2 ^ 32 }
+    requires below { AreBelow marks.now.nodes rules.now }
+    ensures { IfOk result (λ made. AreSplitRules W.domain (splitting_of (splits_by marks.now.are_split.now marks.now.common) marks.now.common marks.now.nodes marks.now.bases) rules.now made.items) }
 {
-    let count = rooms.of_nodes.len();
     let mut entries = unflagged(alloc, count)?;
     let mut exits = unflagged(alloc, count)?;
-    write_all(alloc, rooms, &mut entries, &mut exits, rules)
+    write_all(alloc, marks, &mut entries, &mut exits, rules)
 }
 
 /// Writes what stands for a step between bases in the split system.
-fn write_step(rooms: &Rooms<'_>, made: &mut Vec<BaseStep>, step: BaseStep) -> Result<(), NoMemory>
-    requires fits { 2 * length rooms.now.are_split.now < 2 ^ 32 }
-    ensures { OnOk result (WritesStep rooms.now.of_nodes.now rooms.now.are_split.now rooms.now.common step made.old.items made.new.items) }
+fn write_step(marks: &Marks<'_>, made: &mut Vec<BaseStep>, step: BaseStep) -> Result<(), NoMemory>
+    requires fits { marks.now.bases + step.base < 2 ^ 32 }
+    ensures { OnOk result (WritesStep (splitting_of (splits_by marks.now.are_split.now marks.now.common) marks.now.common marks.now.nodes marks.now.bases) step made.old.items made.new.items) }
 {
-    let splits = splits_room(rooms, step.base);
+    let splits = marks.splits(step.mark);
     if splits {
-        let below = rooms.are_split.len() as u32 + step.base;
+        let below = marks.bases + step.base;
         made.push(BaseStep {
             base: step.base,
-            mark: rooms.common,
+            mark: marks.common,
             below,
         })?;
         made.push(BaseStep {
@@ -233,18 +233,18 @@ fn write_step(rooms: &Rooms<'_>, made: &mut Vec<BaseStep>, step: BaseStep) -> Re
     }
 }
 
-/// The steps between bases with split marks: the base below one stands behind so many bases. Want of memory is the only refusal.
+/// The steps between bases with split marks. Want of memory is the only refusal.
 pub fn split_steps(
     alloc: Global,
-    rooms: &Rooms<'_>,
+    marks: &Marks<'_>,
     steps: &[BaseStep],
 ) -> Result<Vec<BaseStep>, NoMemory>
-    requires fits { 2 * length rooms.now.are_split.now < 2 ^ 32 }
-    ensures { IfOk result (λ made. AreSplitSteps rooms.now.of_nodes.now rooms.now.are_split.now rooms.now.common steps.now made.items) }
+    requires fits { (step : AStep) → Has steps.now step → marks.now.bases + step.base < 2 ^ 32 }
+    ensures { IfOk result (λ made. AreStepsOf (splitting_of (splits_by marks.now.are_split.now marks.now.common) marks.now.common marks.now.nodes marks.now.bases) steps.now made.items) }
 {
     let mut made = Vec::new(alloc);
     for i in 0..steps.len() {
-        write_step(rooms, &mut made, steps[i])?;
+        write_step(marks, &mut made, steps[i])?;
     }
     Ok(made)
 }
