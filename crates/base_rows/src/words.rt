@@ -116,6 +116,17 @@ replay,Main,100,0 => no command
 replay,Main,<Main: void main(java.lang.String[])>,5,x,100 => no command
 Replay,Main,100 => no command";
 
+// The same about batches.
+const BATCHES: &str = "batch,Main,100 => of Main: a batch, within 100 each
+batch,,0 => of : a batch, within 0 each
+batch,batch,4294967295 => of batch: a batch, within 4294967295 each
+batch => no command
+batch,Main => no command
+batch,Main,0100 => no command
+batch,Main,4294967296 => no command
+batch,Main,100,0 => no command
+Batch,Main,100 => no command";
+
 // The same about protocols, which any word may spell.
 const TYPESTATES: &str =
     "typestate,Main,F closed;closed open opened,100 => of Main: 'F closed;closed open opened', within 100
@@ -164,6 +175,7 @@ fn asked_of(alloc: Global, query: &Query<'_>) -> Result<String, AllocError> {
         Query::Run(a) => of_run(alloc, a),
         Query::Replay { budget } => format!(in alloc; "a certificate, within {budget}"),
         Query::Typestate(a) => format!(in alloc; "'{}', within {}", a.protocol, a.budget),
+        Query::Batch { budget } => format!(in alloc; "a batch, within {budget} each"),
         Query::Demo { boxes } => format!(in alloc; "{boxes} boxes"),
     }
 }
@@ -224,6 +236,12 @@ fn reads_words(rt: HostRuntime) -> Result<(), Fail> {
 #[test]
 fn reads_words_of_replays(rt: HostRuntime) -> Result<(), Fail> {
     assert_eq!(rt; first_wrong(rt.alloc(), REPLAYS)?, None);
+    Ok(())
+}
+
+#[test]
+fn reads_words_of_batches(rt: HostRuntime) -> Result<(), Fail> {
+    assert_eq!(rt; first_wrong(rt.alloc(), BATCHES)?, None);
     Ok(())
 }
 

@@ -1,12 +1,14 @@
 //! Commands over programs, with the replies found by hand. Rows are those of `rows`.
-use super::asking::{METHOD, Pieces, is_answered, is_reply, words};
 use super::rows::first_wrong_in;
+use asked_text::{METHOD, Pieces, is_answered, is_reply, words};
 use boom_io::{MemSink, MemSource};
-use boom_top::{ProtocolError, Status, Which, boomer};
+use boom_top::{Open, ProtocolError, Status, Which, boomer};
 use jim_ast::Name;
 use link_rules::{LinkError, LinkKind};
 use std::alloc::{AllocError, Global};
+use std::marker::Sync;
 use std::test::Fail;
+use std::thread::Threads;
 
 const PROGRAM: &str = "class A { }
 class Main {
@@ -95,7 +97,7 @@ fn answers_and_refuses(rt: HostRuntime) -> Result<(), Fail> {
     for rows in [
         OF_PROGRAM, OF_QUOTED, NO_ENTRY, ORPHAN, EMPTY, NO_METHOD, UNREACHED,
     ] {
-        assert_eq!(rt; first_wrong_in(rt.alloc(), FIVE, rows)?, None);
+        assert_eq!(rt; first_wrong_in(&rt, FIVE, rows)?, None);
     }
     Ok(())
 }
@@ -141,28 +143,21 @@ fn parts(row: &str) -> Option<(&str, &str, &str, &str, &str)> {
     Some((index, local, sites, demanded, body))
 }
 
-fn is_body_right(alloc: Global, row: &str) -> Result<bool, AllocError> {
+fn is_body_right<R: Threads + AllocGlobal + Sync>(rt: &R, row: &str) -> Result<bool, AllocError> {
     let Some((index, local, sites, demanded, body)) = parts(row) else {
         return Ok(false);
     };
-    let text = format!(in alloc;
+    let text = format!(in rt.alloc();
         "class A {{ }} class Main {{ static void main(java.lang.String[]) {{ A x, y, z; {body} }} }}"
     )?;
-    let words = format!(in alloc; "points-to;Main;@;{index};{local};100")?;
-    let reply = found(alloc, index, local, sites, demanded)?;
-    is_reply(
-        alloc,
-        words.as_str(),
-        text.as_bytes(),
-        FIVE,
-        0,
-        reply.as_str(),
-    )
+    let words = format!(in rt.alloc(); "points-to;Main;@;{index};{local};100")?;
+    let reply = found(rt.alloc(), index, local, sites, demanded)?;
+    is_reply(rt, words.as_str(), text.as_bytes(), FIVE, 0, reply.as_str())
 }
 
-fn first_body(alloc: Global) -> Result<Option<&'static str>, AllocError> {
+fn first_body<R: Threads + AllocGlobal + Sync>(rt: &R) -> Result<Option<&'static str>, AllocError> {
     for row in BODIES.lines() {
-        if !is_body_right(alloc, row)? {
+        if !is_body_right(rt, row)? {
             return Ok(Some(row));
         }
     }
@@ -171,14 +166,14 @@ fn first_body(alloc: Global) -> Result<Option<&'static str>, AllocError> {
 
 #[test]
 fn answers_small_bodies(rt: HostRuntime) -> Result<(), Fail> {
-    assert_eq!(rt; first_body(rt.alloc())?, None);
+    assert_eq!(rt; first_body(&rt)?, None);
     Ok(())
 }
 
 // No words.
-fn refuses_nothing(alloc: Global) -> Result<bool, AllocError> {
-    let bytes = Vec::from_slice(alloc, PROGRAM.as_bytes())?;
-    is_answered(alloc, &[], bytes, FIVE, 1, b"refused Usage\n")
+fn refuses_nothing<R: Threads + AllocGlobal + Sync>(rt: &R) -> Result<bool, AllocError> {
+    let bytes = Vec::from_slice(rt.alloc(), PROGRAM.as_bytes())?;
+    is_answered(rt, &[], bytes, FIVE, 1, b"refused Usage\n")
 }
 
 // Texts that are no programs, each with the number of the status and what is refused.
@@ -191,23 +186,23 @@ const TEXTS: &str = "5 NotJimple 9 | class Main { static void main(java.lang.Str
 // The command of these rows.
 const ASKED: &str = "points-to;Main;@;5;x;100";
 
-fn is_text_refused(alloc: Global, row: &str) -> Result<bool, AllocError> {
+fn is_text_refused<R: Threads + AllocGlobal + Sync>(rt: &R, row: &str) -> Result<bool, AllocError> {
     let Some((told, text)) = row.split_once(" | ") else {
         return Ok(false);
     };
     let Some((number, refused)) = told.split_once(' ') else {
         return Ok(false);
     };
-    let reply = format!(in alloc; "refused {refused}\n")?;
+    let reply = format!(in rt.alloc(); "refused {refused}\n")?;
     match number.parse::<u8>() {
-        Ok(number) => is_reply(alloc, ASKED, text.as_bytes(), FIVE, number, reply.as_str()),
+        Ok(number) => is_reply(rt, ASKED, text.as_bytes(), FIVE, number, reply.as_str()),
         Err(_) => Ok(false),
     }
 }
 
-fn first_text(alloc: Global) -> Result<Option<&'static str>, AllocError> {
+fn first_text<R: Threads + AllocGlobal + Sync>(rt: &R) -> Result<Option<&'static str>, AllocError> {
     for row in TEXTS.lines() {
-        if !is_text_refused(alloc, row)? {
+        if !is_text_refused(rt, row)? {
             return Ok(Some(row));
         }
     }
@@ -215,70 +210,77 @@ fn first_text(alloc: Global) -> Result<Option<&'static str>, AllocError> {
 }
 
 // Bytes that are no text.
-fn refuses_bytes(alloc: Global) -> Result<bool, AllocError> {
+fn refuses_bytes<R: Threads + AllocGlobal + Sync>(rt: &R) -> Result<bool, AllocError> {
     Ok(
-        is_reply(alloc, ASKED, b"\xff", FIVE, 4, "refused NotText 0\n")?
-            && is_reply(alloc, ASKED, b"class \xff", FIVE, 4, "refused NotText 6\n")?,
+        is_reply(rt, ASKED, b"\xff", FIVE, 4, "refused NotText 0\n")?
+            && is_reply(rt, ASKED, b"class \xff", FIVE, 4, "refused NotText 6\n")?,
     )
 }
 
 #[test]
 fn refuses_words_and_texts(rt: HostRuntime) -> Result<(), Fail> {
-    assert!(rt; refuses_nothing(rt.alloc())?);
-    assert_eq!(rt; first_text(rt.alloc())?, None);
-    assert!(rt; refuses_bytes(rt.alloc())?);
+    assert!(rt; refuses_nothing(&rt)?);
+    assert_eq!(rt; first_text(&rt)?, None);
+    assert!(rt; refuses_bytes(&rt)?);
     Ok(())
 }
 
 // Whether the command gets a status of this number, and these bytes are written.
-fn is_written(
-    alloc: Global,
+fn is_written<R: Threads + AllocGlobal + Sync>(
+    rt: &R,
     source: &mut MemSource,
     sink: &mut MemSink,
     number: u8,
     written: &[u8],
 ) -> Result<bool, AllocError> {
-    let words = words(alloc, ASKED)?;
-    Ok(boomer(alloc, &words, source, sink).number() == number && sink.bytes() == written)
+    let words = words(rt.alloc(), ASKED)?;
+    Ok(
+        boomer(rt, rt.alloc(), &words, source, sink, &Open).number() == number
+            && sink.bytes() == written,
+    )
 }
 
 // Whether a write that fails is told, and what was written before.
-fn tells_write(alloc: Global, call: u32, written: &[u8]) -> Result<bool, AllocError> {
-    let bytes = Vec::from_slice(alloc, PROGRAM.as_bytes())?;
-    let mut source = MemSource::new(bytes, Vec::new(alloc), 64);
-    let mut sink = MemSink::new(alloc, 1000, vec![in alloc; call]?, 8)?;
-    is_written(alloc, &mut source, &mut sink, 12, written)
+fn tells_write<R: Threads + AllocGlobal + Sync>(
+    rt: &R,
+    call: u32,
+    written: &[u8],
+) -> Result<bool, AllocError> {
+    let bytes = Vec::from_slice(rt.alloc(), PROGRAM.as_bytes())?;
+    let mut source = MemSource::new(bytes, Vec::new(rt.alloc()), 64);
+    let mut sink = MemSink::new(rt.alloc(), 1000, vec![in rt.alloc(); call]?, 8)?;
+    is_written(rt, &mut source, &mut sink, 12, written)
 }
 
 // Whether a source gets a status of this number, and this reply.
-fn tells_read(
-    alloc: Global,
+fn tells_read<R: Threads + AllocGlobal + Sync>(
+    rt: &R,
     source: &mut MemSource,
     number: u8,
     reply: &[u8],
 ) -> Result<bool, AllocError> {
-    let mut sink = MemSink::new(alloc, 1000, Vec::new(alloc), 8)?;
-    is_written(alloc, source, &mut sink, number, reply)
+    let mut sink = MemSink::new(rt.alloc(), 1000, Vec::new(rt.alloc()), 8)?;
+    is_written(rt, source, &mut sink, number, reply)
 }
 
-fn tells_fault(alloc: Global) -> Result<bool, AllocError> {
-    let bytes = Vec::from_slice(alloc, PROGRAM.as_bytes())?;
-    let mut source = MemSource::new(bytes, vec![in alloc; 0]?, 64);
-    tells_read(alloc, &mut source, 2, b"")
+fn tells_fault<R: Threads + AllocGlobal + Sync>(rt: &R) -> Result<bool, AllocError> {
+    let bytes = Vec::from_slice(rt.alloc(), PROGRAM.as_bytes())?;
+    let mut source = MemSource::new(bytes, vec![in rt.alloc(); 0]?, 64);
+    tells_read(rt, &mut source, 2, b"")
 }
 
-fn tells_length(alloc: Global) -> Result<bool, AllocError> {
-    let blanks = vec![in alloc; b' '; 16_777_217]?;
-    let mut source = MemSource::new(blanks, Vec::new(alloc), 1_000_000);
-    tells_read(alloc, &mut source, 3, b"refused TooLong\n")
+fn tells_length<R: Threads + AllocGlobal + Sync>(rt: &R) -> Result<bool, AllocError> {
+    let blanks = vec![in rt.alloc(); b' '; 16_777_217]?;
+    let mut source = MemSource::new(blanks, Vec::new(rt.alloc()), 1_000_000);
+    tells_read(rt, &mut source, 3, b"refused TooLong\n")
 }
 
 #[test]
 fn tells_faults(rt: HostRuntime) -> Result<(), Fail> {
-    assert!(rt; tells_write(rt.alloc(), 1, b"points-t")?);
-    assert!(rt; tells_write(rt.alloc(), 0, b"")?);
-    assert!(rt; tells_fault(rt.alloc())?);
-    assert!(rt; tells_length(rt.alloc())?);
+    assert!(rt; tells_write(&rt, 1, b"points-t")?);
+    assert!(rt; tells_write(&rt, 0, b"")?);
+    assert!(rt; tells_fault(&rt)?);
+    assert!(rt; tells_length(&rt)?);
     Ok(())
 }
 

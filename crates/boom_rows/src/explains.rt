@@ -1,8 +1,10 @@
 //! Explanations of answers, with the replies found by hand.
 use boom_io::{MemSink, MemSource};
-use boom_top::boomer;
-use std::alloc::{AllocError, Global};
+use boom_top::{Open, boomer};
+use std::alloc::AllocError;
+use std::marker::Sync;
 use std::test::Fail;
+use std::thread::Threads;
 
 // Two callers of one method.
 const PROGRAM: &str = "class A { } class B { } class Main {
@@ -32,22 +34,27 @@ const ROWS: [(&str, u8, &str); 3] = [
 ];
 
 // Whether a row gets its status, and a reply that begins so.
-fn is_answered(alloc: Global, row: &str, number: u8, reply: &str) -> Result<bool, AllocError> {
-    let mut words = Vec::new(alloc);
+fn is_answered<R: Threads + AllocGlobal + Sync>(
+    rt: &R,
+    row: &str,
+    number: u8,
+    reply: &str,
+) -> Result<bool, AllocError> {
+    let mut words = Vec::new(rt.alloc());
     for word in row.split(';') {
-        words.push(String::from_str(alloc, word)?)?;
+        words.push(String::from_str(rt.alloc(), word)?)?;
     }
-    let bytes = Vec::from_slice(alloc, PROGRAM.as_bytes())?;
-    let mut source = MemSource::new(bytes, Vec::new(alloc), 1000);
-    let mut sink = MemSink::new(alloc, 2000, Vec::new(alloc), 64)?;
-    let status = boomer(alloc, &words, &mut source, &mut sink);
+    let bytes = Vec::from_slice(rt.alloc(), PROGRAM.as_bytes())?;
+    let mut source = MemSource::new(bytes, Vec::new(rt.alloc()), 1000);
+    let mut sink = MemSink::new(rt.alloc(), 2000, Vec::new(rt.alloc()), 64)?;
+    let status = boomer(rt, rt.alloc(), &words, &mut source, &mut sink, &Open);
     Ok(status.number() == number && sink.bytes().starts_with(reply.as_bytes()))
 }
 
 #[test]
 fn explains_answers(rt: HostRuntime) -> Result<(), Fail> {
     for (row, number, reply) in ROWS {
-        assert!(rt; is_answered(rt.alloc(), row, number, reply)?, "{row}");
+        assert!(rt; is_answered(&rt, row, number, reply)?, "{row}");
     }
     Ok(())
 }

@@ -2,11 +2,13 @@
 #![tactic(auto)]
 
 #[cfg(test)]
-mod asking;
+mod batches;
 #[cfg(test)]
 mod commands;
 #[cfg(test)]
 mod explains;
+#[cfg(test)]
+mod gates;
 #[cfg(test)]
 mod refusals;
 #[cfg(test)]

@@ -1,8 +1,10 @@
 //! Programs that linking refuses, one for each kind and for each two kinds that may stand together, with the replies found by hand. A row has the
 //! kinds that stand in it by their numbers, what is told, and the text.
-use super::asking::{SMALL, is_reply};
+use asked_text::{SMALL, is_reply};
 use std::alloc::{AllocError, Global};
+use std::marker::Sync;
 use std::test::Fail;
+use std::thread::Threads;
 
 // Classes around the bodies of `BODIES`. None of them is refused by itself, since no run reaches their methods.
 const CLASSES: &str = "class A { static void f() { return; } static native void g(); }
@@ -199,10 +201,14 @@ const PROGRAMS: &str = "5 17 | NoEntry | class A { }
 20 | UndeclaredCallee <java.lang.NullPointerException: void <init>(java.lang.String)> 2 | class java.lang.RuntimeException { } class Main { static void main(java.lang.String[]) { java.lang.NullPointerException x; specialinvoke x.<java.lang.NullPointerException: void <init>(java.lang.String)>(null); return; } }";
 
 // Whether a program is refused by linking with this line.
-fn is_told(alloc: Global, text: &str, told: &str) -> Result<bool, AllocError> {
-    let reply = format!(in alloc; "refused NotLinked {told}\n")?;
+fn is_told<R: Threads + AllocGlobal + Sync>(
+    rt: &R,
+    text: &str,
+    told: &str,
+) -> Result<bool, AllocError> {
+    let reply = format!(in rt.alloc(); "refused NotLinked {told}\n")?;
     is_reply(
-        alloc,
+        rt,
         "points-to;Main;@;0;x;100",
         text.as_bytes(),
         SMALL,
@@ -234,36 +240,41 @@ fn told_of_main(alloc: Global, told: &str) -> Result<String, AllocError> {
     }
 }
 
-fn is_body_refused(alloc: Global, row: &str) -> Result<bool, AllocError> {
+fn is_body_refused<R: Threads + AllocGlobal + Sync>(rt: &R, row: &str) -> Result<bool, AllocError> {
     let Some((told, body)) = parts(row) else {
         return Ok(false);
     };
-    let text = program(alloc, CLASSES, body)?;
-    let told = told_of_main(alloc, told)?;
-    is_told(alloc, text.as_str(), told.as_str())
+    let text = program(rt.alloc(), CLASSES, body)?;
+    let told = told_of_main(rt.alloc(), told)?;
+    is_told(rt, text.as_str(), told.as_str())
 }
 
 // The first body that is refused otherwise.
-fn first_body(alloc: Global) -> Result<Option<&'static str>, AllocError> {
+fn first_body<R: Threads + AllocGlobal + Sync>(rt: &R) -> Result<Option<&'static str>, AllocError> {
     for row in BODIES.lines() {
-        if !is_body_refused(alloc, row)? {
+        if !is_body_refused(rt, row)? {
             return Ok(Some(row));
         }
     }
     Ok(None)
 }
 
-fn is_program_refused(alloc: Global, row: &str) -> Result<bool, AllocError> {
+fn is_program_refused<R: Threads + AllocGlobal + Sync>(
+    rt: &R,
+    row: &str,
+) -> Result<bool, AllocError> {
     match parts(row) {
-        Some((told, text)) => is_told(alloc, text, told),
+        Some((told, text)) => is_told(rt, text, told),
         None => Ok(false),
     }
 }
 
 // The first program that is refused otherwise.
-fn first_program(alloc: Global) -> Result<Option<&'static str>, AllocError> {
+fn first_program<R: Threads + AllocGlobal + Sync>(
+    rt: &R,
+) -> Result<Option<&'static str>, AllocError> {
     for row in PROGRAMS.lines() {
-        if !is_program_refused(alloc, row)? {
+        if !is_program_refused(rt, row)? {
             return Ok(Some(row));
         }
     }
@@ -272,19 +283,23 @@ fn first_program(alloc: Global) -> Result<Option<&'static str>, AllocError> {
 
 #[test]
 fn refuses_bodies_and_programs(rt: HostRuntime) -> Result<(), Fail> {
-    assert_eq!(rt; first_body(rt.alloc())?, None);
-    assert_eq!(rt; first_program(rt.alloc())?, None);
+    assert_eq!(rt; first_body(&rt)?, None);
+    assert_eq!(rt; first_program(&rt)?, None);
     Ok(())
 }
 
 // Whether the classes of a whole are refused as it tells, whatever the body of `main`.
-fn is_whole_refused(alloc: Global, row: &str, body: &str) -> Result<bool, AllocError> {
+fn is_whole_refused<R: Threads + AllocGlobal + Sync>(
+    rt: &R,
+    row: &str,
+    body: &str,
+) -> Result<bool, AllocError> {
     let Some((told, whole)) = parts(row) else {
         return Ok(false);
     };
-    let classes = format!(in alloc; "{whole} {CLASSES}")?;
-    let text = program(alloc, classes.as_str(), body)?;
-    is_told(alloc, text.as_str(), told)
+    let classes = format!(in rt.alloc(); "{whole} {CLASSES}")?;
+    let text = program(rt.alloc(), classes.as_str(), body)?;
+    is_told(rt, text.as_str(), told)
 }
 
 // Whether a row has one kind alone.
@@ -296,13 +311,16 @@ fn is_single(row: &str) -> bool {
 }
 
 // The first body with one kind alone before which the whole isn't refused.
-fn first_before(alloc: Global, row: &str) -> Result<Option<&'static str>, AllocError> {
+fn first_before<R: Threads + AllocGlobal + Sync>(
+    rt: &R,
+    row: &str,
+) -> Result<Option<&'static str>, AllocError> {
     for below in BODIES.lines().filter(|row| is_single(row)) {
         let body = match parts(below) {
             Some((_, body)) => body,
             None => "",
         };
-        if !is_whole_refused(alloc, row, body)? {
+        if !is_whole_refused(rt, row, body)? {
             return Ok(Some(below));
         }
     }
@@ -310,12 +328,14 @@ fn first_before(alloc: Global, row: &str) -> Result<Option<&'static str>, AllocE
 }
 
 // The first whole that isn't refused before all kinds in `main` together, and before each alone where the whole has one kind itself.
-fn first_whole(alloc: Global) -> Result<Option<&'static str>, AllocError> {
+fn first_whole<R: Threads + AllocGlobal + Sync>(
+    rt: &R,
+) -> Result<Option<&'static str>, AllocError> {
     for row in WHOLES.lines() {
-        if !is_whole_refused(alloc, row, EACH_KIND)? {
+        if !is_whole_refused(rt, row, EACH_KIND)? {
             return Ok(Some(row));
         }
-        if is_single(row) && first_before(alloc, row)?.is_some() {
+        if is_single(row) && first_before(rt, row)?.is_some() {
             return Ok(Some(row));
         }
     }
@@ -325,6 +345,6 @@ fn first_whole(alloc: Global) -> Result<Option<&'static str>, AllocError> {
 // A refusal of the program comes before each refusal in a method.
 #[test]
 fn refuses_wholes_first(rt: HostRuntime) -> Result<(), Fail> {
-    assert_eq!(rt; first_whole(rt.alloc())?, None);
+    assert_eq!(rt; first_whole(&rt)?, None);
     Ok(())
 }

@@ -1,7 +1,9 @@
 //! Replays of certificates behind a program, with the replies found by hand.
-use super::asking::{Pieces, is_reply};
+use asked_text::{Pieces, is_reply};
 use std::alloc::{AllocError, Global};
+use std::marker::Sync;
 use std::test::Fail;
+use std::thread::Threads;
 
 // Two callers of one method. Method 0 is `id`, and 1 is `main`.
 const PROGRAM: &str = "class A { } class B { } class Main {
@@ -55,26 +57,19 @@ const SMALL: &str = "100 | 9 | NotCertificate 0 |
 100 | 10 | Rejected 2 | %certificate;query 1.4.l2;start F 1.0.new;";
 
 // Whether that is answered to a replay over these bytes.
-fn is_answered(
-    alloc: Global,
+fn is_answered<R: Threads + AllocGlobal + Sync>(
+    rt: &R,
     input: &str,
     budget: &str,
     number: u8,
     reply: &str,
 ) -> Result<bool, AllocError> {
-    let words = format!(in alloc; "replay;Main;{budget}")?;
+    let words = format!(in rt.alloc(); "replay;Main;{budget}")?;
     let pieces = Pieces {
         read: 1_000_000,
         write: 64,
     };
-    is_reply(
-        alloc,
-        words.as_str(),
-        input.as_bytes(),
-        pieces,
-        number,
-        reply,
-    )
+    is_reply(rt, words.as_str(), input.as_bytes(), pieces, number, reply)
 }
 
 // The program, and a certificate behind the mark.
@@ -83,52 +78,56 @@ fn marked(alloc: Global, certificate: &str) -> Result<String, AllocError> {
 }
 
 // Whether what the certificate shows is accepted, with a line feed behind it and without, and within no smaller budget.
-fn accepts(alloc: Global) -> Result<bool, AllocError> {
-    let input = marked(alloc, CERTIFICATE)?;
+fn accepts<R: Threads + AllocGlobal + Sync>(rt: &R) -> Result<bool, AllocError> {
+    let input = marked(rt.alloc(), CERTIFICATE)?;
     let open = input.as_str().trim_end();
     Ok(
-        is_answered(alloc, input.as_str(), "10", 0, ACCEPTED)?
-            && is_answered(alloc, input.as_str(), "9", 11, "refused OverBudget 9\n")?
-            && is_answered(alloc, open, "10", 0, ACCEPTED)?,
+        is_answered(rt, input.as_str(), "10", 0, ACCEPTED)?
+            && is_answered(rt, input.as_str(), "9", 11, "refused OverBudget 9\n")?
+            && is_answered(rt, open, "10", 0, ACCEPTED)?,
     )
 }
 
 #[test]
 fn accepts_what_is_shown(rt: HostRuntime) -> Result<(), Fail> {
-    assert!(rt; accepts(rt.alloc())?);
+    assert!(rt; accepts(&rt)?);
     Ok(())
 }
 
 // The link stands behind the line that cites it.
-fn rejects_later(alloc: Global) -> Result<bool, AllocError> {
+fn rejects_later<R: Threads + AllocGlobal + Sync>(rt: &R) -> Result<bool, AllocError> {
     let Some((front, _)) = CERTIFICATE.split_once("link C 10") else {
         return Ok(false);
     };
-    let input = format!(in alloc;
+    let input = format!(in rt.alloc();
         "{PROGRAM}%certificate\n{front}pop C 12 14 1.3.l2\nlink C 10 0.0.p0\nflow C 13 1.4.l2\nclaim 7 15\n"
     )?;
-    is_answered(alloc, input.as_str(), "100", 10, "refused Rejected 13\n")
+    is_answered(rt, input.as_str(), "100", 10, "refused Rejected 13\n")
 }
 
 #[test]
 fn rejects_a_line_that_cites_a_later_one(rt: HostRuntime) -> Result<(), Fail> {
-    assert!(rt; rejects_later(rt.alloc())?);
+    assert!(rt; rejects_later(&rt)?);
     Ok(())
 }
 
 // Whether what ends behind so many lines is rejected at the next one, where the claim is wanting.
-fn rejects_front(alloc: Global, front: &str, number: u32) -> Result<bool, AllocError> {
-    let input = marked(alloc, front)?;
-    let reply = format!(in alloc; "refused Rejected {number}\n")?;
-    is_answered(alloc, input.as_str(), "100", 10, reply.as_str())
+fn rejects_front<R: Threads + AllocGlobal + Sync>(
+    rt: &R,
+    front: &str,
+    number: u32,
+) -> Result<bool, AllocError> {
+    let input = marked(rt.alloc(), front)?;
+    let reply = format!(in rt.alloc(); "refused Rejected {number}\n")?;
+    is_answered(rt, input.as_str(), "100", 10, reply.as_str())
 }
 
 // How many lines there are before the first front that isn't rejected so.
-fn fronts(alloc: Global) -> Result<u32, AllocError> {
-    let mut front = String::new(alloc);
+fn fronts<R: Threads + AllocGlobal + Sync>(rt: &R) -> Result<u32, AllocError> {
+    let mut front = String::new(rt.alloc());
     let mut number: u32 = 0;
     for line in CERTIFICATE.lines() {
-        if number > 0 && !rejects_front(alloc, front.as_str(), number)? {
+        if number > 0 && !rejects_front(rt, front.as_str(), number)? {
             return Ok(number);
         }
         front.push_str(line)?;
@@ -141,7 +140,7 @@ fn fronts(alloc: Global) -> Result<u32, AllocError> {
 // All but the last line: what stands behind the last one is where the claim is wanting.
 #[test]
 fn rejects_each_front(rt: HostRuntime) -> Result<(), Fail> {
-    assert_eq!(rt; fronts(rt.alloc())?, 17);
+    assert_eq!(rt; fronts(&rt)?, 17);
     Ok(())
 }
 
@@ -153,19 +152,21 @@ fn parts(row: &str) -> Option<(&str, u8, &str, &str)> {
     Some((budget, number.parse::<u8>().ok()?, refused, behind))
 }
 
-fn is_right(alloc: Global, row: &str) -> Result<bool, AllocError> {
+fn is_right<R: Threads + AllocGlobal + Sync>(rt: &R, row: &str) -> Result<bool, AllocError> {
     let Some((budget, number, refused, behind)) = parts(row) else {
         return Ok(false);
     };
-    let behind = behind.replace(alloc, ";", "\n")?;
-    let input = format!(in alloc; "{PROGRAM}{}", behind.as_str())?;
-    let reply = format!(in alloc; "refused {refused}\n")?;
-    is_answered(alloc, input.as_str(), budget, number, reply.as_str())
+    let behind = behind.replace(rt.alloc(), ";", "\n")?;
+    let input = format!(in rt.alloc(); "{PROGRAM}{}", behind.as_str())?;
+    let reply = format!(in rt.alloc(); "refused {refused}\n")?;
+    is_answered(rt, input.as_str(), budget, number, reply.as_str())
 }
 
-fn first_wrong(alloc: Global) -> Result<Option<&'static str>, AllocError> {
+fn first_wrong<R: Threads + AllocGlobal + Sync>(
+    rt: &R,
+) -> Result<Option<&'static str>, AllocError> {
     for row in SMALL.lines() {
-        if !is_right(alloc, row)? {
+        if !is_right(rt, row)? {
             return Ok(Some(row));
         }
     }
@@ -174,57 +175,51 @@ fn first_wrong(alloc: Global) -> Result<Option<&'static str>, AllocError> {
 
 #[test]
 fn refuses_in_order(rt: HostRuntime) -> Result<(), Fail> {
-    assert_eq!(rt; first_wrong(rt.alloc())?, None);
+    assert_eq!(rt; first_wrong(&rt)?, None);
     Ok(())
 }
 
 // The mark in the first line leaves no program.
-fn cuts_at_the_first(alloc: Global) -> Result<bool, AllocError> {
-    let input = format!(in alloc; "%certificate\n{PROGRAM}{CERTIFICATE}")?;
-    is_answered(
-        alloc,
-        input.as_str(),
-        "100",
-        6,
-        "refused NotLinked NoEntry\n",
-    )
+fn cuts_at_the_first<R: Threads + AllocGlobal + Sync>(rt: &R) -> Result<bool, AllocError> {
+    let input = format!(in rt.alloc(); "%certificate\n{PROGRAM}{CERTIFICATE}")?;
+    is_answered(rt, input.as_str(), "100", 6, "refused NotLinked NoEntry\n")
 }
 
 // A line with more than the mark is none.
-fn cuts_at_no_more(alloc: Global) -> Result<bool, AllocError> {
-    let input = format!(in alloc;
+fn cuts_at_no_more<R: Threads + AllocGlobal + Sync>(rt: &R) -> Result<bool, AllocError> {
+    let input = format!(in rt.alloc();
         "{PROGRAM}// %certificate\n/*\n%certificate \n*/\n%certificate\n{CERTIFICATE}"
     )?;
-    is_answered(alloc, input.as_str(), "100", 0, ACCEPTED)
+    is_answered(rt, input.as_str(), "100", 0, ACCEPTED)
 }
 
 // A comment is cut too.
-fn cuts_comments(alloc: Global) -> Result<bool, AllocError> {
-    let input = format!(in alloc; "{PROGRAM}/*\n%certificate\n*/\n{CERTIFICATE}")?;
+fn cuts_comments<R: Threads + AllocGlobal + Sync>(rt: &R) -> Result<bool, AllocError> {
+    let input = format!(in rt.alloc(); "{PROGRAM}/*\n%certificate\n*/\n{CERTIFICATE}")?;
     let at = PROGRAM.len();
-    let reply = format!(in alloc; "refused NotText {at}\n")?;
-    is_answered(alloc, input.as_str(), "100", 4, reply.as_str())
+    let reply = format!(in rt.alloc(); "refused NotText {at}\n")?;
+    is_answered(rt, input.as_str(), "100", 4, reply.as_str())
 }
 
 #[test]
 fn cuts_at_whole_lines(rt: HostRuntime) -> Result<(), Fail> {
-    assert!(rt; cuts_at_the_first(rt.alloc())?);
-    assert!(rt; cuts_at_no_more(rt.alloc())?);
-    assert!(rt; cuts_comments(rt.alloc())?);
+    assert!(rt; cuts_at_the_first(&rt)?);
+    assert!(rt; cuts_at_no_more(&rt)?);
+    assert!(rt; cuts_comments(&rt)?);
     Ok(())
 }
 
 // The limit is asked of the whole input.
-fn counts(alloc: Global) -> Result<bool, AllocError> {
-    let mut input = marked(alloc, CERTIFICATE)?;
+fn counts<R: Threads + AllocGlobal + Sync>(rt: &R) -> Result<bool, AllocError> {
+    let mut input = marked(rt.alloc(), CERTIFICATE)?;
     for _ in 0..262_144 {
         input.push_str("                                                                ")?;
     }
-    is_answered(alloc, input.as_str(), "100", 3, "refused TooLong\n")
+    is_answered(rt, input.as_str(), "100", 3, "refused TooLong\n")
 }
 
 #[test]
 fn counts_the_certificate(rt: HostRuntime) -> Result<(), Fail> {
-    assert!(rt; counts(rt.alloc())?);
+    assert!(rt; counts(&rt)?);
     Ok(())
 }

@@ -2,9 +2,11 @@
 //!
 //! A row has the words of a command, with `;` between them, and behind ` | ` the lines of the reply, with `~` behind each. `@` stands for the text of `main`
 //! of the class `Main`. The status of a reply that is no refusal is 0.
-use super::asking::{METHOD, Pieces, SMALL, is_reply};
+use asked_text::{METHOD, Pieces, SMALL, is_reply};
 use std::alloc::{AllocError, Global};
+use std::marker::Sync;
 use std::test::Fail;
+use std::thread::Threads;
 
 // A loop with an allocation: the machine, a free choice at `if` and at the root's array.
 const LOOP: (&str, &str) = (
@@ -285,13 +287,18 @@ fn number(told: &str) -> u8 {
 }
 
 // Whether a command over a program gets the reply.
-fn is_right(alloc: Global, pieces: Pieces, program: &str, row: &str) -> Result<bool, AllocError> {
+fn is_right<R: Threads + AllocGlobal + Sync>(
+    rt: &R,
+    pieces: Pieces,
+    program: &str,
+    row: &str,
+) -> Result<bool, AllocError> {
     let Some((asked, told)) = row.split_once(" | ") else {
         return Ok(false);
     };
-    let reply = reply(alloc, told)?;
+    let reply = reply(rt.alloc(), told)?;
     is_reply(
-        alloc,
+        rt,
         asked,
         program.as_bytes(),
         pieces,
@@ -301,25 +308,25 @@ fn is_right(alloc: Global, pieces: Pieces, program: &str, row: &str) -> Result<b
 }
 
 /// The first row of a program that doesn't get its reply, in such pieces.
-pub fn first_wrong_in(
-    alloc: Global,
+pub fn first_wrong_in<R: Threads + AllocGlobal + Sync>(
+    rt: &R,
     pieces: Pieces,
     rows: (&'static str, &'static str),
 ) -> Result<Option<&'static str>, AllocError> {
     let (program, rows) = rows;
     for row in rows.lines() {
-        if !is_right(alloc, pieces, program, row)? {
+        if !is_right(rt, pieces, program, row)? {
             return Ok(Some(row));
         }
     }
     Ok(None)
 }
 
-fn first_wrong(
-    alloc: Global,
+fn first_wrong<R: Threads + AllocGlobal + Sync>(
+    rt: &R,
     rows: (&'static str, &'static str),
 ) -> Result<Option<&'static str>, AllocError> {
-    first_wrong_in(alloc, SMALL, rows)
+    first_wrong_in(rt, SMALL, rows)
 }
 
 #[test]
@@ -327,7 +334,7 @@ fn answers_calls_and_fields(rt: HostRuntime) -> Result<(), Fail> {
     for rows in [
         CALLS, BOXES, NAMES, STATICS, RECURSION, ITSELF, NOTHING, DISPATCH, HELLO, NESTED, THROWN,
     ] {
-        assert_eq!(rt; first_wrong(rt.alloc(), rows)?, None);
+        assert_eq!(rt; first_wrong(&rt, rows)?, None);
     }
     Ok(())
 }
@@ -335,7 +342,7 @@ fn answers_calls_and_fields(rt: HostRuntime) -> Result<(), Fail> {
 #[test]
 fn answers_calls_of_interfaces_and_aliases(rt: HostRuntime) -> Result<(), Fail> {
     for rows in [LOWEST, HIDDEN, SEVERAL, OWN, TEXTS] {
-        assert_eq!(rt; first_wrong(rt.alloc(), rows)?, None);
+        assert_eq!(rt; first_wrong(&rt, rows)?, None);
     }
     Ok(())
 }
@@ -343,7 +350,7 @@ fn answers_calls_of_interfaces_and_aliases(rt: HostRuntime) -> Result<(), Fail> 
 #[test]
 fn runs_and_shows_the_demo(rt: HostRuntime) -> Result<(), Fail> {
     for rows in [LOOP, NULL, RUNS, DEMO, TWICE] {
-        assert_eq!(rt; first_wrong(rt.alloc(), rows)?, None);
+        assert_eq!(rt; first_wrong(&rt, rows)?, None);
     }
     Ok(())
 }

@@ -1,7 +1,9 @@
 //! Programs under protocols, with the replies found by hand.
-use super::asking::{Pieces, is_reply_to};
-use std::alloc::{AllocError, Global};
+use asked_text::{Pieces, is_reply_to};
+use std::alloc::AllocError;
+use std::marker::Sync;
 use std::test::Fail;
+use std::thread::Threads;
 
 // A file is opened and read by a method, and closed by its caller.
 const CLOSED: &str =
@@ -63,22 +65,26 @@ fn row_of(text: &str) -> Option<Row<'_>> {
 }
 
 // Whether a row gets its reply.
-fn is_right(alloc: Global, program: &str, row: &str) -> Result<bool, AllocError> {
+fn is_right<R: Threads + AllocGlobal + Sync>(
+    rt: &R,
+    program: &str,
+    row: &str,
+) -> Result<bool, AllocError> {
     let Some(row) = row_of(row) else {
         return Ok(false);
     };
-    let reply = row.reply.replace(alloc, "~", "\n")?;
+    let reply = row.reply.replace(rt.alloc(), "~", "\n")?;
     let words = ["typestate", row.entry, row.protocol, row.budget];
-    is_reply_to(alloc, &words, program, PIECES, row.number, reply.as_str())
+    is_reply_to(rt, &words, program, PIECES, row.number, reply.as_str())
 }
 
-fn first_wrong(
-    alloc: Global,
+fn first_wrong<R: Threads + AllocGlobal + Sync>(
+    rt: &R,
     program: &str,
     rows: &'static str,
 ) -> Result<Option<&'static str>, AllocError> {
     for row in rows.lines() {
-        if !is_right(alloc, program, row)? {
+        if !is_right(rt, program, row)? {
             return Ok(Some(row));
         }
     }
@@ -87,7 +93,7 @@ fn first_wrong(
 
 #[test]
 fn answers_protocols(rt: HostRuntime) -> Result<(), Fail> {
-    assert_eq!(rt; first_wrong(rt.alloc(), CLOSED, OF_CLOSED)?, None);
-    assert_eq!(rt; first_wrong(rt.alloc(), READ, OF_READ)?, None);
+    assert_eq!(rt; first_wrong(&rt, CLOSED, OF_CLOSED)?, None);
+    assert_eq!(rt; first_wrong(&rt, READ, OF_READ)?, None);
     Ok(())
 }

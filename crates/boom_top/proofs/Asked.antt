@@ -1,5 +1,5 @@
 -- What a request about a program that is linked is answered.
-use Rattle.std.proofs.Common.{◌≡◌, ℕ, zero, suc, List, [], ◌∷◌, ◌++◌, Option, codes, length, refl, subst, arith, inl, inr, slice_get, Some}
+use Rattle.std.proofs.Common.{◌≡◌, ℕ, zero, suc, List, [], ◌∷◌, ◌++◌, Option, codes, length, refl, subst, sym, arith, inl, inr, slice_get, Some}
 use Rattle.std.specs.Io.KnownBytes.{Appends}
 use Rattle.jim_ast.specs.Lists.{Has}
 use Rattle.jim_ast.specs.declared.syntax.Program.{Program}
@@ -17,22 +17,23 @@ use Rattle.demand_walk.proofs.Counts.{HasMore-not}
 use Rattle.run_covers.specs.Covers.{IsCovered}
 use Rattle.run_covers.proofs.Whole.{links_covered}
 use Rattle.query_core.specs.Answers.{IsAffordable}
+use Rattle.query_core.specs.Places.{IsPlaceOf}
 use Rattle.query_core.proofs.NamedPlaces.{place_one, place_there, places_one, places_there}
 use Rattle.query_core.proofs.Sound.{answer_sound, shared_sound}
 use Rattle.report_text.specs.Aliases.{IsSharedLine, verdict_lines}
 use Rattle.report_text.specs.Answers.{IsAcceptedText, IsAnswerText, IsSiteLine, count_lines}
 use Rattle.report_text.specs.Lines.{text_of}
-use Rattle.boom_words.specs.Requests.{Alias, PointsTo, Question, Request, Typestate, alias, demo, explain, points_to, replay, run, typestate}
+use Rattle.boom_words.specs.Requests.{Alias, PointsTo, Question, Request, Typestate, alias, batch, demo, explain, points_to, replay, run, typestate}
 use Rattle.boom_top.specs.Demo.{IsDemoText, demo_asked}
 use Rattle.cert_rules.specs.declared.certificate.Certificate.{Certificate}
 use Rattle.cert_laws.proofs.Complete.{answered_certified}
 use Rattle.cert_text.proofs.OneText.{certificate_one, spelled_bad}
 use Rattle.cert_query.specs.Replays.{IsAccepted}
 use Rattle.cert_query.proofs.Outcomes.{over_accepted, rejected_accepted}
-use Rattle.boom_top.specs.Evidence.{HasEvidence}
+use Rattle.boom_top.specs.Evidence.{HasEvidence, PrintsEachShown}
 use Rattle.boom_top.specs.Queries.{Accepted, program_in, rest_in, source_of}
-use Rattle.boom_top.specs.Replies.{AreAliased, IsAliasReply, IsAnswered, IsCertificateReply, IsJoinedReply, IsLinkedReply, IsPlaceReply, IsProgramReply, IsProtocolReply, IsReplayReply, IsReplyTo, IsTextReply, IsTypestateReply}
-use Rattle.boom_top.specs.Runs.{CoversAllRuns, HasAnswer, IsCertificateOf, IsJudgeable, IsWithin, PrintsAllAliases, PrintsAllRuns}
+use Rattle.boom_top.specs.Replies.{AreAliased, AreAnsweredAll, IsAliasReply, IsAnswered, IsCertificateReply, IsJoinedReply, IsLinkedReply, IsPlaceReply, IsProgramReply, IsProtocolReply, IsReplayReply, IsReplyTo, IsTextReply, IsTypestateReply, asked_of}
+use Rattle.boom_top.specs.Runs.{CoversAllRuns, HasAnswer, IsCertificateOf, IsJudgeable, IsWithin, PrintsAllAliases, PrintsAllRuns, PrintsEachAllRuns, TellsAllRuns}
 use Rattle.boom_top.specs.declared.status.Status.{Status}
 use Rattle.boom_top.specs.declared.status.Status.TheVariants.{Done, NoSuchPlace, NotCertificate, NotProtocol, OverBudget, Rejected}
 use Rattle.boom_top.specs.Safety.{SaysSafe}
@@ -42,6 +43,8 @@ use Rattle.track_verdicts.specs.Verdicts as verdict
 use Rattle.explain_text.specs.Explanations.{IsExplainText}
 use Rattle.explain_text.proofs.Asked.{place_named}
 use Rattle.explain_text.proofs.Found.{explanation_of, has_explained}
+use Rattle.batch_lines.specs.Queries.{AreQueries, QueryParts}
+use Rattle.boom_top.proofs.Batched.{batch_answers, batch_enough, own_lines, texts, writes_each}
 use Rattle.boom_top.proofs.Ending.{says_none}
 use Rattle.boom_top.proofs.Judged.{demand_within, safe_verdict}
 use Rattle.boom_top.proofs.Once.{not_refused, prelude_one, spelled_read}
@@ -116,31 +119,56 @@ module _ (p : LinkedProgram) (s : Status) (lines : List (List ℕ)) where
   linked_enough entry rest (run asked) has reply = reply.1
   linked_enough entry rest (replay budget) has reply = replay_enough budget rest has reply
   linked_enough entry rest (typestate asked) has reply = typestate_enough entry asked has reply
+  linked_enough entry rest (batch budget) has reply = batch_enough p budget rest s lines has reply
   linked_enough entry rest (demo boxes) has reply = place_enough (demo_asked boxes) (λ n. IsDemoText p boxes) has reply
+
+-- the answer about a node has the line of the site of each object that a run brings
+tells_covered : (p : LinkedProgram) → IsWellLinked p → IsCovered p → (lines : List (List ℕ)) (budget : ℕ) (n : Node) → IsAnswered p (IsAnswerText p) budget n lines
+    → TellsAllRuns p n (text_of lines)
+tells_covered p well covered lines budget n a = λ count state number frame x o run holds is.
+    let found = answer_sound p well covered n a.sites a.demanded a.answer count state number frame x o run holds is in
+    let line = each_left (IsSiteLine p) a.sites a.told.lines found.2.0 found.0.site a.told.lines_are found.2.1 in (
+      found.0,
+      found.1,
+      line.0,
+      line.2,
+      record {
+        lines = a.told.query ∷ (a.told.lines ++ count_lines (length a.sites) a.demanded);
+        text_is = a.told.text_is;
+        has = has_middle a.told.query a.told.lines (count_lines (length a.sites) a.demanded) line.0 (found.2.0, line.1);
+      },
+    )
+
+-- what answers a query whose place is there, and whose demand is within the budget
+answered_at : (p : LinkedProgram) (asked : PointsTo) (n : Node) (s : Status) (lines : List (List ℕ)) → IsPlaceOf p asked.method asked.index asked.local n
+    → IsAffordable p (n ∷ []) asked.budget → IsPlaceReply p asked (IsAnswerText p) s lines → IsAnswered p (IsAnswerText p) asked.budget n lines
+answered_at p asked n s lines place affordable (inl a) = absurd (place_there p asked.method asked.index asked.local n place a.0 a.1)
+answered_at p asked n s lines place affordable (inr (m, here, inl over)) =
+    let same = place_one p asked.method asked.index asked.local n m place here in
+    absurd (HasMore-not asked.budget over.0 (subst (λ (n : Node). IsAffordable p (n ∷ []) asked.budget) same affordable))
+answered_at p asked n s lines place affordable (inr (m, here, inr a)) =
+    subst (λ (n : Node). IsAnswered p (IsAnswerText p) asked.budget n lines) (place_one p asked.method asked.index asked.local m n here place) a.0
+
+-- so has the answer to each query of a batch
+each_covered : (p : LinkedProgram) → IsWellLinked p → IsCovered p → (budget : ℕ) (queries : List QueryParts) (lines : List (List ℕ)) → AreAnsweredAll p budget queries lines
+    → (old new : Option (List ℕ)) → Appends old new (text_of lines) → PrintsEachAllRuns p budget queries old new
+each_covered p well covered budget queries lines all old new wrote = record {
+  texts = texts p budget queries lines all;
+  writes = writes_each p budget queries lines all old new wrote;
+  covers = λ i q text here there n place affordable.
+      let own = own_lines p budget queries lines all i q text here there in
+      let a = answered_at p (asked_of budget q) n own.1.0 own.0 place affordable own.1.1 in
+      subst (TellsAllRuns p n) (sym own.2) (tells_covered p well covered own.0 budget n a);
+}
 
 -- what is done covers each run
 module _ (p : LinkedProgram) (well : IsWellLinked p) (covered : IsCovered p) (old new : Option (List ℕ)) (lines : List (List ℕ)) (wrote : Appends old new (text_of lines)) where
-  -- the answer about a node has the line of the site of each object that a run brings
   node_covered : (budget : ℕ) (n : Node) → IsAnswered p (IsAnswerText p) budget n lines → PrintsAllRuns p n old new
   node_covered budget n a = λ count state number frame x o run holds is.
-      let found = answer_sound p well covered n a.sites a.demanded a.answer count state number frame x o run holds is in
-      let line = each_left (IsSiteLine p) a.sites a.told.lines found.2.0 found.0.site a.told.lines_are found.2.1 in (
-        found.0,
-        found.1,
-        line.0,
-        line.2,
-        (
-          text_of lines,
-          wrote,
-          record {
-            lines = a.told.query ∷ (a.told.lines ++ count_lines (length a.sites) a.demanded);
-            text_is = a.told.text_is;
-            has = has_middle a.told.query a.told.lines (count_lines (length a.sites) a.demanded) line.0 (found.2.0, line.1);
-          },
-        ),
-      )
+      let told = tells_covered p well covered lines budget n a count state number frame x o run holds is in
+      (told.0, told.1, told.2, told.3, (text_of lines, wrote, told.4))
 
-  place_covered : (asked : PointsTo) → IsPlaceReply p asked (IsAnswerText p) Done lines → CoversAllRuns p (points_to asked) old new
+  place_covered : (asked : PointsTo) → IsPlaceReply p asked (IsAnswerText p) Done lines → CoversAllRuns p [] (points_to asked) old new
   place_covered asked (inl a) n place = absurd (place_there p asked.method asked.index asked.local n place a.0 a.1)
   place_covered asked (inr (m, here, inl over)) n place = absurd (let no : Done ≡ OverBudget asked.budget = over.1.0 in cc)
   place_covered asked (inr (m, here, inr a)) n place =
@@ -167,7 +195,7 @@ module _ (p : LinkedProgram) (well : IsWellLinked p) (covered : IsCovered p) (ol
         ),
       )
 
-  explain_covered : (asked : PointsTo) → IsPlaceReply p asked (IsExplainText p) Done lines → CoversAllRuns p (explain asked) old new
+  explain_covered : (asked : PointsTo) → IsPlaceReply p asked (IsExplainText p) Done lines → CoversAllRuns p [] (explain asked) old new
   explain_covered asked (inl a) n place = absurd (place_there p asked.method asked.index asked.local n place a.0 a.1)
   explain_covered asked (inr (m, here, inl over)) n place = absurd (let no : Done ≡ OverBudget asked.budget = over.1.0 in cc)
   explain_covered asked (inr (m, here, inr a)) n place =
@@ -206,7 +234,7 @@ module _ (p : LinkedProgram) (well : IsWellLinked p) (covered : IsCovered p) (ol
         ),
       )
 
-  alias_covered : (asked : Alias) → IsAliasReply p asked Done lines → CoversAllRuns p (alias asked) old new
+  alias_covered : (asked : Alias) → IsAliasReply p asked Done lines → CoversAllRuns p [] (alias asked) old new
   alias_covered asked (inl x) a b places = absurd (places_there p asked.method asked.index asked.first asked.second a b places x.0 x.1)
   alias_covered asked (inr (m, n, here, inl over)) a b places = absurd (let no : Done ≡ OverBudget asked.budget = over.1.0 in cc)
   alias_covered asked (inr (m, n, here, inr x)) a b places =
@@ -214,13 +242,14 @@ module _ (p : LinkedProgram) (well : IsWellLinked p) (covered : IsCovered p) (ol
       let left = subst (λ (m : Node). AreAliased p asked.budget m n lines) same.0 x.0 in
       nodes_covered asked.budget a b (subst (λ (n : Node). AreAliased p asked.budget a n lines) same.1 left)
 
-  pub linked_covered : (entry rest : List ℕ) (q : Question) → IsLinkedReply p entry rest q Done lines → CoversAllRuns p q old new
+  pub linked_covered : (entry rest : List ℕ) (q : Question) → IsLinkedReply p entry rest q Done lines → CoversAllRuns p rest q old new
   linked_covered entry rest (points_to asked) reply = place_covered asked reply
   linked_covered entry rest (explain asked) reply = explain_covered asked reply
   linked_covered entry rest (alias asked) reply = alias_covered asked reply
   linked_covered entry rest (run asked) reply = tt
   linked_covered entry rest (replay budget) reply = tt
   linked_covered entry rest (typestate asked) reply = tt
+  linked_covered entry rest (batch budget) reply = λ queries are. each_covered p well covered budget queries lines (batch_answers p budget rest lines reply queries are) old new wrote
   linked_covered entry rest (demo boxes) reply = tt
 
   -- and where it says safe, no run breaks the protocol
@@ -231,6 +260,23 @@ module _ (p : LinkedProgram) (well : IsWellLinked p) (covered : IsCovered p) (ol
   typestate_safe entry asked k (inr (j, of, inr a)) is says =
       let none = says_none p j entry a.0.verdict (text_of lines) a.0.told old new wrote says in
       subst (IsSafe p) (protocol_one p asked.protocol j k of is) (safe_verdict p j well covered a.0.verdict a.0.is_verdict none)
+
+-- each site of the answer to a query of a batch is shown by some list of lines
+each_evident : (p : LinkedProgram) (budget : ℕ) (queries : List QueryParts) (lines : List (List ℕ)) → AreAnsweredAll p budget queries lines
+    → (old new : Option (List ℕ)) → Appends old new (text_of lines) → PrintsEachShown p budget queries old new
+each_evident p budget queries lines all old new wrote = record {
+  texts = texts p budget queries lines all;
+  writes = writes_each p budget queries lines all old new wrote;
+  shown = λ i q text here there n place affordable.
+      let own = own_lines p budget queries lines all i q text here there in
+      let a = answered_at p (asked_of budget q) n own.1.0 own.0 place affordable own.1.1 in
+      record {
+        sites = a.sites;
+        demanded = a.demanded;
+        told = subst (IsAnswerText p n a.sites a.demanded) (sym own.2) a.told;
+        shown = λ o has. answered_certified p n o ((a.answer.answer.each o).0 has);
+      };
+}
 
 -- there is evidence for what is done
 module _ (p : LinkedProgram) (old new : Option (List ℕ)) (lines : List (List ℕ)) (wrote : Appends old new (text_of lines)) where
@@ -288,6 +334,7 @@ module _ (p : LinkedProgram) (old new : Option (List ℕ)) (lines : List (List �
   linked_evident entry rest (alias asked) reply = tt
   linked_evident entry rest (run asked) reply = tt
   linked_evident entry rest (typestate asked) reply = tt
+  linked_evident entry rest (batch budget) reply = λ queries are. each_evident p budget queries lines (batch_answers p budget rest lines reply queries are) old new wrote
   linked_evident entry rest (demo boxes) reply = tt
 
 module _ (r : Request) (bytes : List ℕ) (q : Accepted r bytes) where
@@ -339,7 +386,7 @@ module _ (r : Request) (bytes : List ℕ) (q : Accepted r bytes) where
 
   -- what is done covers each run
   pub covers : (old new : Option (List ℕ)) (lines : List (List ℕ)) → Appends old new (text_of lines) → IsReplyTo r bytes Done lines
-      → CoversAllRuns q.linked r.question old new
+      → CoversAllRuns q.linked rest r.question old new
   covers old new lines wrote reply = linked_covered q.linked well covered old new lines wrote r.entry rest r.question (reaches Done lines reply)
 
   -- and there is evidence for it

@@ -18,6 +18,7 @@ read_source (query.Alias asked) other bytes = refl
 read_source (query.Run asked) other bytes = refl
 read_source (query.Replay budget) other bytes = refl
 read_source (query.Typestate asked) other bytes = refl
+read_source (query.Batch budget) other bytes = refl
 read_source (query.Demo boxes) other bytes = absurd (other boxes refl)
 
 pub other_question : (q : Query) → ((boxes : ℕ) → q ≡ query.Demo boxes → ⊥) → IsDemo (question_of q) → ⊥
@@ -27,6 +28,7 @@ other_question (query.Alias asked) other is = is
 other_question (query.Run asked) other is = is
 other_question (query.Replay budget) other is = is
 other_question (query.Typestate asked) other is = is
+other_question (query.Batch budget) other is = is
 other_question (query.Demo boxes) other is = other boxes refl
 
 pub own_question : (q : Query) (boxes : ℕ) → q ≡ query.Demo boxes → IsDemo (question_of q)

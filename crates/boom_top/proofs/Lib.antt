@@ -1,13 +1,14 @@
 pub mod Answered
 pub mod Asked
+pub mod Batched
 pub mod Both
 pub mod Commanded
 pub mod Counted
 pub mod Ending
 pub mod Judged
-pub mod Marked
 pub mod Noded
 pub mod Once
+pub mod OneText
 pub mod Replayed
 pub mod Replied
 pub mod Sent

@@ -11,7 +11,7 @@ use Rattle.link_rules.specs.declared.refusal.LinkError.TheVariants as link
 use Rattle.link_once.proofs.OneLink.{link_one}
 use Rattle.link_once.proofs.OneRefusal.{refused_one}
 use Rattle.link_sites.specs.declared.site.Site.{Site}
-use Rattle.boom_words.specs.Requests.{Alias, PointsTo, Question, Request, Typestate, alias, demo, explain, points_to, replay, run, typestate}
+use Rattle.boom_words.specs.Requests.{Alias, PointsTo, Question, Request, Typestate, alias, batch, demo, explain, points_to, replay, run, typestate}
 use Rattle.boom_top.specs.Demo.{IsDemoText, demo_asked}
 use Rattle.boom_top.specs.Parts.{IsGiven}
 use Rattle.boom_top.specs.Replies.{AreAliased, IsAliasReply, IsAnswered, IsBudgetReply, IsCertificateReply, IsJoinedReply, IsLinkedReply, IsNotLinked, IsPlaceReply, IsProgramReply, IsProtocolReply, IsReplayReply, IsSourceReply, IsTextReply, IsTypestateReply, IsUnread}
@@ -29,6 +29,7 @@ use Rattle.cert_text.proofs.OneText.{bad_one, certificate_one, spelled_bad}
 use Rattle.cert_query.proofs.Outcomes.{over_accepted, rejected_accepted, rejected_at_one, rejected_over}
 use Rattle.track_rules.specs.Protocols.{ProtocolParts}
 use Rattle.boom_top.specs.Queries.{IsPrelude, program_in, rest_in}
+use Rattle.boom_top.proofs.Batched.{batch_given, batch_status}
 use Rattle.boom_top.proofs.Judged.{judged_within}
 use Rattle.boom_top.proofs.Worded.{no_protocol_one, protocol_one, protocol_there}
 
@@ -188,6 +189,7 @@ module _ (p : LinkedProgram) where
     linked_one (run asked) s t xs ys a b = a.1 ∙ sym b.1
     linked_one (replay budget) s t xs ys a b = replay_status budget rest s t xs ys a b
     linked_one (typestate asked) s t xs ys a b = typestate_status entry asked s t xs ys a b
+    linked_one (batch budget) s t xs ys a b = batch_status p budget rest s t xs ys a b
     linked_one (demo boxes) s t xs ys a b = place_status (demo_asked boxes) (λ n. IsDemoText p boxes) s t xs ys a b
 
     linked_given : (q : Question) (s : Status) (lines : List (List ℕ)) → IsLinkedReply p entry rest q s lines → IsGiven s
@@ -197,6 +199,7 @@ module _ (p : LinkedProgram) where
     linked_given (run asked) s lines a = subst IsGiven (sym a.1) tt
     linked_given (replay budget) s lines a = replay_given budget rest s lines a
     linked_given (typestate asked) s lines a = typestate_given entry asked s lines a
+    linked_given (batch budget) s lines a = batch_given p budget rest s lines a
     linked_given (demo boxes) s lines a = place_given (demo_asked boxes) (λ n. IsDemoText p boxes) s lines a
 
 module _ (r : Request) (rest : List ℕ) where

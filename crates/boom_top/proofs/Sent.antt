@@ -118,7 +118,7 @@ module _ (old new : Option (List ℕ)) (before now : ℕ) (result : Status) (X :
     ]
 
     pub soundly : (made : Result Reply NoReply) → IfOk made Sent → IfErr made Unsent → IfOk made Made → (IsOk made → IsOne)
-        → result ≡ Done → (r : Request) → IsRequest words r → (a : Accepted r bytes) → CoversAllRuns a.linked r.question old new
+        → result ≡ Done → (r : Request) → IsRequest words r → (a : Accepted r bytes) → CoversAllRuns a.linked (rest_in r.question (source_of r.question bytes)) r.question old new
     soundly (Err none.ReadFault) sent unsent is one done r is_request a = absurd (let no : ReadFault ≡ Done = sym unsent.0 ∙ done in cc)
     soundly (Err none.NoMemory) sent unsent is one done r is_request a = absurd (let no : NoMemory ≡ Done = sym unsent.0 ∙ done in cc)
     soundly (Ok reply) sent unsent is one done r is_request a = elim sent [

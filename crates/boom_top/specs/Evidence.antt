@@ -1,5 +1,5 @@
 -- The evidence for the sites that are printed.
-use Rattle.std.specs.Prelude.{ℕ, ◌≤◌, List}
+use Rattle.std.specs.Prelude.{◌≡◌, ℕ, ◌≤◌, List, [], ◌∷◌, Some, slice_get}
 use Rattle.std.specs.declared.option.Option.{Option}
 use Rattle.std.specs.Io.KnownBytes.{Appends}
 use Rattle.jim_ast.specs.Lists.{Has}
@@ -13,9 +13,12 @@ use Rattle.cert_laws.specs.Shown.{IsShown}
 use Rattle.cert_query.specs.Replays.{IsAccepted}
 use Rattle.cert_evidence.specs.Explained.{IsExplained}
 use Rattle.explain_text.specs.Explanations.{IsExplainText, IsExplanation}
+use Rattle.batch_lines.specs.Queries.{AreQueries, QueryParts}
+use Rattle.query_core.specs.Answers.{IsAffordable}
 use Rattle.query_core.specs.Places.{IsPlaceOf}
 use Rattle.report_text.specs.Answers.{IsAcceptedText, IsAnswerText}
-use Rattle.boom_words.specs.Requests.{PointsTo, Question, alias, demo, explain, points_to, replay, run, typestate}
+use Rattle.boom_words.specs.Requests.{PointsTo, Question, alias, batch, demo, explain, points_to, replay, run, typestate}
+use Rattle.boom_top.specs.Runs.{WritesEach}
 
 -- The answer about the place was written, and for each site that it prints some list of lines is certified: step by step, that an object of the site may be
 -- at the node in the system of fields and in the system of calls.
@@ -55,6 +58,21 @@ pub record PrintsCertified (p : LinkedProgram) (certificate : List ℕ) (old new
   pub wrote : Appends old new text
   pub certified : IsCertified p spelled.target spelled.lines site
 
+-- a text answers about the node, and for each site that it tells some list of lines is certified
+pub record IsShownIn (p : LinkedProgram) (n : Node) (text : List ℕ) : Type 0 where
+  pub sites : List Site
+  pub demanded : ℕ
+  pub told : IsAnswerText p n sites demanded text
+  pub shown : (o : Site) → Has sites o → IsShown p n o
+
+-- Texts that answer the queries were written, and where a query's place is there and its demand within the budget, for each site of its own text some list
+-- of lines is certified.
+pub record PrintsEachShown (p : LinkedProgram) (budget : ℕ) (queries : List QueryParts) (old new : Option (List ℕ)) : Type 0 where
+  pub texts : List (List ℕ)
+  pub writes : WritesEach p budget queries texts old new
+  pub shown : (i : ℕ) (q : QueryParts) (text : List ℕ) → slice_get queries i ≡ Some q → slice_get texts i ≡ Some text
+      → (n : Node) → IsPlaceOf p q.method q.index q.local n → IsAffordable p (n ∷ []) budget → IsShownIn p n text
+
 -- The evidence, by what was asked, of a program and of what stands behind its text. Other commands print no answer about one local.
 abbrev pub HasEvidence : LinkedProgram → List ℕ → Question → Option (List ℕ) → Option (List ℕ) → Type 0
 HasEvidence p rest (points_to asked) old new = PrintsShown p asked old new
@@ -63,4 +81,5 @@ HasEvidence p rest (replay budget) old new = PrintsCertified p rest old new
 HasEvidence p rest (alias asked) old new = Unit {0}
 HasEvidence p rest (run asked) old new = Unit {0}
 HasEvidence p rest (typestate asked) old new = Unit {0}
+HasEvidence p rest (batch budget) old new = (queries : List QueryParts) → AreQueries rest queries → PrintsEachShown p budget queries old new
 HasEvidence p rest (demo boxes) old new = Unit {0}

@@ -1,4 +1,4 @@
-pub mod Cuts
+pub mod Batches
 pub mod Demo
 pub mod Evidence
 pub mod Queries

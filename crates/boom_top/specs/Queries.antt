@@ -1,14 +1,14 @@
 -- What a request asks of a text: the program that it spells and that is linked.
-use Rattle.std.specs.Prelude.{ℕ, ◌<◌, ◌≤◌, List, [], All, length}
+use Rattle.std.specs.Prelude.{ℕ, ◌<◌, ◌≤◌, List, [], All, codes, length}
 use Rattle.std.specs.Char.{IsAsciiDigit}
 use Rattle.jim_ast.specs.declared.syntax.Program.{Program}
 use Rattle.jim_parse.specs.Derives.{Spells}
 use Rattle.jim_prelude.specs.Text.{prelude_text}
 use Rattle.link_rules.specs.Conditions.{DeclaresNine}
 use Rattle.link_rules.specs.Linked.{LinkedProgram, Links}
-use Rattle.boom_words.specs.Requests.{Question, Request, alias, demo, explain, points_to, replay, run, typestate}
+use Rattle.boom_words.specs.Requests.{Question, Request, alias, batch, demo, explain, points_to, replay, run, typestate}
 use Rattle.demo_text.specs.Demo.{demo_source}
-use Rattle.boom_top.specs.Cuts.{before_mark, behind_mark, lines_of}
+use Rattle.batch_lines.specs.Cuts.{before_mark, behind_mark, lines_of}
 
 -- the most bytes that are read
 abbrev pub limit : ℕ
@@ -22,11 +22,20 @@ source_of (alias asked) bytes = bytes
 source_of (run asked) bytes = bytes
 source_of (replay budget) bytes = bytes
 source_of (typestate asked) bytes = bytes
+source_of (batch budget) bytes = bytes
 source_of (demo boxes) bytes = demo_source boxes
 
--- the program among these bytes: for a replay it stands before the mark
+-- the lines behind which a certificate stands, and the queries of a batch
+abbrev pub certificate_mark : List ℕ
+certificate_mark = codes "%certificate"
+
+abbrev pub queries_mark : List ℕ
+queries_mark = codes "%queries"
+
+-- the program among these bytes: for a replay and for a batch it stands before the mark
 abbrev pub program_in : Question → List ℕ → List ℕ
-program_in (replay budget) text = before_mark (lines_of text)
+program_in (replay budget) text = before_mark certificate_mark (lines_of text)
+program_in (batch budget) text = before_mark queries_mark (lines_of text)
 program_in (points_to asked) text = text
 program_in (explain asked) text = text
 program_in (alias asked) text = text
@@ -34,9 +43,10 @@ program_in (run asked) text = text
 program_in (typestate asked) text = text
 program_in (demo boxes) text = text
 
--- what stands behind it: for a replay the certificate
+-- what stands behind it: for a replay the certificate, for a batch the queries
 abbrev pub rest_in : Question → List ℕ → List ℕ
-rest_in (replay budget) text = behind_mark (lines_of text)
+rest_in (replay budget) text = behind_mark certificate_mark (lines_of text)
+rest_in (batch budget) text = behind_mark queries_mark (lines_of text)
 rest_in (points_to asked) text = []
 rest_in (explain asked) text = []
 rest_in (alias asked) text = []
@@ -53,6 +63,7 @@ IsDemo (alias asked) = ⊥
 IsDemo (run asked) = ⊥
 IsDemo (replay budget) = ⊥
 IsDemo (typestate asked) = ⊥
+IsDemo (batch budget) = ⊥
 
 -- what the parts of a question keep: the choices of a run are digits, and the demo has from 1 to 400 boxes
 abbrev pub IsFit : Question → Type 0
@@ -63,6 +74,7 @@ IsFit (explain asked) = Unit {0}
 IsFit (alias asked) = Unit {0}
 IsFit (replay budget) = Unit {0}
 IsFit (typestate asked) = Unit {0}
+IsFit (batch budget) = Unit {0}
 
 -- the stand-ins for Java's own classes: the program that their text spells. It declares the nine classes that linking needs
 pub record IsPrelude (prelude : Program) : Type 0 where

@@ -10,7 +10,7 @@ use Rattle.protocol_words.specs.declared.error.ProtocolError.TheVariants as prot
 use Rattle.query_core.specs.declared.places.Which.{Which}
 use Rattle.query_core.specs.declared.places.Which.TheVariants.{Method, Index, Local, Second}
 use Rattle.boom_top.specs.declared.status.Status.{Status}
-use Rattle.boom_top.specs.declared.status.Status.TheVariants.{Done, Usage, ReadFault, TooLong, NotText, NotJimple, NotLinked, NoSuchPlace, NotProtocol, NotCertificate, Rejected, OverBudget, WriteFault, NoMemory, BadPrelude}
+use Rattle.boom_top.specs.declared.status.Status.TheVariants.{Done, Usage, ReadFault, TooLong, NotText, NotJimple, NotLinked, NoSuchPlace, NotProtocol, NotCertificate, Rejected, OverBudget, WriteFault, NoMemory, NotBatch, BadPrelude}
 
 -- the number with which the program ends
 abbrev pub number_of : Status → ℕ
@@ -28,6 +28,7 @@ number_of (Rejected line) = 10
 number_of (OverBudget budget) = 11
 number_of WriteFault = 12
 number_of NoMemory = 13
+number_of (NotBatch at) = 15
 number_of BadPrelude = 16
 
 -- the word for the part of a place that isn't there
@@ -111,6 +112,7 @@ refusal (NotProtocol error) = codes "refused NotProtocol " ++ protocol_text erro
 refusal (NotCertificate at) = codes "refused NotCertificate " ++ decimal at
 refusal (Rejected line) = codes "refused Rejected " ++ decimal line
 refusal (OverBudget budget) = codes "refused OverBudget " ++ decimal budget
+refusal (NotBatch at) = codes "refused NotBatch " ++ decimal at
 refusal BadPrelude = codes "refused BadPrelude"
 refusal Done = []
 refusal ReadFault = []

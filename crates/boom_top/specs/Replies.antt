@@ -1,5 +1,7 @@
 -- The status and the lines with which a command is answered: the checks in their order, each with the status that refuses.
-use Rattle.std.specs.Prelude.{◌≡◌, ℕ, ◌<◌, ◌≤◌, ◌⊎◌, List, [], ◌∷◌, length}
+use Rattle.std.specs.Prelude.{◌≡◌, ℕ, ◌<◌, ◌≤◌, ◌⊎◌, ◌++◌, List, [], ◌∷◌, codes, length}
+use Rattle.std.specs.Fmt.{decimal}
+use Rattle.std.specs.List.{AllZip, flat_map}
 use Rattle.jim_ast.specs.declared.syntax.Program.{Program}
 use Rattle.jim_text.specs.declared.Token.{Token}
 use Rattle.jim_text.specs.Lexes.{Lexes, StopsAt}
@@ -27,12 +29,13 @@ use Rattle.report_text.specs.Lines.{text_of}
 use Rattle.explain_text.specs.Explanations.{IsExplainText}
 use Rattle.run_report.specs.Named.{digits_of}
 use Rattle.run_report.specs.Reports.{IsRunText}
-use Rattle.boom_words.specs.Requests.{Alias, PointsTo, Question, Request, RunFor, Typestate, IsRequest, NoRequest, alias, demo, explain, points_to, replay, run, typestate}
+use Rattle.batch_lines.specs.Queries.{AreQueries, IsFirstBad, QueryParts}
+use Rattle.boom_words.specs.Requests.{Alias, PointsTo, Question, Request, RunFor, Typestate, IsRequest, NoRequest, alias, batch, demo, explain, points_to, replay, run, typestate}
 use Rattle.boom_top.specs.Demo.{IsDemoText, demo_asked}
 use Rattle.boom_top.specs.Queries.{HasNoPrelude, IsPrelude, limit, program_in, rest_in, source_of}
 use Rattle.boom_top.specs.Refusals.{refusal}
 use Rattle.boom_top.specs.declared.status.Status.{Status}
-use Rattle.boom_top.specs.declared.status.Status.TheVariants.{Done, Usage, ReadFault, TooLong, NotText, NotJimple, NotLinked, NoSuchPlace, NotProtocol, NotCertificate, Rejected, OverBudget, WriteFault, NoMemory, BadPrelude}
+use Rattle.boom_top.specs.declared.status.Status.TheVariants.{Done, Usage, ReadFault, TooLong, NotText, NotJimple, NotLinked, NoSuchPlace, NotProtocol, NotCertificate, Rejected, OverBudget, WriteFault, NoMemory, NotBatch, BadPrelude}
 
 -- the status is this one, and its refusal is the only line
 abbrev pub IsRefusedBy : Status → Status → List (List ℕ) → Type 0
@@ -121,6 +124,25 @@ IsTypestateReply p entry asked status lines =
     ((error : ProtocolError) × IsNoProtocolFor p asked.protocol error × IsRefusedBy (NotProtocol error) status lines)
     ⊎ ((k : ProtocolParts) × IsProtocolOf p asked.protocol k × IsProtocolReply p entry asked.budget k status lines)
 
+-- what a query of a batch asks for, within the budget that each has
+abbrev pub asked_of : ℕ → QueryParts → PointsTo
+asked_of budget q = record { method = q.method; index = q.index; local = q.local; budget = budget }
+
+-- the lines that answer a query of a batch: those of a `points-to` command about its place, whatever their status
+abbrev pub AnswersQuery : LinkedProgram → ℕ → QueryParts → List (List ℕ) → Type 0
+AnswersQuery p budget q lines = (status : Status) × IsPlaceReply p (asked_of budget q) (IsAnswerText p) status lines
+
+-- how many queries there are, and behind this what answers each, in their order
+pub record AreAnsweredAll (p : LinkedProgram) (budget : ℕ) (queries : List QueryParts) (lines : List (List ℕ)) : Type 0 where
+  pub answers : List (List (List ℕ))
+  pub each : AllZip (AnswersQuery p budget) queries answers
+  pub in_order : lines ≡ (codes "batch " ++ decimal (length queries)) ∷ flat_map (λ (own : List (List ℕ)). own) answers
+
+-- about the lines behind a program: one is no query, or all are
+abbrev pub IsBatchReply : LinkedProgram → ℕ → List ℕ → Status → List (List ℕ) → Type 0
+IsBatchReply p budget rest status lines = ((at : ℕ) × IsFirstBad rest at × IsRefusedBy (NotBatch at) status lines)
+    ⊎ ((queries : List QueryParts) × AreQueries rest queries × AreAnsweredAll p budget queries lines × (status ≡ Done))
+
 -- about a linked program, and what stands behind its text
 abbrev pub IsLinkedReply : LinkedProgram → List ℕ → List ℕ → Question → Status → List (List ℕ) → Type 0
 IsLinkedReply p entry rest (points_to asked) = IsPlaceReply p asked (IsAnswerText p)
@@ -129,6 +151,7 @@ IsLinkedReply p entry rest (alias asked) = IsAliasReply p asked
 IsLinkedReply p entry rest (run asked) = IsRunReply p entry asked
 IsLinkedReply p entry rest (replay budget) = IsReplayReply p budget rest
 IsLinkedReply p entry rest (typestate asked) = IsTypestateReply p entry asked
+IsLinkedReply p entry rest (batch budget) = IsBatchReply p budget rest
 IsLinkedReply p entry rest (demo boxes) = IsPlaceReply p (demo_asked boxes) (λ n. IsDemoText p boxes)
 
 -- a rule of linking refuses the program with the stand-ins, and this is told of it
@@ -162,6 +185,7 @@ IsUnread bytes (Rejected line) = ⊥
 IsUnread bytes (OverBudget budget) = ⊥
 IsUnread bytes WriteFault = ⊥
 IsUnread bytes NoMemory = ⊥
+IsUnread bytes (NotBatch at) = ⊥
 IsUnread bytes BadPrelude = ⊥
 
 -- of the program's part of a text, and of what stands behind it: the one spells no program, or it spells one
@@ -199,4 +223,5 @@ GivesUp (NotProtocol error) = ⊥
 GivesUp (NotCertificate at) = ⊥
 GivesUp (Rejected line) = ⊥
 GivesUp (OverBudget budget) = ⊥
+GivesUp (NotBatch at) = ⊥
 GivesUp BadPrelude = ⊥

@@ -1,5 +1,7 @@
 -- What a reply says of the runs of the machine, and when a request is answered.
-use Rattle.std.specs.Prelude.{◌≡◌, ◌⊎◌, ℕ, List, [], ◌∷◌, Some, codes, slice_get}
+use Rattle.std.specs.Prelude.{◌≡◌, ◌⊎◌, ℕ, ◌++◌, List, [], ◌∷◌, Some, codes, length, slice_get}
+use Rattle.std.specs.Fmt.{decimal}
+use Rattle.std.specs.List.{concat}
 use Rattle.std.specs.declared.option.Option.{Option}
 use Rattle.std.specs.Io.KnownBytes.{Appends}
 use Rattle.jim_ast.specs.Lists.{Has}
@@ -19,11 +21,13 @@ use Rattle.query_core.specs.Places.{ArePlacesOf, IsPlaceOf}
 use Rattle.report_text.specs.Aliases.{IsSharedLine}
 use Rattle.report_text.specs.Answers.{IsSiteLine}
 use Rattle.report_text.specs.Lines.{text_of}
-use Rattle.boom_words.specs.Requests.{PointsTo, Question, Request, Typestate, IsRequest, alias, demo, explain, points_to, replay, run, typestate}
+use Rattle.batch_lines.specs.Queries.{AreQueries, QueryParts}
+use Rattle.boom_words.specs.Requests.{PointsTo, Question, Request, Typestate, IsRequest, alias, batch, demo, explain, points_to, replay, run, typestate}
 use Rattle.track_rules.specs.Protocols.{IsProtocolOf, ProtocolParts}
 use Rattle.track_verdicts.specs.Verdicts as verdict
 use Rattle.boom_top.specs.Demo.{demo_asked}
 use Rattle.boom_top.specs.Queries.{Accepted, IsDemo, rest_in, source_of}
+use Rattle.boom_top.specs.Replies.{AnswersQuery}
 
 -- one of the lines of a text
 pub record HasLine (text line : List ℕ) : Type 0 where
@@ -42,6 +46,28 @@ PrintsAllRuns p n old new = (count : ℕ) (s : State) (number : ℕ) (frame : Fr
     → n ≡ at (place_of frame) (Local x)
     → (object : HeapObject) × (slice_get s.heap o ≡ Some object) × (line : List ℕ) × IsSiteLine p object.site line × Prints old new line
 
+-- In each run, of any length: where a frame, the top one or one that waits, stands at the node's place and its local holds an object, the line of the
+-- object's site is one of the text.
+abbrev pub TellsAllRuns : LinkedProgram → Node → List ℕ → Type 0
+TellsAllRuns p n text = (count : ℕ) (s : State) (number : ℕ) (frame : Frame) (x o : ℕ) → Run p count s → Holds s number frame x o
+    → n ≡ at (place_of frame) (Local x)
+    → (object : HeapObject) × (slice_get s.heap o ≡ Some object) × (line : List ℕ) × IsSiteLine p object.site line × HasLine text line
+
+-- The number of queries was written, and behind its line a text for each, in their order, which answers it.
+pub record WritesEach (p : LinkedProgram) (budget : ℕ) (queries : List QueryParts) (texts : List (List ℕ)) (old new : Option (List ℕ)) : Type 0 where
+  pub as_many : length texts ≡ length queries
+  pub wrote : Appends old new ((codes "batch " ++ decimal (length queries)) ++ 10 ∷ concat texts)
+  pub answers : (i : ℕ) (q : QueryParts) (text : List ℕ) → slice_get queries i ≡ Some q → slice_get texts i ≡ Some text
+      → (lines : List (List ℕ)) × AnswersQuery p budget q lines × (text ≡ text_of lines)
+
+-- Texts that answer the queries were written. Where a query's place is there and its demand within the budget, its own text has the line of the site of
+-- each object that a run brings to the local.
+pub record PrintsEachAllRuns (p : LinkedProgram) (budget : ℕ) (queries : List QueryParts) (old new : Option (List ℕ)) : Type 0 where
+  pub texts : List (List ℕ)
+  pub writes : WritesEach p budget queries texts old new
+  pub covers : (i : ℕ) (q : QueryParts) (text : List ℕ) → slice_get queries i ≡ Some q → slice_get texts i ≡ Some text
+      → (n : Node) → IsPlaceOf p q.method q.index q.local n → IsAffordable p (n ∷ []) budget → TellsAllRuns p n text
+
 -- In each run, of any length: where a frame, the top one or one that waits, stands at the nodes' place and both its locals hold one object, the line that
 -- says that they share the object's site is among those that were written, and so is that which says that they are aliases.
 abbrev pub PrintsAllAliases : LinkedProgram → Node → Node → Option (List ℕ) → Option (List ℕ) → Type 0
@@ -50,18 +76,19 @@ PrintsAllAliases p a b old new = (count : ℕ) (s : State) (number : ℕ) (frame
     → Prints old new (codes "aliases yes")
     × ((object : HeapObject) × (slice_get s.heap o ≡ Some object) × (line : List ℕ) × IsSharedLine p object.site line × Prints old new line)
 
--- The headline of the top call, by what was asked: the site of each object that a run brings to the local is printed, and locals that hold one object
--- are printed as aliases. What is said of a run is exact, a replay tells one site, and what is said of the demo tells none. When a protocol is met by all
--- runs stands in `Safety`.
-abbrev pub CoversAllRuns : LinkedProgram → Question → Option (List ℕ) → Option (List ℕ) → Type 0
-CoversAllRuns p (points_to asked) old new = (n : Node) → IsPlaceOf p asked.method asked.index asked.local n → PrintsAllRuns p n old new
-CoversAllRuns p (explain asked) old new = (n : Node) → IsPlaceOf p asked.method asked.index asked.local n → PrintsAllRuns p n old new
-CoversAllRuns p (alias asked) old new = (a b : Node) → ArePlacesOf p asked.method asked.index asked.first asked.second a b
+-- The headline of the top call, by what was asked, of a program and of what stands behind its text: the site of each object that a run brings to the local
+-- is printed, for each query of a batch in the text that answers it, and locals that hold one object are printed as aliases. What is said of a run is
+-- exact, a replay tells one site, and what is said of the demo tells none. When a protocol is met by all runs stands in `Safety`.
+abbrev pub CoversAllRuns : LinkedProgram → List ℕ → Question → Option (List ℕ) → Option (List ℕ) → Type 0
+CoversAllRuns p rest (points_to asked) old new = (n : Node) → IsPlaceOf p asked.method asked.index asked.local n → PrintsAllRuns p n old new
+CoversAllRuns p rest (explain asked) old new = (n : Node) → IsPlaceOf p asked.method asked.index asked.local n → PrintsAllRuns p n old new
+CoversAllRuns p rest (alias asked) old new = (a b : Node) → ArePlacesOf p asked.method asked.index asked.first asked.second a b
     → PrintsAllAliases p a b old new
-CoversAllRuns p (run asked) old new = Unit {0}
-CoversAllRuns p (replay budget) old new = Unit {0}
-CoversAllRuns p (typestate asked) old new = Unit {0}
-CoversAllRuns p (demo boxes) old new = Unit {0}
+CoversAllRuns p rest (run asked) old new = Unit {0}
+CoversAllRuns p rest (replay budget) old new = Unit {0}
+CoversAllRuns p rest (typestate asked) old new = Unit {0}
+CoversAllRuns p rest (batch budget) old new = (queries : List QueryParts) → AreQueries rest queries → PrintsEachAllRuns p budget queries old new
+CoversAllRuns p rest (demo boxes) old new = Unit {0}
 
 -- the place is there, and the budget is at least the size of its demand
 abbrev pub IsWithin : LinkedProgram → PointsTo → Type 0
@@ -84,6 +111,7 @@ HasAnswer p rest (alias asked) = (a : Node) × (b : Node) × ArePlacesOf p asked
 HasAnswer p rest (run asked) = Unit {0}
 HasAnswer p rest (replay budget) = IsCertificateOf p budget rest
 HasAnswer p rest (typestate asked) = IsJudgeable p asked
+HasAnswer p rest (batch budget) = (queries : List QueryParts) × AreQueries rest queries
 HasAnswer p rest (demo boxes) = IsWithin p (demo_asked boxes)
 
 -- the words ask for what can be answered, of a program that the bytes spell and that is linked

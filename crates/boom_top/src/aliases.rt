@@ -14,9 +14,12 @@ use super::status::Status;
 use boom_words::AskedBoth;
 use jim_ast::NoMemory;
 use link_program::Linked;
-use query_core::{Shared, aliases};
+use query_core::{Hands, Shared, aliases};
 use report_text::alias_text;
+use spds_solve::Gate;
 use std::alloc::Global;
+use std::marker::Sync;
+use std::thread::Threads;
 
 // The reply that answers a query of two locals at a place that is there.
 fn aliased(
@@ -42,8 +45,8 @@ fn aliased(
 }
 
 /// The reply that tells which sites two locals may both hold.
-pub(crate) fn alias_reply(
-    alloc: Global,
+pub(crate) fn alias_reply<R: Threads + Sync, G: Gate>(
+    hands: &Hands<'_, R, G>,
     asked: &AskedBoth<'_>,
     linked: &Linked,
 ) -> Result<Reply, NoMemory>
@@ -51,7 +54,7 @@ pub(crate) fn alias_reply(
     ensures { IfOk result (Makes (IsAliasReply linked.now (alias_of asked.now))) }
 {
     match aliases(
-        alloc,
+        hands,
         linked,
         asked.method,
         asked.index,
@@ -59,7 +62,7 @@ pub(crate) fn alias_reply(
         asked.second,
         asked.budget,
     ) {
-        Ok(shared) => aliased(alloc, asked, linked, &shared),
-        Err(error) => not_answered(alloc, error),
+        Ok(shared) => aliased(hands.alloc, asked, linked, &shared),
+        Err(error) => not_answered(hands.alloc, error),
     }
 }

@@ -11,8 +11,11 @@ use super::status::Status;
 use demo_text::{demo_index, demo_local, demo_method};
 use jim_ast::NoMemory;
 use link_program::Linked;
-use query_core::{Answer, points_to};
+use query_core::{Answer, Hands, points_to};
+use spds_solve::Gate;
 use std::alloc::{AllocError, Global};
+use std::marker::Sync;
+use std::thread::Threads;
 
 // How many statements the methods of a program have, but for the root; `None` where these are more than a `usize` counts.
 fn statements(linked: &Linked) -> Option<usize>
@@ -44,7 +47,12 @@ fn summary(alloc: Global, boxes: u32, linked: &Linked, answer: &Answer) -> Resul
 }
 
 // The reply to the demo of so many boxes, of which this is the local that is asked for.
-fn local_reply(alloc: Global, boxes: u32, local: &str, linked: &Linked) -> Result<Reply, NoMemory>
+fn local_reply<R: Threads + Sync, G: Gate>(
+    hands: &Hands<'_, R, G>,
+    boxes: u32,
+    local: &str,
+    linked: &Linked,
+) -> Result<Reply, NoMemory>
     requires well { IsWellLinked linked.now }
     requires few { boxes ≤ 400 }
     requires local { local.now ≡ taken_local (boxes - 1) }
@@ -52,20 +60,24 @@ fn local_reply(alloc: Global, boxes: u32, local: &str, linked: &Linked) -> Resul
 {
     let index = demo_index(boxes);
     let method = demo_method();
-    match points_to(alloc, linked, method, index, local, u32::MAX) {
-        Ok(answer) => summary(alloc, boxes, linked, &answer),
-        Err(error) => not_answered(alloc, error),
+    match points_to(hands, linked, method, index, local, u32::MAX) {
+        Ok(answer) => summary(hands.alloc, boxes, linked, &answer),
+        Err(error) => not_answered(hands.alloc, error),
     }
 }
 
 /// The reply to the demo of so many boxes, whose program is linked: how many statements it has, how many sites what is taken from the last box may be of,
 /// and how many nodes this demands.
-pub(crate) fn demo_reply(alloc: Global, boxes: u32, linked: &Linked) -> Result<Reply, NoMemory>
+pub(crate) fn demo_reply<R: Threads + Sync, G: Gate>(
+    hands: &Hands<'_, R, G>,
+    boxes: u32,
+    linked: &Linked,
+) -> Result<Reply, NoMemory>
     requires well { IsWellLinked linked.now }
     requires some { 0 < boxes }
     requires few { boxes ≤ 400 }
     ensures { IfOk result (Makes (IsPlaceReply linked.now (demo_asked boxes) (λ n. IsDemoText linked.now boxes))) }
 {
-    let local = demo_local(alloc, boxes)?;
-    local_reply(alloc, boxes, local.as_str(), linked)
+    let local = demo_local(hands.alloc, boxes)?;
+    local_reply(hands, boxes, local.as_str(), linked)
 }

@@ -12,11 +12,14 @@ use boom_words::Asked;
 use explain_text::explained;
 use jim_ast::NoMemory;
 use link_program::Linked;
-use std::alloc::Global;
+use query_core::Hands;
+use spds_solve::Gate;
+use std::marker::Sync;
+use std::thread::Threads;
 
 /// The reply that tells which sites a local may hold, with a certificate for each.
-pub(crate) fn explain_reply(
-    alloc: Global,
+pub(crate) fn explain_reply<R: Threads + Sync, G: Gate>(
+    hands: &Hands<'_, R, G>,
     asked: &Asked<'_>,
     linked: &Linked,
 ) -> Result<Reply, NoMemory>
@@ -24,7 +27,7 @@ pub(crate) fn explain_reply(
     ensures { IfOk result (Makes (IsPlaceReply linked.now (points_to_of asked.now) (IsExplainText linked.now))) }
 {
     match explained(
-        alloc,
+        hands,
         linked,
         asked.method,
         asked.index,
@@ -35,6 +38,6 @@ pub(crate) fn explain_reply(
             let status = Status::Done;
             Ok(Reply { status, text })
         }
-        Err(error) => not_answered(alloc, error),
+        Err(error) => not_answered(hands.alloc, error),
     }
 }

@@ -2,6 +2,7 @@
 #![tactic(auto)]
 
 mod aliases;
+mod batches;
 mod cutting;
 mod demo;
 mod explaining;
@@ -16,5 +17,6 @@ mod typestates;
 
 pub use protocol_words::ProtocolError;
 pub use query_core::Which;
+pub use spds_solve::{Gate, Open};
 pub use status::Status;
 pub use top::boomer;

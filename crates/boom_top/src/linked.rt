@@ -18,8 +18,12 @@ use jim_ast::{NoMemory, Program};
 use jim_link::{declares_named, link};
 use jim_prelude::{PRELUDE, prelude_is_whole};
 use link_rules::LinkError;
+use query_core::Hands;
 use read_laws::spelled_programs_are_read;
+use spds_solve::Gate;
 use std::alloc::{AllocError, Global};
+use std::marker::Sync;
+use std::thread::Threads;
 
 // The refusal of a program that isn't linked.
 fn not_linked(alloc: Global, error: LinkError) -> Result<Reply, NoMemory>
@@ -33,8 +37,8 @@ fn not_linked(alloc: Global, error: LinkError) -> Result<Reply, NoMemory>
 }
 
 // The reply to a command about a program and the stand-ins, with what stands behind the program.
-fn joined_reply(
-    alloc: Global,
+fn joined_reply<R: Threads + Sync, G: Gate>(
+    hands: &Hands<'_, R, G>,
     command: &Command<'_>,
     rest: &[u8],
     input: &Program,
@@ -46,15 +50,15 @@ fn joined_reply(
     requires fit { IsFit (question_of command.now.query) }
     ensures { IfOk result (Makes (IsJoinedReply (request_of command.now) rest.now input.now prelude.now)) }
 {
-    match link(alloc, input, prelude, command.entry) {
-        Ok(linked) => linked_reply(alloc, command, rest, &linked),
-        Err(error) => not_linked(alloc, error),
+    match link(hands.alloc, input, prelude, command.entry) {
+        Ok(linked) => linked_reply(hands, command, rest, &linked),
+        Err(error) => not_linked(hands.alloc, error),
     }
 }
 
 // The same, where the stand-ins may lack some of the classes that linking needs.
-fn checked_reply(
-    alloc: Global,
+fn checked_reply<R: Threads + Sync, G: Gate>(
+    hands: &Hands<'_, R, G>,
     command: &Command<'_>,
     rest: &[u8],
     input: &Program,
@@ -67,15 +71,15 @@ fn checked_reply(
 {
     spelled_programs_are_read();
     if declares_named(prelude) {
-        joined_reply(alloc, command, rest, input, prelude)
+        joined_reply(hands, command, rest, input, prelude)
     } else {
-        refused(alloc, Status::BadPrelude)
+        refused(hands.alloc, Status::BadPrelude)
     }
 }
 
 // The reply to a command about a program, with what stands behind it.
-fn program_reply(
-    alloc: Global,
+fn program_reply<R: Threads + Sync, G: Gate>(
+    hands: &Hands<'_, R, G>,
     command: &Command<'_>,
     rest: &[u8],
     input: &Program,
@@ -85,17 +89,17 @@ fn program_reply(
     ensures { IfOk result (Makes (IsProgramReply (request_of command.now) rest.now input.now)) }
 {
     prelude_is_whole();
-    match read(alloc, PRELUDE.as_bytes()) {
-        Ok(prelude) => checked_reply(alloc, command, rest, input, &prelude),
+    match read(hands.alloc, PRELUDE.as_bytes()) {
+        Ok(prelude) => checked_reply(hands, command, rest, input, &prelude),
         Err(Unread::NoMemory) => Err(AllocError),
-        Err(Unread::NotText { .. }) => refused(alloc, Status::BadPrelude),
-        Err(Unread::NotJimple { .. }) => refused(alloc, Status::BadPrelude),
+        Err(Unread::NotText { .. }) => refused(hands.alloc, Status::BadPrelude),
+        Err(Unread::NotJimple { .. }) => refused(hands.alloc, Status::BadPrelude),
     }
 }
 
 // The reply to a command about a program's text, with what stands behind it.
-fn parts_reply(
-    alloc: Global,
+fn parts_reply<R: Threads + Sync, G: Gate>(
+    hands: &Hands<'_, R, G>,
     command: &Command<'_>,
     rest: &[u8],
     text: &[u8],
@@ -105,28 +109,32 @@ fn parts_reply(
     ensures { IfOk result (Makes (IsTextReply (request_of command.now) rest.now text.now)) }
 {
     spelled_programs_are_read();
-    match read(alloc, text) {
-        Ok(input) => program_reply(alloc, command, rest, &input),
-        Err(Unread::NotText { at }) => refused(alloc, Status::NotText { at }),
-        Err(Unread::NotJimple { at }) => refused(alloc, Status::NotJimple { at }),
+    match read(hands.alloc, text) {
+        Ok(input) => program_reply(hands, command, rest, &input),
+        Err(Unread::NotText { at }) => refused(hands.alloc, Status::NotText { at }),
+        Err(Unread::NotJimple { at }) => refused(hands.alloc, Status::NotJimple { at }),
         Err(Unread::NoMemory) => Err(AllocError),
     }
 }
 
 // The reply to a command about a text within the limit, which is cut.
-fn short_reply(alloc: Global, command: &Command<'_>, bytes: &[u8]) -> Result<Reply, NoMemory>
+fn short_reply<R: Threads + Sync, G: Gate>(
+    hands: &Hands<'_, R, G>,
+    command: &Command<'_>,
+    bytes: &[u8],
+) -> Result<Reply, NoMemory>
     requires short { length bytes.now ≤ limit }
     requires fit { IsFit (question_of command.now.query) }
     ensures { IfOk result (Makes (IsTextReply (request_of command.now) (rest_in (question_of command.now.query) bytes.now)
         (program_in (question_of command.now.query) bytes.now))) }
 {
     let parts = parts_of(&command.query, bytes);
-    parts_reply(alloc, command, parts.rest, parts.program)
+    parts_reply(hands, command, parts.rest, parts.program)
 }
 
 /// The reply to a command about a text.
-pub(crate) fn text_reply(
-    alloc: Global,
+pub(crate) fn text_reply<R: Threads + Sync, G: Gate>(
+    hands: &Hands<'_, R, G>,
     command: &Command<'_>,
     bytes: &[u8],
 ) -> Result<Reply, NoMemory>
@@ -134,8 +142,8 @@ pub(crate) fn text_reply(
     ensures { IfOk result (Makes (IsSourceReply (request_of command.now) bytes.now)) }
 {
     if bytes.len() > LIMIT {
-        refused(alloc, Status::TooLong)
+        refused(hands.alloc, Status::TooLong)
     } else {
-        short_reply(alloc, command, bytes)
+        short_reply(hands, command, bytes)
     }
 }

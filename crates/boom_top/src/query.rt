@@ -13,6 +13,7 @@ ghost use Rattle.boom_top.specs.Queries.{IsFit};
 ghost use Rattle.boom_top.specs.Replies.{IsLinkedReply, IsPlaceReply, IsRunReply};
 
 use super::aliases::alias_reply;
+use super::batches::batch_reply;
 use super::demo::demo_reply;
 use super::explaining::explain_reply;
 use super::refusal::refusal_text;
@@ -22,11 +23,14 @@ use super::typestates::typestate_reply;
 use boom_words::{Asked, Command, Query, Running};
 use jim_ast::NoMemory;
 use link_program::Linked;
-use query_core::{Answer, QueryError, place, points_to};
+use query_core::{Answer, Hands, QueryError, place, points_to};
 use report_text::answer_text;
 use run_report::run_text;
 use spds_rules::Node;
+use spds_solve::Gate;
 use std::alloc::{AllocError, Global};
+use std::marker::Sync;
+use std::thread::Threads;
 
 /// A status, and the text that is written with it.
 #[derive(Drop)]
@@ -86,8 +90,8 @@ pub(crate) fn named(linked: &Linked, method: &str, index: u32, local: &str) -> N
     }
 }
 
-// The reply that answers a query of a place that is there.
-fn answered(
+/// The reply that answers a query of a place that is there.
+pub(crate) fn answered(
     alloc: Global,
     asked: &Asked<'_>,
     linked: &Linked,
@@ -107,20 +111,24 @@ fn answered(
 }
 
 // The reply that tells which sites a local may hold.
-fn points_to_reply(alloc: Global, asked: &Asked<'_>, linked: &Linked) -> Result<Reply, NoMemory>
+fn points_to_reply<R: Threads + Sync, G: Gate>(
+    hands: &Hands<'_, R, G>,
+    asked: &Asked<'_>,
+    linked: &Linked,
+) -> Result<Reply, NoMemory>
     requires { IsWellLinked linked.now }
     ensures { IfOk result (Makes (IsPlaceReply linked.now (points_to_of asked.now) (IsAnswerText linked.now))) }
 {
     match points_to(
-        alloc,
+        hands,
         linked,
         asked.method,
         asked.index,
         asked.local,
         asked.budget,
     ) {
-        Ok(answer) => answered(alloc, asked, linked, &answer),
-        Err(error) => not_answered(alloc, error),
+        Ok(answer) => answered(hands.alloc, asked, linked, &answer),
+        Err(error) => not_answered(hands.alloc, error),
     }
 }
 
@@ -140,8 +148,8 @@ fn run_reply(
 }
 
 /// The reply to what a command asks of a linked program, with what stands behind the program.
-pub(crate) fn linked_reply(
-    alloc: Global,
+pub(crate) fn linked_reply<R: Threads + Sync, G: Gate>(
+    hands: &Hands<'_, R, G>,
     command: &Command<'_>,
     rest: &[u8],
     linked: &Linked,
@@ -151,12 +159,13 @@ pub(crate) fn linked_reply(
     ensures { IfOk result (Makes (IsLinkedReply linked.now command.now.entry.now rest.now (question_of command.now.query))) }
 {
     match &command.query {
-        Query::PointsTo(asked) => points_to_reply(alloc, asked, linked),
-        Query::Explain(asked) => explain_reply(alloc, asked, linked),
-        Query::Alias(asked) => alias_reply(alloc, asked, linked),
-        Query::Run(asked) => run_reply(alloc, command.entry, asked, linked),
-        Query::Replay { budget } => replay_reply(alloc, *budget, rest, linked),
-        Query::Typestate(asked) => typestate_reply(alloc, command.entry, asked, linked),
-        Query::Demo { boxes } => demo_reply(alloc, *boxes, linked),
+        Query::PointsTo(asked) => points_to_reply(hands, asked, linked),
+        Query::Explain(asked) => explain_reply(hands, asked, linked),
+        Query::Alias(asked) => alias_reply(hands, asked, linked),
+        Query::Run(asked) => run_reply(hands.alloc, command.entry, asked, linked),
+        Query::Replay { budget } => replay_reply(hands.alloc, *budget, rest, linked),
+        Query::Typestate(asked) => typestate_reply(hands, command.entry, asked, linked),
+        Query::Batch { budget } => batch_reply(hands, *budget, rest, linked),
+        Query::Demo { boxes } => demo_reply(hands, *boxes, linked),
     }
 }

@@ -112,6 +112,12 @@ fn no_certificate(alloc: Global, at: u32) -> Result<String, NoMemory>
     format!(in alloc; "refused NotCertificate {at}\n")
 }
 
+fn no_batch(alloc: Global, at: u32) -> Result<String, NoMemory>
+    ensures { IfOk result (λ text. string_bytes text ≡ text_of (refusal (status.NotBatch at) ∷ [])) }
+{
+    format!(in alloc; "refused NotBatch {at}\n")
+}
+
 fn rejected(alloc: Global, line: u32) -> Result<String, NoMemory>
     ensures { IfOk result (λ text. string_bytes text ≡ text_of (refusal (status.Rejected line) ∷ [])) }
 {
@@ -147,6 +153,7 @@ pub(crate) fn refusal_text(alloc: Global, status: &Status) -> Result<String, NoM
         Status::NotProtocol(error) => no_protocol(alloc, *error),
         Status::NotCertificate { at } => no_certificate(alloc, *at),
         Status::Rejected { line } => rejected(alloc, *line),
+        Status::NotBatch { at } => no_batch(alloc, *at),
         Status::OverBudget { budget } => over_budget(alloc, *budget),
         Status::BadPrelude => String::from_str(alloc, "refused BadPrelude\n"),
         _ => String::from_str(alloc, "\n"),

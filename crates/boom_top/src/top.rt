@@ -24,7 +24,11 @@ use boom_io::{ReadAll, Sink, Source, read_all, write_all};
 use boom_words::{Command, Query, read_words};
 use demo_text::demo_text;
 use jim_ast::NoMemory;
+use query_core::Hands;
+use spds_solve::Gate;
 use std::alloc::Global;
+use std::marker::Sync;
+use std::thread::Threads;
 
 // Writes a reply whole, and answers its status.
 fn send<K: Sink>(sink: &mut K, made: Result<Reply, NoReply>) -> Status
@@ -45,17 +49,21 @@ fn send<K: Sink>(sink: &mut K, made: Result<Reply, NoReply>) -> Status
 }
 
 // The reply to the demo, which is about its own text.
-fn own_reply(alloc: Global, command: &Command<'_>, boxes: u32) -> Result<Reply, NoMemory>
+fn own_reply<R: Threads + Sync, G: Gate>(
+    hands: &Hands<'_, R, G>,
+    command: &Command<'_>,
+    boxes: u32,
+) -> Result<Reply, NoMemory>
     requires { IsFit (question_of command.now.query) }
     ensures { IfOk result (Makes (IsSourceReply (request_of command.now) (demo_source boxes))) }
 {
-    let text = demo_text(alloc, boxes)?;
-    text_reply(alloc, command, text.as_bytes())
+    let text = demo_text(hands.alloc, boxes)?;
+    text_reply(hands, command, text.as_bytes())
 }
 
 // The reply to a command about what the source has left.
-fn read_reply<S: Source>(
-    alloc: Global,
+fn read_reply<R: Threads + Sync, S: Source, G: Gate>(
+    hands: &Hands<'_, R, G>,
     command: &Command<'_>,
     source: &mut S,
 ) -> Result<Reply, NoReply>
@@ -66,17 +74,17 @@ fn read_reply<S: Source>(
     ensures fault { result ≡ Err NoReply.ReadFault → Rose (S.faults source.old) (S.faults source.new) }
     ensures told { result ≢ Err NoReply.ReadFault → S.faults source.new ≡ S.faults source.old }
 {
-    match read_all(alloc, source, LIMIT) {
-        Ok(bytes) => Ok(text_reply(alloc, command, &bytes)?),
+    match read_all(hands.alloc, source, LIMIT) {
+        Ok(bytes) => Ok(text_reply(hands, command, &bytes)?),
         Err(ReadAll::ReadFault) => Err(NoReply::ReadFault),
-        Err(ReadAll::TooLong) => Ok(refused(alloc, Status::TooLong)?),
+        Err(ReadAll::TooLong) => Ok(refused(hands.alloc, Status::TooLong)?),
         Err(ReadAll::NoMemory) => Err(NoReply::NoMemory),
     }
 }
 
 // The reply to a command. The demo reads nothing.
-fn command_reply<S: Source>(
-    alloc: Global,
+fn command_reply<R: Threads + Sync, S: Source, G: Gate>(
+    hands: &Hands<'_, R, G>,
     command: &Command<'_>,
     source: &mut S,
 ) -> Result<Reply, NoReply>
@@ -90,13 +98,17 @@ fn command_reply<S: Source>(
     ensures told { result ≢ Err NoReply.ReadFault → S.faults source.new ≡ S.faults source.old }
 {
     match command.query {
-        Query::Demo { boxes } => Ok(own_reply(alloc, command, boxes)?),
-        _ => read_reply(alloc, command, source),
+        Query::Demo { boxes } => Ok(own_reply(hands, command, boxes)?),
+        _ => read_reply(hands, command, source),
     }
 }
 
 // The reply to words.
-fn words_reply<S: Source>(alloc: Global, words: &[String], source: &mut S) -> Result<Reply, NoReply>
+fn words_reply<R: Threads + Sync, S: Source, G: Gate>(
+    hands: &Hands<'_, R, G>,
+    words: &[String],
+    source: &mut S,
+) -> Result<Reply, NoReply>
     ensures reply { (bytes : List ℕ) → AreAbout (map string_bytes words.now) (S.left source.old) bytes
         → IfOk result (Makes (IsReply (map string_bytes words.now) bytes)) }
     // The words are at most one request.
@@ -109,9 +121,9 @@ fn words_reply<S: Source>(alloc: Global, words: &[String], source: &mut S) -> Re
     ensures fault { result ≡ Err NoReply.ReadFault → Rose (S.faults source.old) (S.faults source.new) }
     ensures told { result ≢ Err NoReply.ReadFault → S.faults source.new ≡ S.faults source.old }
 {
-    match read_words(alloc, words)? {
-        Some(command) => command_reply(alloc, &command, source),
-        None => Ok(refused(alloc, Status::Usage)?),
+    match read_words(hands.alloc, words)? {
+        Some(command) => command_reply(hands, &command, source),
+        None => Ok(refused(hands.alloc, Status::Usage)?),
     }
 }
 
@@ -127,19 +139,26 @@ fn words_reply<S: Source>(alloc: Global, words: &[String], source: &mut S) -> Re
 /// - `replay ENTRY BUDGET`: does the certificate behind the program show that a local may hold an object of a site? The program is what stands before the
 ///   first line that is `%certificate`, and the certificate is what stands behind it; the length is that of the whole.
 /// - `typestate ENTRY PROTOCOL BUDGET`: at which statements may an event come on an object in a state in which the protocol doesn't allow it?
+/// - `batch ENTRY BUDGET`: what is answered to each query behind the program, as to a `points-to` command with this budget? The program is what stands
+///   before the first line that is `%queries`, and each line behind it is a query, `INDEX LOCAL METHOD`, at most 1,000. The length is that of the whole.
 /// - `demo BOXES`: how large is a program of so many boxes, and what does a query of it demand? It reads nothing; its own text stands in the place of
 ///   the bytes.
 ///
 /// The program is linked, with the stand-ins for Java's own classes that are built in, from the `main` of the class ENTRY on. The checks come in this
-/// order: words, length, tokens, grammar, stand-ins, linking, place, protocol or certificate, budget, lines of the certificate. The first that fails is
+/// order: words, length, tokens, grammar, stand-ins, linking, place, protocol, certificate or batch, budget, lines of the certificate. The first that fails is
 /// the status, and its line is the reply; else the status is `Done`. The reply is made whole before it is written.
 ///
+/// The queries of a batch are asked in pieces, each query within one; for other commands the tables of more than 16 sites are settled in pieces side by side, by the threads, and the gate is told of each piece as it begins. No clause speaks
+/// of either: the reply is that of one thread, whatever the gate does.
+///
 /// The clauses on replies speak of a source that tells the bytes it has left, and of any source where nothing is read.
-pub fn boomer<S: Source, K: Sink>(
+pub fn boomer<R: Threads + Sync, S: Source, K: Sink, G: Gate>(
+    threads: &R,
     alloc: Global,
     words: &[String],
     source: &mut S,
     sink: &mut K,
+    gate: &G,
 ) -> Status
     // The status and the text are those of the definition; only a fault or want of memory is no reply.
     ensures reply { (bytes : List ℕ) → AreAbout (map string_bytes words.now) (S.left source.old) bytes → GivesUp result
@@ -149,10 +168,10 @@ pub fn boomer<S: Source, K: Sink>(
         → (status : Status) (lines : List (List ℕ)) → IsReply (map string_bytes words.now) bytes status lines → (result ≡ status) ⊎ GivesUp result }
 
     // The headline: whatever a local holds in any frame that stands at the place, at the end of any run of the machine, of any length, its site is
-    // printed; and two locals of a frame that hold one object are printed as aliases.
+    // printed, for each query of a batch in its own answer; and two locals of a frame that hold one object are printed as aliases.
     ensures sound { (bytes : List ℕ) → AreAbout (map string_bytes words.now) (S.left source.old) bytes → result ≡ Status.Done
         → (r : Request) → IsRequest (map string_bytes words.now) r
-        → (a : Accepted r bytes) → CoversAllRuns a.linked r.question (K.written sink.old) (K.written sink.new) }
+        → (a : Accepted r bytes) → CoversAllRuns a.linked (rest_in r.question (source_of r.question bytes)) r.question (K.written sink.old) (K.written sink.new) }
     // Its third part: where the sink tells that the answer to a `typestate` command ends with `verdict safe` and the size of the demand, no run of the
     // machine, of any length, breaks the protocol: no event comes on an object in a state in which no row allows it.
     ensures safe { (bytes : List ℕ) → S.left source.old ≡ Some bytes → result ≡ Status.Done
@@ -184,6 +203,11 @@ pub fn boomer<S: Source, K: Sink>(
         → (status : Status) × (lines : List (List ℕ)) × IsReply (map string_bytes words.now) bytes status lines
         × AppendsProperPrefix (K.written sink.old) (K.written sink.new) (text_of lines) }
 {
-    let made = words_reply(alloc, words, source);
+    let hands = Hands {
+        threads,
+        alloc,
+        gate,
+    };
+    let made = words_reply(&hands, words, source);
     send(sink, made)
 }

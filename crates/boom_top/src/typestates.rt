@@ -15,7 +15,11 @@ use demand_walk::DemandError;
 use jim_ast::NoMemory;
 use link_program::Linked;
 use protocol_words::{Protocol, ProtocolError, read_protocol};
+use query_core::Hands;
+use spds_solve::Gate;
 use std::alloc::{AllocError, Global};
+use std::marker::Sync;
+use std::thread::Threads;
 use track_report::verdict_text;
 use track_verdicts::Verdict;
 use type_track::track;
@@ -39,8 +43,8 @@ fn verdict_reply(
 }
 
 // The reply about a protocol.
-fn protocol_reply(
-    alloc: Global,
+fn protocol_reply<R: Threads + Sync, G: Gate>(
+    hands: &Hands<'_, R, G>,
     linked: &Linked,
     protocol: &Protocol,
     entry: &str,
@@ -50,9 +54,12 @@ fn protocol_reply(
     requires class { protocol.now.class < length linked.now.classes }
     ensures { IfOk result (Makes (IsProtocolReply linked.now entry.now budget protocol.now)) }
 {
-    match track(alloc, linked, protocol, budget) {
-        Ok(verdict) => verdict_reply(alloc, linked, protocol, entry, &verdict),
-        Err(DemandError::OverBudget { budget }) => refused(alloc, Status::OverBudget { budget }),
+    match track(hands, linked, protocol, budget) {
+        Ok(verdict) => verdict_reply(hands.alloc, linked, protocol, entry, &verdict),
+        Err(DemandError::OverBudget { budget }) => refused(
+            hands.alloc,
+            Status::OverBudget { budget },
+        ),
         Err(DemandError::NoMemory) => Err(AllocError),
     }
 }
@@ -69,8 +76,8 @@ fn no_protocol(alloc: Global, error: ProtocolError) -> Result<Reply, NoMemory>
 }
 
 /// The reply to the protocol that a word spells.
-pub(crate) fn typestate_reply(
-    alloc: Global,
+pub(crate) fn typestate_reply<R: Threads + Sync, G: Gate>(
+    hands: &Hands<'_, R, G>,
     entry: &str,
     asked: &Tracking<'_>,
     linked: &Linked,
@@ -78,8 +85,8 @@ pub(crate) fn typestate_reply(
     requires { IsWellLinked linked.now }
     ensures { IfOk result (Makes (IsTypestateReply linked.now entry.now (typestate_of asked.now))) }
 {
-    match read_protocol(alloc, linked, asked.protocol) {
-        Ok(protocol) => protocol_reply(alloc, linked, &protocol, entry, asked.budget),
-        Err(error) => no_protocol(alloc, error),
+    match read_protocol(hands.alloc, linked, asked.protocol) {
+        Ok(protocol) => protocol_reply(hands, linked, &protocol, entry, asked.budget),
+        Err(error) => no_protocol(hands.alloc, error),
     }
 }

@@ -2,7 +2,7 @@
 use Rattle.std.proofs.Common.{◌≡◌, ℕ, ◌^◌, ◌<◌, ◌≤◌, List, [], ◌∷◌, Some, sym, ap, ◌∙◌, map, length, get_or, codes, arith, refl}
 use Rattle.std.proofs.lemmas.List.{length-map}
 use Rattle.std.specs.Fmt.{decimal}
-use Rattle.boom_words.specs.Requests.{AreChoices, IsQuestion, IsRequest, PointsTo, Question, Request, alias, demo, explain, points_to, replay, run, typestate}
+use Rattle.boom_words.specs.Requests.{AreChoices, IsQuestion, IsRequest, PointsTo, Question, Request, alias, batch, demo, explain, points_to, replay, run, typestate}
 
 -- a list of one element is its element
 pub one : {X : Type 0} (xs : List X) (a : X) → length xs ≡ 1 → a ≡ get_or xs 0 a → xs ≡ a ∷ []
@@ -84,6 +84,7 @@ points_to_numbers entry method index local budget named (alias asked) h = absurd
 points_to_numbers entry method index local budget named (run asked) h = absurd (let same = h.in_order in cc)
 points_to_numbers entry method index local budget named (replay most) h = absurd (let same = h.in_order in cc)
 points_to_numbers entry method index local budget named (typestate asked) h = absurd (let same = h.in_order in cc)
+points_to_numbers entry method index local budget named (batch most) h = absurd (let same : 112 ≡ 98 = ap letter h.in_order in omega (arith, same))
 points_to_numbers entry method index local budget named (demo count) h = absurd (let same = h.in_order in cc)
 
 -- words that begin with `explain` ask for what shows that a local may hold it
@@ -109,6 +110,7 @@ explain_numbers entry method index local budget named (alias asked) h = absurd (
 explain_numbers entry method index local budget named (run asked) h = absurd (let same = h.in_order in cc)
 explain_numbers entry method index local budget named (replay most) h = absurd (let same = h.in_order in cc)
 explain_numbers entry method index local budget named (typestate asked) h = absurd (let same = h.in_order in cc)
+explain_numbers entry method index local budget named (batch most) h = absurd (let same : 101 ≡ 98 = ap letter h.in_order in omega (arith, same))
 explain_numbers entry method index local budget named (demo count) h = absurd (let same = h.in_order in cc)
 
 -- the command with the numbers that its words spell is what the words ask for
@@ -197,6 +199,7 @@ alias_numbers entry method index first second budget named (alias asked) h =
 alias_numbers entry method index first second budget named (run asked) h = absurd (let same = h.in_order in cc)
 alias_numbers entry method index first second budget named (replay most) h = absurd (let same = h.in_order in cc)
 alias_numbers entry method index first second budget named (typestate asked) h = absurd (let same = h.in_order in cc)
+alias_numbers entry method index first second budget named (batch most) h = absurd (let same : 97 ≡ 98 = ap letter h.in_order in omega (arith, same))
 alias_numbers entry method index first second budget named (demo count) h = absurd (let same = h.in_order in cc)
 
 -- the `alias` command with the numbers that its words spell is what the words ask for
@@ -253,6 +256,7 @@ run_numbers entry steps word named (run asked) h =
     }
 run_numbers entry steps word named (replay most) h = absurd (let same = h.in_order in cc)
 run_numbers entry steps word named (typestate asked) h = absurd (let same = h.in_order in cc)
+run_numbers entry steps word named (batch most) h = absurd (let same : 114 ≡ 98 = ap letter h.in_order in omega (arith, same))
 run_numbers entry steps word named (demo count) h = absurd (let same = h.in_order in cc)
 
 -- the `run` command with the steps and the choices that its words spell is what the words ask for
@@ -296,6 +300,7 @@ points_to_counted entry words named (alias asked) h = absurd (let same = h.in_or
 points_to_counted entry words named (run asked) h = absurd (let same = h.in_order in cc)
 points_to_counted entry words named (replay most) h = absurd (let same = h.in_order in cc)
 points_to_counted entry words named (typestate asked) h = absurd (let same : 112 ≡ 116 = ap letter h.in_order in omega (arith, same))
+points_to_counted entry words named (batch most) h = absurd (let same : 112 ≡ 98 = ap letter h.in_order in omega (arith, same))
 points_to_counted entry words named (demo count) h = absurd (let same = h.in_order in cc)
 
 -- a `points-to` command has four words behind its entry
@@ -314,6 +319,7 @@ explain_counted entry words named (alias asked) h = absurd (let same = h.in_orde
 explain_counted entry words named (run asked) h = absurd (let same = h.in_order in cc)
 explain_counted entry words named (replay most) h = absurd (let same = h.in_order in cc)
 explain_counted entry words named (typestate asked) h = absurd (let same = h.in_order in cc)
+explain_counted entry words named (batch most) h = absurd (let same : 101 ≡ 98 = ap letter h.in_order in omega (arith, same))
 explain_counted entry words named (demo count) h = absurd (let same = h.in_order in cc)
 
 -- an `explain` command has four words behind its entry
@@ -332,6 +338,7 @@ alias_counted entry words named (alias asked) h =
 alias_counted entry words named (run asked) h = absurd (let same = h.in_order in cc)
 alias_counted entry words named (replay most) h = absurd (let same = h.in_order in cc)
 alias_counted entry words named (typestate asked) h = absurd (let same = h.in_order in cc)
+alias_counted entry words named (batch most) h = absurd (let same : 97 ≡ 98 = ap letter h.in_order in omega (arith, same))
 alias_counted entry words named (demo count) h = absurd (let same = h.in_order in cc)
 
 -- an `alias` command has five words behind its entry
@@ -350,6 +357,7 @@ run_counted entry words named (run asked) h =
     rw behind refl
 run_counted entry words named (replay most) h = absurd (let same = h.in_order in cc)
 run_counted entry words named (typestate asked) h = absurd (let same = h.in_order in cc)
+run_counted entry words named (batch most) h = absurd (let same : 114 ≡ 98 = ap letter h.in_order in omega (arith, same))
 run_counted entry words named (demo count) h = absurd (let same = h.in_order in cc)
 
 -- a `run` command has two words behind its entry
@@ -382,6 +390,7 @@ replay_numbers entry budget named (replay most) h =
       asks = refl;
     }
 replay_numbers entry budget named (typestate asked) h = absurd (let same = h.in_order in cc)
+replay_numbers entry budget named (batch most) h = absurd (let same : 114 ≡ 98 = ap letter h.in_order in omega (arith, same))
 replay_numbers entry budget named (demo count) h = absurd (let same = h.in_order in cc)
 
 -- the `replay` command with the budget that its word spells is what the words ask for
@@ -410,6 +419,7 @@ replay_counted entry words named (replay most) h =
     let behind : words ≡ decimal most ∷ [] = cc in
     rw behind refl
 replay_counted entry words named (typestate asked) h = absurd (let same = h.in_order in cc)
+replay_counted entry words named (batch most) h = absurd (let same : 114 ≡ 98 = ap letter h.in_order in omega (arith, same))
 replay_counted entry words named (demo count) h = absurd (let same = h.in_order in cc)
 
 -- a `replay` command has one word behind its entry
@@ -443,6 +453,7 @@ typestate_numbers entry protocol budget named (typestate asked) h =
       is_entry = cc;
       asks = rw protocol_same refl;
     }
+typestate_numbers entry protocol budget named (batch most) h = absurd (let same : 116 ≡ 98 = ap letter h.in_order in omega (arith, same))
 typestate_numbers entry protocol budget named (demo count) h = absurd (let same = h.in_order in cc)
 
 -- the `typestate` command with the budget that its word spells is what the words ask for
@@ -471,9 +482,72 @@ typestate_counted entry words named (typestate asked) h =
     let same = h.in_order in
     let behind : words ≡ asked.protocol ∷ decimal asked.budget ∷ [] = cc in
     rw behind refl
+typestate_counted entry words named (batch most) h = absurd (let same : 116 ≡ 98 = ap letter h.in_order in omega (arith, same))
 typestate_counted entry words named (demo count) h = absurd (let same = h.in_order in cc)
 
 -- a `typestate` command has two words behind its entry
 pub typestate_count : {X : Type 0} (bytes : X → List ℕ) (entry : List ℕ) (words : List X) (r : Request)
     → IsRequest (codes "typestate" ∷ entry ∷ map bytes words) r → length words ≡ 2
 typestate_count bytes entry words r h = sym (length-map words bytes) ∙ typestate_counted entry (map bytes words) r.entry r.question h
+
+-- the budget of a `batch` command, by its words
+record BatchNumbers (entry budget : List ℕ) (named : List ℕ) (q : Question) : Type 0 where
+  pub most : ℕ
+  pub small_budget : most < 2 ^ 32
+  pub is_budget : budget ≡ decimal most
+  pub is_entry : entry ≡ named
+  pub asks : batch most ≡ q
+
+-- words that begin with `batch` ask for a batch of queries
+batch_numbers : (entry budget : List ℕ) (named : List ℕ) (q : Question) → IsQuestion (codes "batch" ∷ entry ∷ budget ∷ []) named q
+    → BatchNumbers entry budget named q
+batch_numbers entry budget named (points_to asked) h = absurd (let same : 98 ≡ 112 = ap letter h.in_order in omega (arith, same))
+batch_numbers entry budget named (explain asked) h = absurd (let same : 98 ≡ 101 = ap letter h.in_order in omega (arith, same))
+batch_numbers entry budget named (alias asked) h = absurd (let same : 98 ≡ 97 = ap letter h.in_order in omega (arith, same))
+batch_numbers entry budget named (run asked) h = absurd (let same : 98 ≡ 114 = ap letter h.in_order in omega (arith, same))
+batch_numbers entry budget named (replay most) h = absurd (let same : 98 ≡ 114 = ap letter h.in_order in omega (arith, same))
+batch_numbers entry budget named (batch most) h =
+    let same = h.in_order in
+    record {
+      most = most;
+      small_budget = h.small_budget;
+      is_budget = cc;
+      is_entry = cc;
+      asks = refl;
+    }
+batch_numbers entry budget named (typestate asked) h = absurd (let same : 98 ≡ 116 = ap letter h.in_order in omega (arith, same))
+batch_numbers entry budget named (demo count) h = absurd (let same : 98 ≡ 100 = ap letter h.in_order in omega (arith, same))
+
+-- the `batch` command with the budget that its word spells is what the words ask for
+pub batch_only : (entry budget : List ℕ) (most : ℕ) (r : Request) → IsRequest (codes "batch" ∷ entry ∷ budget ∷ []) r → Spells budget most
+    → record { entry = entry; question = batch most } ≡ r
+batch_only entry budget most r h spells_budget =
+    let n = batch_numbers entry budget r.entry r.question h in
+    let most_same : most ≡ n.most = (let e = spells_budget n.most n.small_budget n.is_budget in cc) in
+    request_same entry _ r n.is_entry (rw most_same n.asks)
+
+-- a `batch` command has a budget
+pub batch_has_budget : (entry budget : List ℕ) (r : Request) → IsRequest (codes "batch" ∷ entry ∷ budget ∷ []) r
+    → ((n : ℕ) → n < 2 ^ 32 → ¬ (budget ≡ decimal n)) → ⊥
+batch_has_budget entry budget r h none =
+    let n = batch_numbers entry budget r.entry r.question h in
+    none n.most n.small_budget n.is_budget
+
+-- the words behind the entry of `batch`, by the question
+batch_counted : (entry : List ℕ) (words : List (List ℕ)) (named : List ℕ) (q : Question) → IsQuestion (codes "batch" ∷ entry ∷ words) named q → length words ≡ 1
+batch_counted entry words named (points_to asked) h = absurd (let same : 98 ≡ 112 = ap letter h.in_order in omega (arith, same))
+batch_counted entry words named (explain asked) h = absurd (let same : 98 ≡ 101 = ap letter h.in_order in omega (arith, same))
+batch_counted entry words named (alias asked) h = absurd (let same : 98 ≡ 97 = ap letter h.in_order in omega (arith, same))
+batch_counted entry words named (run asked) h = absurd (let same : 98 ≡ 114 = ap letter h.in_order in omega (arith, same))
+batch_counted entry words named (replay most) h = absurd (let same : 98 ≡ 114 = ap letter h.in_order in omega (arith, same))
+batch_counted entry words named (batch most) h =
+    let same = h.in_order in
+    let behind : words ≡ decimal most ∷ [] = cc in
+    rw behind refl
+batch_counted entry words named (typestate asked) h = absurd (let same : 98 ≡ 116 = ap letter h.in_order in omega (arith, same))
+batch_counted entry words named (demo count) h = absurd (let same : 98 ≡ 100 = ap letter h.in_order in omega (arith, same))
+
+-- a `batch` command has one word behind its entry
+pub batch_count : {X : Type 0} (bytes : X → List ℕ) (entry : List ℕ) (words : List X) (r : Request)
+    → IsRequest (codes "batch" ∷ entry ∷ map bytes words) r → length words ≡ 1
+batch_count bytes entry words r h = sym (length-map words bytes) ∙ batch_counted entry (map bytes words) r.entry r.question h

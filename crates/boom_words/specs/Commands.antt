@@ -1,5 +1,5 @@
 -- What a command's fields are.
-use Rattle.boom_words.specs.Requests.{Alias, PointsTo, Question, Request, RunFor, Typestate, alias, demo, explain, points_to, replay, run, typestate}
+use Rattle.boom_words.specs.Requests.{Alias, PointsTo, Question, Request, RunFor, Typestate, alias, batch, demo, explain, points_to, replay, run, typestate}
 use Rattle.boom_words.specs.declared.request.Asked.{Asked}
 use Rattle.boom_words.specs.declared.request.AskedBoth.{AskedBoth}
 use Rattle.boom_words.specs.declared.request.Command.{Command}
@@ -32,6 +32,7 @@ question_of (query.Alias asked) = alias (alias_of asked)
 question_of (query.Run asked) = run (run_of asked)
 question_of (query.Replay budget) = replay budget
 question_of (query.Typestate asked) = typestate (typestate_of asked)
+question_of (query.Batch budget) = batch budget
 question_of (query.Demo boxes) = demo boxes
 
 -- the request that a command is

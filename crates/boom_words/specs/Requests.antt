@@ -28,8 +28,8 @@ pub record Typestate : Type 0 where
   pub protocol : List ℕ
   pub budget : ℕ
 
--- what is asked of a linked program. An explanation is asked what a local may hold, with a certificate for each site. A replay asks whether the certificate behind the program is one, where so many nodes may be demanded. The demo, of
--- so many boxes, is asked of a program of its own
+-- what is asked of a linked program. An explanation is asked what a local may hold, with a certificate for each site. A replay asks whether the certificate behind the program is one, where so many nodes may be demanded. A batch asks each
+-- of the queries behind the program, where each may demand so many nodes. The demo, of so many boxes, is asked of a program of its own
 pub data Question : Type 0 where
   points_to : PointsTo → Question
   explain : PointsTo → Question
@@ -37,6 +37,7 @@ pub data Question : Type 0 where
   run : RunFor → Question
   replay : ℕ → Question
   typestate : Typestate → Question
+  batch : ℕ → Question
   demo : ℕ → Question
 
 -- a question, and the class from which the program is linked
@@ -85,6 +86,11 @@ pub record IsTypestate (words : List (List ℕ)) (entry : List ℕ) (asked : Typ
   pub in_order : words ≡ codes "typestate" ∷ entry ∷ asked.protocol ∷ decimal asked.budget ∷ []
   pub small_budget : asked.budget < 2 ^ 32
 
+-- the words of a `batch` command, by position: the number is decimal digits without a leading zero, below 2^32
+pub record IsBatch (words : List (List ℕ)) (entry : List ℕ) (budget : ℕ) : Type 0 where
+  pub in_order : words ≡ codes "batch" ∷ entry ∷ decimal budget ∷ []
+  pub small_budget : budget < 2 ^ 32
+
 -- the words of a `demo` command: the number of boxes is decimal digits without a leading zero, from 1 to 400. Its program begins in its class Demo
 pub record IsDemo (words : List (List ℕ)) (entry : List ℕ) (boxes : ℕ) : Type 0 where
   pub in_order : words ≡ codes "demo" ∷ decimal boxes ∷ []
@@ -100,6 +106,7 @@ IsQuestion words entry (alias asked) = IsAlias words entry asked
 IsQuestion words entry (run asked) = IsRun words entry asked
 IsQuestion words entry (replay budget) = IsReplay words entry budget
 IsQuestion words entry (typestate asked) = IsTypestate words entry asked
+IsQuestion words entry (batch budget) = IsBatch words entry budget
 IsQuestion words entry (demo boxes) = IsDemo words entry boxes
 
 -- the words are this request

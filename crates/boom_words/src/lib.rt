@@ -3,4 +3,4 @@
 
 mod request;
 
-pub use request::{Asked, AskedBoth, Command, Query, Running, Tracking, read_words};
+pub use request::{Asked, AskedBoth, Command, Query, Running, Tracking, number, read_words};

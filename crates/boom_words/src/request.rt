@@ -56,6 +56,8 @@ pub enum Query<'a> {
     Replay { budget: u32 },
     /// May an event come on an object in a state in which a protocol doesn't allow it?
     Typestate(Tracking<'a>),
+    /// What is answered to each query behind the program, where each may demand no more nodes?
+    Batch { budget: u32 },
     /// Which sites may the last local of the demo's program hold, which has this many boxes?
     Demo { boxes: u32 },
 }
@@ -79,8 +81,8 @@ const MOST_BOXES: u32 = 400;
 /// The class that the demo's program begins in.
 const DEMO: &str = "Demo";
 
-// The number that a word spells: decimal digits without a sign or a leading zero, as it would be printed.
-fn number(alloc: Global, word: &str) -> Result<Option<u32>, NoMemory>
+/// The number that a word spells, if it is one below 2^32: decimal digits without a sign or a leading zero, as it would be printed.
+pub fn number(alloc: Global, word: &str) -> Result<Option<u32>, NoMemory>
     ensures some { IfOk result (λ found. IfSome found (λ n. (n < 2 ^ 32) × (word.now ≡ decimal n))) }
     ensures only { IfOk result (λ found. (n : ℕ) → n < 2 ^ 32 → word.now ≡ decimal n → found ≡ Some n) }
 {
@@ -290,6 +292,29 @@ fn typestate<'a>(
     }))
 }
 
+// The `batch` command with this entry and these words behind it.
+fn batch<'a>(
+    alloc: Global,
+    entry: &'a str,
+    words: &'a [String],
+) -> Result<Option<Command<'a>>, NoMemory>
+    ensures some { IfOk result (λ found. IfSome found (λ c.
+        IsRequest (codes "batch" ∷ entry.now ∷ map string_bytes words.now) (request_of c))) }
+    ensures only { IfOk result (λ found. (r : Request) → IsRequest (codes "batch" ∷ entry.now ∷ map string_bytes words.now) r
+        → IsSomeAnd found (λ c. request_of c ≡ r)) }
+{
+    let [budget] = words else {
+        return Ok(None);
+    };
+    let Some(budget) = number(alloc, budget.as_str())? else {
+        return Ok(None);
+    };
+    Ok(Some(Command {
+        entry,
+        query: Query::Batch { budget },
+    }))
+}
+
 // The `demo` command with this number and these words behind it.
 fn demo<'a>(
     alloc: Global,
@@ -318,7 +343,7 @@ fn demo<'a>(
 
 /// The command that the words are, if they are one: `points-to ENTRY METHOD INDEX LOCAL BUDGET`,
 /// `explain ENTRY METHOD INDEX LOCAL BUDGET`, `alias ENTRY METHOD INDEX LOCAL LOCAL BUDGET`, `run ENTRY STEPS CHOICES`, `replay ENTRY BUDGET`,
-/// `typestate ENTRY PROTOCOL BUDGET` or `demo BOXES`.
+/// `typestate ENTRY PROTOCOL BUDGET`, `batch ENTRY BUDGET` or `demo BOXES`.
 ///
 /// INDEX, BUDGET, STEPS and BOXES are decimal digits without a leading zero, at most 4,294,967,295, STEPS at most 1,000,000 and BOXES from 1 to 400.
 /// CHOICES is a dash for none, or 1 to 1,000 decimal digits. The other words are any texts. The entry of `demo` is its program's class `Demo`.
@@ -336,6 +361,7 @@ pub fn read_words(alloc: Global, words: &[String]) -> Result<Option<Command<'_>>
         "run" => run(alloc, second.as_str(), rest),
         "replay" => replay(alloc, second.as_str(), rest),
         "typestate" => typestate(alloc, second.as_str(), rest),
+        "batch" => batch(alloc, second.as_str(), rest),
         "demo" => demo(alloc, second.as_str(), rest),
         _ => Ok(None),
     }

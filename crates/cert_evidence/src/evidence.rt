@@ -15,6 +15,7 @@ ghost use Rattle.cert_evidence.specs.Traced.{IsEvidence};
 use cert_make::certificate_of;
 use cert_rules::Certificate;
 use cert_trace::{claim, trace_of};
+use cert_wants::wants_of;
 use cert_work::{Roads, View, Work};
 use demand_set::Demand;
 use jim_ast::{List, NoMemory};
@@ -46,17 +47,19 @@ fn traced(
     ensures fits { IfOk result (λ k. All FitsLine k.written.lines) }
 {
     let roads = Roads::of(alloc, linked, target, demand)?;
+    let wants = wants_of(alloc, linked, demand, solved, target)?;
     let view = View {
         linked,
         target,
         roads: &roads,
+        wants: &wants,
     };
     trace_of(alloc, &view, demand, solved)
 }
 
 impl Evidence {
-    /// What shows, of each site that the target may hold, that it may: one trace for all of them. Costs time and memory for each fact of all sites of the
-    /// demand. Want of memory is the only refusal.
+    /// What shows, of each site that the target may hold, that it may: one trace for all of them. Costs time and memory for each fact of these sites, and of
+    /// others as far as theirs rest on it. Want of memory is the only refusal.
     pub fn of(
         alloc: Global,
         linked: &Linked,

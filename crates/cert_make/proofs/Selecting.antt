@@ -1,9 +1,9 @@
 -- Marked elements, and how many of them stand before a place.
-use Rattle.std.proofs.Common.{◌≡◌, ℕ, zero, suc, ◌+◌, ◌<◌, ◌≤◌, ◌^◌, Bool, true, false, List, [], ◌∷◌, ◌++◌, Some, get_or, length, slice_get, take, refl, sym, ap, ◌∙◌, arith, length-append}
-use Rattle.std.proofs.lemmas.List.{length-take}
+use Rattle.std.proofs.Common.{◌≡◌, ℕ, zero, suc, ◌+◌, ◌<◌, ◌≤◌, ◌^◌, Bool, true, false, List, [], ◌∷◌, ◌++◌, Some, get_or, length, slice_get, slice_set, take, refl, sym, ap, ◌∙◌, arith, length-append}
+use Rattle.std.proofs.lemmas.List.{length-set, length-take}
 use Rattle.std.proofs.lemmas.Option.{get_or_from_slice_get, slice_get-get_or}
 use borrow.Author.Count.{below_more}
-use Rattle.lists.proofs.Places.{slice_get-append_left, slice_get-below, slice_get-push, take-next}
+use Rattle.lists.proofs.Places.{slice_get-append_left, slice_get-below, slice_get-push, slice_get-set_other, slice_get-set_same, take-next}
 use Rattle.cert_make.specs.Marks.{IsAnew, numbered, rank, selected}
 
 -- up to a place there are no more than places
@@ -52,36 +52,40 @@ rank-suc_other (false ∷ marks) zero at = rank-none marks
 rank-suc_other (true ∷ marks) (suc i) at = ap suc (rank-suc_other marks i at)
 rank-suc_other (false ∷ marks) (suc i) at = rank-suc_other marks i at
 
--- the numbers of the elements before a place, and the next
+-- the numbers of the marked elements before a place, and the next
 pub record AreNumbered (marks : List Bool) (i next : ℕ) (numbers : List ℕ) : Type 0 where
-  pub as_many : length numbers ≡ i
+  pub as_many : length numbers ≡ length marks
   pub count : next ≡ suc (rank marks i)
-  pub each : (k : ℕ) → k < i → slice_get numbers k ≡ Some (suc (rank marks k))
+  pub each : (k : ℕ) → k < i → slice_get marks k ≡ Some true → slice_get numbers k ≡ Some (suc (rank marks k))
 
-pub numbered_none : (marks : List Bool) (numbers : List ℕ) → numbers ≡ [] → AreNumbered marks 0 1 numbers
-numbered_none marks numbers none = record { as_many = ap length none; count = ap suc (sym (rank-none marks)); each = λ k less. absurd (omega arith) }
+pub numbered_none : (marks : List Bool) (numbers : List ℕ) → length numbers ≡ length marks → AreNumbered marks 0 1 numbers
+numbered_none marks numbers many = record { as_many = many; count = ap suc (sym (rank-none marks)); each = λ k less. absurd (omega arith) }
 
 module _ (marks : List Bool) (i next : ℕ) (numbers : List ℕ) (are : AreNumbered marks i next numbers) where
-  each_more : (k : ℕ) → k < i + 1 → slice_get (numbers ++ next ∷ []) k ≡ Some (suc (rank marks k))
-  each_more = below_more (λ (k : ℕ). slice_get (numbers ++ next ∷ []) k ≡ Some (suc (rank marks k))) i
-      (λ k less. slice_get-append_left numbers (next ∷ []) k (suc (rank marks k)) (are.each k less))
-      (ap (slice_get (numbers ++ next ∷ [])) (sym are.as_many) ∙ slice_get-push numbers next ∙ ap Some are.count)
-
   one_more : suc i ≡ i + 1
   one_more = omega arith
 
-  more : (after : ℕ) → after ≡ suc (rank marks (i + 1)) → AreNumbered marks (i + 1) after (numbers ++ next ∷ [])
-  more after count = record { as_many = omega (arith, are.as_many, length-append numbers (next ∷ [])); count = count; each = each_more }
+  pub numbered_marked : slice_get marks i ≡ Some true → AreNumbered marks (i + 1) (suc next) (slice_set numbers i next)
+  numbered_marked at =
+      let within : i < length numbers = omega (arith, are.as_many, slice_get-below marks i true at) in
+      record {
+        as_many = omega (arith, are.as_many, length-set numbers i next);
+        count = ap suc (are.count ∙ sym (rank-suc_marked marks i at) ∙ ap (rank marks) one_more);
+        each = below_more (λ (k : ℕ). slice_get marks k ≡ Some true → slice_get (slice_set numbers i next) k ≡ Some (suc (rank marks k))) i
+            (λ k less here. slice_get-set_other numbers i k next (λ same. omega (arith, less, same)) ∙ are.each k less here)
+            (λ here. slice_get-set_same numbers i next within ∙ ap Some are.count);
+      }
 
-  pub numbered_marked : slice_get marks i ≡ Some true → AreNumbered marks (i + 1) (suc next) (numbers ++ next ∷ [])
-  numbered_marked at = more (suc next) (ap suc (are.count ∙ sym (rank-suc_marked marks i at) ∙ ap (rank marks) one_more))
-
-  pub numbered_other : slice_get marks i ≡ Some false → AreNumbered marks (i + 1) next (numbers ++ next ∷ [])
-  numbered_other at = more next (are.count ∙ ap suc (sym (rank-suc_other marks i at) ∙ ap (rank marks) one_more))
+  pub numbered_other : slice_get marks i ≡ Some false → AreNumbered marks (i + 1) next numbers
+  numbered_other at = record {
+    as_many = are.as_many;
+    count = are.count ∙ ap suc (sym (rank-suc_other marks i at) ∙ ap (rank marks) one_more);
+    each = below_more (λ (k : ℕ). slice_get marks k ≡ Some true → slice_get numbers k ≡ Some (suc (rank marks k))) i are.each (λ here. cc (here, at));
+  }
 
   -- all of them
   pub numbered_all : length marks ≤ i → IsAnew marks (numbered numbers)
-  numbered_all all k at = get_or_from_slice_get numbers k (suc (rank marks k)) 0 (are.each k (omega (arith, slice_get-below marks k true at)))
+  numbered_all all k at = get_or_from_slice_get numbers k (suc (rank marks k)) 0 (are.each k (omega (arith, slice_get-below marks k true at)) at)
 
 -- a mark as indexing reads it
 pub mark_at : (marks : List Bool) (i : ℕ) (mark : Bool) → i < length marks → get_or marks i false ≡ mark → slice_get marks i ≡ Some mark

@@ -124,10 +124,14 @@ module _ (marks : List Bool) (new : ℕ → ℕ) (anew : IsAnew marks new) where
     lengths_anew = subst Fit (take_all (length lines) lines (omega arith)) (fit_up_to (length lines) (omega arith))
 
 -- lengths as 32 bits tell them
-told_at : (lengths : List ℕ) (i : ℕ) → slice_index_or (map as_told lengths) i 0 ≡ as_told (slice_index_or lengths i 0)
+pub told_at : (lengths : List ℕ) (i : ℕ) → slice_index_or (map as_told lengths) i 0 ≡ as_told (slice_index_or lengths i 0)
 told_at [] i = refl
 told_at (x ∷ lengths) zero = refl
 told_at (x ∷ lengths) (suc i) = told_at lengths i
+
+pub told_cited : (lengths : List ℕ) (number : ℕ) → cited_length (map as_told lengths) number ≡ as_told (cited_length lengths number)
+told_cited lengths zero = refl
+told_cited lengths (suc i) = told_at lengths i
 
 told_by_number : (lengths : List ℕ) (number : ℕ) → numbered (map as_told lengths) number ≡ as_told (cited_length lengths number)
 told_by_number lengths zero = refl

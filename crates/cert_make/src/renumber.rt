@@ -1,5 +1,5 @@
 //! Lines under new numbers.
-ghost use Rattle.std.specs.Prelude.{◌≡◌, ℕ, suc, ◌<◌, ◌^◌, None, IfNone, IfOk, IfSome, map};
+ghost use Rattle.std.specs.Prelude.{◌≡◌, ℕ, suc, ◌<◌, ◌^◌, None, IfNone, IfOk, IfSome, OnOk, length, map};
 ghost use Rattle.cert_make.specs.Marks.{IsAnew, numbered};
 ghost use Rattle.cert_make.specs.Needs.{node_of, renumbered};
 
@@ -8,18 +8,27 @@ use jim_ast::{List, NoMemory};
 use link_sites::Place;
 use std::alloc::{AllocError, Global};
 
-/// For each line the number that it has among the marked ones, from 1; where it isn't marked, that of the next.
-pub(crate) fn numbers_anew(alloc: Global, marks: &[bool]) -> Result<Vec<u32>, NoMemory>
-    ensures { IfOk result (λ numbers. IsAnew marks.now (numbered numbers.items)) }
+// Puts down for each marked line the number that it has among the marked ones, from 1.
+fn number_marked(numbers: &mut [u32], marks: &[bool]) -> Result<(), NoMemory>
+    requires { length numbers.old ≡ length marks.now }
+    ensures { OnOk result (IsAnew marks.now (numbered numbers.new)) }
 {
-    let mut numbers = Vec::new(alloc);
     let mut next: u32 = 1;
-    for marked in marks {
-        numbers.push(next)?;
-        if *marked {
+    for index in 0..marks.len() {
+        if marks[index] {
+            numbers[index] = next;
             next = after(next)?;
         }
     }
+    Ok(())
+}
+
+/// For each marked line the number that it has among the marked ones, from 1, and 0 for the others.
+pub(crate) fn numbers_anew(alloc: Global, marks: &[bool]) -> Result<Vec<u32>, NoMemory>
+    ensures { IfOk result (λ numbers. IsAnew marks.now (numbered numbers.items)) }
+{
+    let mut numbers = vec![in alloc; 0u32; marks.len()]?;
+    number_marked(&mut numbers, marks)?;
     Ok(numbers)
 }
 

@@ -35,9 +35,9 @@ fn selected_lines(
     ensures { IfOk result (λ found. found.items ≡ map (renumbered (numbered numbers.now)) (selected marks.now lines.now)) }
 {
     let mut found = Vec::new(alloc);
-    for (index, line) in lines.iter().enumerate() {
+    for index in 0..lines.len() {
         if marks[index] {
-            found.push(renumbered(alloc, numbers, line)?)?;
+            found.push(renumbered(alloc, numbers, &lines[index])?)?;
         }
     }
     Ok(found)

@@ -4,6 +4,7 @@ use Rattle.std.proofs.lemmas.List.{map-append}
 use Rattle.link_rules.specs.Linked.{LinkedProgram}
 use Rattle.link_sites.specs.declared.site.Site.{Site}
 use Rattle.spds_rules.specs.declared.node.Node.{Node}
+use Rattle.spds_rules.specs.Answers.{IsAnswered}
 use Rattle.spds_rules.specs.Systems.{Meets}
 use Rattle.cert_rules.specs.declared.fact.Entry.{Entry}
 use Rattle.cert_rules.specs.declared.fact.Entry.TheVariants.{Base}
@@ -13,22 +14,14 @@ use Rattle.cert_rules.specs.declared.line.Line.TheVariants as line
 use Rattle.cert_rules.specs.declared.line.Side.TheVariants.{Field, Call}
 use Rattle.cert_rules.specs.Certified.{AreGiven}
 use Rattle.cert_rules.specs.Given.{about}
-use Rattle.cert_rules.specs.Lengths.{IsNoLonger, IsShortest, cited_length, length_by, lengths_behind, lengths_of, rules}
+use Rattle.cert_rules.specs.Lengths.{IsNoLonger, IsShortest, cited_length, length_by, lengths_of, rules}
 use Rattle.cert_laws.proofs.Givens.{given_more}
 use Rattle.cert_lines.specs.Noted.{IsShortestOf, IsThere, Noted, length_at}
 use Rattle.cert_make.specs.Lengths.{as_told}
+use Rattle.cert_make.proofs.Sums.{lengths_of-push, told_at, told_cited}
 use Rattle.cert_work.specs.Added.{AreAdded, length_told}
 use Rattle.cert_reads.specs.Closed.{AreClosed}
 use Rattle.cert_reads.proofs.Held.{fields_held}
-
-told_at : (lengths : List ℕ) (i : ℕ) → slice_index_or (map as_told lengths) i 0 ≡ as_told (slice_index_or lengths i 0)
-told_at [] i = refl
-told_at (x ∷ lengths) zero = refl
-told_at (x ∷ lengths) (suc i) = told_at lengths i
-
-told_cited : (lengths : List ℕ) (number : ℕ) → cited_length (map as_told lengths) number ≡ as_told (cited_length lengths number)
-told_cited lengths zero = refl
-told_cited lengths (suc i) = told_at lengths i
 
 one_told : (n : ℕ) → as_told (as_told n + 1) ≡ as_told (n + 1)
 one_told n = omega arith
@@ -55,11 +48,6 @@ told_line lengths (line.Shared first second string) = refl
 told_line lengths (line.Meet shared base) = refl
 told_line lengths (line.Claim field call) = refl
 
-behind_push : (lengths : List ℕ) (lines : List Line) (l : Line)
-    → lengths_behind lengths (lines ++ l ∷ []) ≡ lengths_behind lengths lines ++ length_by (lengths_behind lengths lines) l ∷ []
-behind_push lengths [] l = refl
-behind_push lengths (k ∷ lines) l = behind_push (lengths ++ length_by lengths k ∷ []) lines l
-
 module _ (p : LinkedProgram) (t : Node) where
   pub added_given : {old new : Noted} → AreAdded p t old new → AreGiven p t old.lines old.given → AreGiven p t new.lines new.given
   added_given AreAdded.none are = are
@@ -72,13 +60,13 @@ module _ (p : LinkedProgram) (t : Node) where
       let here : length_told mid l ≡ as_told (length_by (lengths_of mid.lines) l)
       = ap (λ (ns : List ℕ). as_told (length_by ns l)) before ∙ told_line (lengths_of mid.lines) l in
       (λ j. before j ++ here j ∷ []) ∙ sym (map-append as_told (lengths_of mid.lines) (length_by (lengths_of mid.lines) l ∷ []))
-      ∙ ap (map as_told) (sym (behind_push [] mid.lines l))
+      ∙ ap (map as_told) (sym (lengths_of-push mid.lines l))
 
   -- no derivation of the field system is shorter than the shortest line
-  pub closed_shortest : (w : Noted) → AreClosed p t w (Meets p (about t)) → w.lengths ≡ map as_told (lengths_of w.lines) → (o : Site) (i : ℕ)
-      → IsShortestOf w (At Field o Base t) i → IsShortest p t o (cited_length (lengths_of w.lines) (suc i))
-  closed_shortest w closed told o i least h =
-      let held = fields_held p t w (Meets p (about t)) closed o h in
+  pub closed_shortest : (w : Noted) → AreClosed p t w (Meets p (about t)) → w.lengths ≡ map as_told (lengths_of w.lines) → (o : Site) → IsAnswered p (about t) t o
+      → (i : ℕ) → IsShortestOf w (At Field o Base t) i → IsShortest p t o (cited_length (lengths_of w.lines) (suc i))
+  closed_shortest w is told o answered i least h =
+      let held = fields_held p t is.wants w (Meets p (about t)) is.closed o h (is.closed.wanted.answered o answered) in
       let at : IsThere w (At Field o Base t) held.front = subst (λ (x : Entry). IsThere w (At Field o x t) held.front) held.spelled held.at in
       let short = least.least at.at at.gives in
       let is : length_at w i ≡ as_told (cited_length (lengths_of w.lines) (suc i))

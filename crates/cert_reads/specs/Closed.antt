@@ -11,13 +11,21 @@ use Rattle.cert_rules.specs.declared.fact.Fact.TheVariants.{At, Met}
 use Rattle.cert_rules.specs.declared.line.Side.{Side}
 use Rattle.cert_rules.specs.Given.{Reads, about}
 use Rattle.cert_lines.specs.Noted.{IsThere, Noted}
+use Rattle.cert_work.specs.declared.wants.Wants.{Wants}
 use Rattle.cert_work.specs.Rules.{AreWorked}
+use Rattle.cert_work.specs.Wants.{AreWants, IsWanted}
 
--- what starts is there, and these meets are, and what the rules give of all lines
+-- As far as objects are followed, and they are wherever answers need it, what starts is there, and these meets are, and what the rules give of all lines.
+pub record AreClosedIn (p : LinkedProgram) (t : Node) (wants : Wants) (w : Noted) (Meet : Site → Site → StoreAt → Type 0) : Type 0 where
+  pub wanted : AreWants p t wants Meet
+  pub worked : AreWorked p t wants w (length w.given)
+  pub starts : (side : Side) (o : Site) (n : Node) → StartIn p (about t) o n → IsWanted wants o n → IsThere w (At side o Base n) 0
+  pub mets : (o base : Site) (s : StoreAt) (n : Node) → Meet o base s → StartIn p (about t) base n → IsWanted wants o n → (most : ℕ) × IsThere w (Met o base s) most
+
+-- objects are followed so
 pub record AreClosed (p : LinkedProgram) (t : Node) (w : Noted) (Meet : Site → Site → StoreAt → Type 0) : Type 0 where
-  pub worked : AreWorked p t w (length w.given)
-  pub starts : (side : Side) (o : Site) (n : Node) → StartIn p (about t) o n → IsThere w (At side o Base n) 0
-  pub mets : (o base : Site) (s : StoreAt) → Meet o base s → (most : ℕ) × IsThere w (Met o base s) most
+  pub wants : Wants
+  pub closed : AreClosedIn p t wants w Meet
 
 -- some lines read the call string of an object at a node
 abbrev pub IsRead : LinkedProgram → Noted → Site → Node → List Place → Type 0

@@ -21,18 +21,19 @@ use Rattle.cert_reads.proofs.Told.{closed_shortest}
 module _ (p : LinkedProgram) (t : Node) (w : Noted) (closed : AreClosed p t w (Meets p (about t))) where
   pub field_there : (o : Site) → IsAnswered p (about t) t o → (most : ℕ) × IsThere w (At Field o Base t) most
   field_there o is =
-      let held = fields_held p t w (Meets p (about t)) closed o is.0 in
+      let held = fields_held p t closed.wants w (Meets p (about t)) closed.closed o is.0 (closed.closed.wanted.answered o is) in
       (held.front, subst (λ (x : Entry). IsThere w (At Field o x t) held.front) held.spelled held.at)
 
   pub call_there : (o : Site) → IsAnswered p (about t) t o → (i : ℕ) × (e : Entry) × Cites w.given i (At Call o e t)
-  call_there o is = let held = calls_held p t w (Meets p (about t)) closed o is.1.1 in (suc held.at.0, held.entry, held.at.1)
+  call_there o is =
+      let held = calls_held p t closed.wants w (Meets p (about t)) closed.closed o is.1.1 (closed.closed.wanted.answered o is) in (suc held.at.0, held.entry, held.at.1)
 
-  shortest_at : (o : Site) (field : ℕ) → w.lengths ≡ map as_told (lengths_of w.lines) → Cites w.given field (At Field o Base t)
+  shortest_at : (o : Site) → IsAnswered p (about t) t o → (field : ℕ) → w.lengths ≡ map as_told (lengths_of w.lines) → Cites w.given field (At Field o Base t)
       → ((at : ℕ) → field ≡ at + 1 → IsShortestOf w (At Field o Base t) at) → IsShortest p t o (cited_length (lengths_of w.lines) field)
-  shortest_at o zero told cites least = absurd cites
-  shortest_at o (suc i) told cites least = closed_shortest p t w closed told o i (least i (omega arith))
+  shortest_at o answered zero told cites least = absurd cites
+  shortest_at o answered (suc i) told cites least = closed_shortest p t w closed told o answered i (least i (omega arith))
 
-  pub can_claim : AreGiven p t w.lines w.given → w.lengths ≡ map as_told (lengths_of w.lines) → (o : Site) (field call : ℕ) → Cites w.given field (At Field o Base t)
+  pub can_claim : AreGiven p t w.lines w.given → w.lengths ≡ map as_told (lengths_of w.lines) → (o : Site) → IsAnswered p (about t) t o → (field call : ℕ) → Cites w.given field (At Field o Base t)
       → ((at : ℕ) → field ≡ at + 1 → IsShortestOf w (At Field o Base t) at) → (e : Entry) → Cites w.given call (At Call o e t) → CanClaim p t w.lines o field call
-  can_claim given told o field call cites least e calls =
-      record { given = w.given; are_given = given; entry = e; by_fields = cites; by_calls = calls; shortest = shortest_at o field told cites least }
+  can_claim given told o answered field call cites least e calls =
+      record { given = w.given; are_given = given; entry = e; by_fields = cites; by_calls = calls; shortest = shortest_at o answered field told cites least }

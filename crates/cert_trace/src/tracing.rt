@@ -2,6 +2,7 @@
 ghost use Rattle.std.specs.Prelude.{◌≡◌, [], All, length, map, take, IfOk, OnOk};
 ghost use Rattle.lists.specs.Lists.{IsApart};
 ghost use Rattle.link_sites.specs.declared.site.Site.{Site as AnySite};
+ghost use Rattle.spds_rules.specs.declared.node.Node.{Node as AnyNode};
 ghost use Rattle.spds_rules.specs.declared.store.StoreAt.{StoreAt as AnyStore};
 ghost use Rattle.spds_rules.specs.Systems.{Meets};
 ghost use Rattle.demand_set.specs.Demands.{IsDemandOf};
@@ -12,12 +13,14 @@ ghost use Rattle.cert_rules.specs.Lengths.{lengths_of};
 ghost use Rattle.cert_rules.specs.Spelled.{FitsLine};
 ghost use Rattle.cert_lines.specs.Noted.{IsThere};
 ghost use Rattle.cert_make.specs.Lengths.{as_told};
-ghost use Rattle.cert_work.specs.Roads.{AreAddedIn, IsView};
+ghost use Rattle.cert_work.specs.Roads.{AreAddedIn, IsView, StartOf};
+ghost use Rattle.cert_work.specs.Wants.{AreWants, IsWanted};
 ghost use Rattle.cert_work.specs.Work.{IsWorkOf};
 ghost use Rattle.cert_reads.specs.Closed.{AreClosed};
+ghost use Rattle.cert_reads.specs.Meeting.{IsJustified};
 ghost use Rattle.cert_reads.specs.Readings.{AreAllFiled};
 ghost use Rattle.spds_solve.specs.Solved.{AreMeets, IsSolved, StandsForMeet};
-ghost use Rattle.cert_trace.specs.Resting.{IsNext, IsTraced, no_lines};
+ghost use Rattle.cert_trace.specs.Resting.{AreWanted, IsNext, IsTraced, no_lines};
 
 use super::fitting::all_fit;
 use cert_reads::{Meeting, meet};
@@ -31,6 +34,7 @@ use std::alloc::Global;
 fn begin(alloc: Global, view: &View<'_>, demand: &Demand) -> Result<Work, NoMemory>
     requires view { IsView view.now }
     requires demand { IsDemandOf view.now.linked.now (about view.now.target) demand.now }
+    requires wanted { AreWanted view.now }
     ensures traced { IfOk result (IsTraced view.now demand.now []) }
     ensures added { IfOk result (λ k. AreAddedIn view.now no_lines k.written) }
 {
@@ -40,7 +44,28 @@ fn begin(alloc: Global, view: &View<'_>, demand: &Demand) -> Result<Work, NoMemo
     Ok(work)
 }
 
-// The lines for the next meet, and all that comes of it.
+// The lines for a meet, and all that comes of it.
+fn follow_wanted(
+    alloc: Global,
+    view: &View<'_>,
+    work: &mut Work,
+    meeting: &Meeting<'_>,
+) -> Result<(), NoMemory>
+    requires view { IsView view.now }
+    requires work { IsWorkOf view.now work.old }
+    requires all { work.old.done ≡ length work.old.written.given }
+    requires justified { IsJustified view.now work.old.written meeting.now }
+    ensures added { OnOk result (AreAddedIn view.now work.old.written work.new.written) }
+    ensures work { OnOk result (IsWorkOf view.now work.new) }
+    ensures all { OnOk result (work.new.done ≡ length work.new.written.given) }
+    ensures there { OnOk result (IsThere work.new.written (IsMet meeting.now.object meeting.now.base meeting.now.store) 0) }
+{
+    meet(alloc, view, work, meeting)?;
+    work_off(view, work)?;
+    Ok(())
+}
+
+// Those for the next meet, if objects are followed where it leads.
 fn follow(
     alloc: Global,
     view: &View<'_>,
@@ -49,11 +74,14 @@ fn follow(
     met: &Met,
 ) -> Result<(), NoMemory>
     requires view { IsView view.now }
+    requires wanted { AreWanted view.now }
     requires next { IsNext view.now demand.now work.old met.now }
+    requires meets { (o base : AnySite) (s : AnyStore) → StandsForMeet demand.now met.now o base s → Meets view.now.linked.now (about view.now.target) o base s }
     ensures added { OnOk result (AreAddedIn view.now work.old.written work.new.written) }
     ensures work { OnOk result (IsWorkOf view.now work.new) }
     ensures all { OnOk result (work.new.done ≡ length work.new.written.given) }
-    ensures there { OnOk result ((o base : AnySite) (s : AnyStore) → StandsForMeet demand.now met.now o base s → IsThere work.new.written (IsMet o base s) 0) }
+    ensures there { OnOk result ((o base : AnySite) (s : AnyStore) (n : AnyNode) → StandsForMeet demand.now met.now o base s → StartOf view.now base n
+        → IsWanted view.now.wants.now o n → IsThere work.new.written (IsMet o base s) 0) }
 {
     let meeting = Meeting {
         object: demand.sites()[met.object as usize],
@@ -61,8 +89,10 @@ fn follow(
         store: demand.stores()[met.store as usize],
         string: met.string.as_slice(),
     };
-    meet(alloc, view, work, &meeting)?;
-    work_off(view, work)?;
+    if view.is_wanted_in(meeting.object, meeting.base) {
+        follow_wanted(alloc, view, work, &meeting)?;
+        return Ok(());
+    }
     Ok(())
 }
 
@@ -75,6 +105,7 @@ fn follow_all(
     mets: &[Met],
 ) -> Result<(), NoMemory>
     requires view { IsView view.now }
+    requires wanted { AreWanted view.now }
     requires traced { IsTraced view.now demand.now [] work.old }
     requires mets { AreMeets view.now.linked.now (about view.now.target) demand.now mets.now }
     ensures added { OnOk result (AreAddedIn view.now work.old.written work.new.written) }
@@ -86,8 +117,8 @@ fn follow_all(
     Ok(())
 }
 
-/// Lines that give each fact of both systems of a solved demand, over all its meets: of each fact one that is no longer than any derivation. All are gone
-/// through. No two are the same, and each can be spelled. Costs time and memory for each fact of all its sites.
+/// Lines that give each fact of both systems of a solved demand, over all its meets, as far as objects are followed: of each fact one that is no longer
+/// than any derivation. All are gone through. No two are the same, and each can be spelled. Costs time and memory for each fact.
 pub fn trace_of(
     alloc: Global,
     view: &View<'_>,
@@ -97,6 +128,7 @@ pub fn trace_of(
     requires view { IsView view.now }
     requires demand { IsDemandOf view.now.linked.now (about view.now.target) demand.now }
     requires solved { IsSolved view.now.linked.now (about view.now.target) demand.now solved.now }
+    requires wanted { AreWants view.now.linked.now view.now.target view.now.wants.now (Meets view.now.linked.now (about view.now.target)) }
     ensures given { IfOk result (λ k. AreGiven view.now.linked.now view.now.target k.written.lines k.written.given) }
     ensures told { IfOk result (λ k. k.written.lengths ≡ map as_told (lengths_of k.written.lines)) }
     ensures apart { IfOk result (λ k. IsApart k.written.lines) }

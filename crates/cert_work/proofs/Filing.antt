@@ -13,9 +13,10 @@ use Rattle.cert_lines.specs.declared.keys.Spot.{Spot}
 use Rattle.cert_lines.specs.declared.keys.Word.{Word}
 use Rattle.cert_lines.specs.Noted.{Noted}
 use Rattle.cert_work.specs.Added.{AreAdded}
-use Rattle.cert_work.specs.Rules.{AreWorked, IsAlong, IsPopped, IsPut}
-use Rattle.cert_work.specs.Work.{HasWord, IsAt, IsBelow, IsStored}
-use Rattle.cert_work.proofs.Growing.{along_more, popped_more, put_more}
+use Rattle.cert_work.specs.declared.wants.Wants.{Wants}
+use Rattle.cert_work.specs.Rules.{AreWorked, IsAlong, IsFollowed, IsPopped, IsPut}
+use Rattle.cert_work.specs.Work.{IsAt, IsBelow, IsStored, IsTaker}
+use Rattle.cert_work.proofs.Growing.{along_more, cites_kept, popped_more, put_more}
 
 pub le_next : (i done num : ℕ) → num ≡ done + 1 → i ≤ num → (i ≤ done) ⊎ (i ≡ num)
 le_next zero done num e low = inl (omega arith)
@@ -57,8 +58,8 @@ module _ (given : Facts) (num : ℕ) (fact : Fact) (cites : Cites given num fact
   other_kind other again = ap tag (cites_one given num fact other cites again)
 
 module _ (w : Noted) (num : ℕ) (fact : Fact) (cites : Cites w.given num fact) where
-  pub no_word : tag fact ≢ 0 → (k : Word) → HasWord w k num → ⊥
-  no_word other k is = other (other_kind w.given num fact cites _ is.1)
+  pub no_taker : (p : LinkedProgram) (t : Node) (wants : Wants) → tag fact ≢ 0 → (k : Word) → IsTaker p t wants w k num → ⊥
+  no_taker p t wants other k is = other (other_kind w.given num fact cites _ is.put)
 
   pub no_below : tag fact ≢ 1 → (k : Word) → IsBelow w k num → ⊥
   no_below other k is = other (other_kind w.given num fact cites _ is.1)
@@ -84,40 +85,45 @@ module _ (w : Noted) (num : ℕ) (fact : Fact) (cites : Cites w.given num fact) 
   pub not_met : tag fact ≢ 2 → (i : ℕ) (base : Site) (n : Node) → IsPut w i num base n
   not_met other i base n side o x s at meets = absurd (other (other_kind w.given num fact cites _ meets))
 
-module _ (p : LinkedProgram) (t : Node) where
-  pub worked_more : {old new : Noted} → AreAdded p t old new → (done : ℕ) → done ≤ length old.given → AreWorked p t old done → AreWorked p t new done
+module _ (p : LinkedProgram) (t : Node) (wants : Wants) where
+  followed_less : {old new : Noted} → AreAdded p t old new → (i : ℕ) → IsFollowed wants new i → IsFollowed wants old i
+  followed_less added i is side o x n cites = is side o x n (cites_kept p t added i _ cites)
+
+  pub worked_more : {old new : Noted} → AreAdded p t old new → (done : ℕ) → done ≤ length old.given → AreWorked p t wants old done → AreWorked p t wants new done
   worked_more added done within worked = record {
-    along = λ i e low edge. along_more p t added i e (omega arith) (worked.along i e low edge);
-    popped = λ i link e low under edge. popped_more p t added i link e (omega arith) (omega arith) (worked.popped i link e low under edge);
-    put = λ i met base n low under start. put_more p t added i met base n (omega arith) (omega arith) (worked.put i met base n low under start);
+    along = λ i e low is edge. along_more p t added i e (omega arith) (worked.along i e low (followed_less added i is) edge);
+    popped = λ i link e low under is edge.
+        popped_more p t added i link e (omega arith) (omega arith) (worked.popped i link e low under (followed_less added i is) edge);
+    put = λ i met base n low under is start.
+        put_more p t added i met base n (omega arith) (omega arith) (worked.put i met base n low under (followed_less added i is) start);
   }
 
   -- what is to be known of one line more
   pub record IsWorkedOne (w : Noted) (done num : ℕ) : Type 0 where
-    pub along : (e : Edge) → EdgeIn p (about t) e.from e.kind e.to → IsAlong w num e
-    pub popped : (link : ℕ) (e : Edge) → link ≤ num → EdgeIn p (about t) e.from e.kind e.to → IsPopped w num link e
-    pub linked : (i : ℕ) (e : Edge) → i ≤ done → EdgeIn p (about t) e.from e.kind e.to → IsPopped w i num e
-    pub put : (met : ℕ) (base : Site) (n : Node) → met ≤ num → StartIn p (about t) base n → IsPut w num met base n
-    pub met : (i : ℕ) (base : Site) (n : Node) → i ≤ done → StartIn p (about t) base n → IsPut w i num base n
+    pub along : IsFollowed wants w num → (e : Edge) → EdgeIn p (about t) e.from e.kind e.to → IsAlong w num e
+    pub popped : IsFollowed wants w num → (link : ℕ) (e : Edge) → link ≤ num → EdgeIn p (about t) e.from e.kind e.to → IsPopped w num link e
+    pub linked : (i : ℕ) (e : Edge) → i ≤ done → IsFollowed wants w i → EdgeIn p (about t) e.from e.kind e.to → IsPopped w i num e
+    pub put : IsFollowed wants w num → (met : ℕ) (base : Site) (n : Node) → met ≤ num → StartIn p (about t) base n → IsPut w num met base n
+    pub met : (i : ℕ) (base : Site) (n : Node) → i ≤ done → IsFollowed wants w i → StartIn p (about t) base n → IsPut w i num base n
 
-  pub worked_next : (w : Noted) (done num : ℕ) → num ≡ done + 1 → AreWorked p t w done → IsWorkedOne w done num → AreWorked p t w num
+  pub worked_next : (w : Noted) (done num : ℕ) → num ≡ done + 1 → AreWorked p t wants w done → IsWorkedOne w done num → AreWorked p t wants w num
   worked_next w done num next worked one = record {
-    along = λ i e low edge. elim (le_next i done num next low) [
-      | inl before ↦ worked.along i e before edge
-      | inr same ↦ subst (λ (k : ℕ). IsAlong w k e) (sym same) (one.along e edge)
+    along = λ i e low is edge. elim (le_next i done num next low) [
+      | inl before ↦ worked.along i e before is edge
+      | inr same ↦ subst (λ (k : ℕ). IsAlong w k e) (sym same) (one.along (subst (IsFollowed wants w) same is) e edge)
     ];
-    popped = λ i link e low under edge. elim (le_next i done num next low) [
+    popped = λ i link e low under is edge. elim (le_next i done num next low) [
       | inl before ↦ elim (le_next link done num next under) [
-        | inl behind ↦ worked.popped i link e before behind edge
-        | inr same ↦ subst (λ (k : ℕ). IsPopped w i k e) (sym same) (one.linked i e before edge)
+        | inl behind ↦ worked.popped i link e before behind is edge
+        | inr same ↦ subst (λ (k : ℕ). IsPopped w i k e) (sym same) (one.linked i e before is edge)
       ]
-      | inr same ↦ subst (λ (k : ℕ). IsPopped w k link e) (sym same) (one.popped link e under edge)
+      | inr same ↦ subst (λ (k : ℕ). IsPopped w k link e) (sym same) (one.popped (subst (IsFollowed wants w) same is) link e under edge)
     ];
-    put = λ i met base n low under start. elim (le_next i done num next low) [
+    put = λ i met base n low under is start. elim (le_next i done num next low) [
       | inl before ↦ elim (le_next met done num next under) [
-        | inl behind ↦ worked.put i met base n before behind start
-        | inr same ↦ subst (λ (k : ℕ). IsPut w i k base n) (sym same) (one.met i base n before start)
+        | inl behind ↦ worked.put i met base n before behind is start
+        | inr same ↦ subst (λ (k : ℕ). IsPut w i k base n) (sym same) (one.met i base n before is start)
       ]
-      | inr same ↦ subst (λ (k : ℕ). IsPut w k met base n) (sym same) (one.put met base n under start)
+      | inr same ↦ subst (λ (k : ℕ). IsPut w k met base n) (sym same) (one.put (subst (IsFollowed wants w) same is) met base n under start)
     ];
   }

@@ -20,7 +20,8 @@ use Rattle.cert_work.specs.declared.held.Meeting.{Meeting}
 use Rattle.cert_lines.specs.declared.keys.Spot.{Spot}
 use Rattle.cert_lines.specs.declared.keys.Word.{Word}
 use Rattle.cert_work.specs.Added.{AreAdded}
-use Rattle.cert_work.specs.Work.{HasWord, IsAt, IsBelow, IsStored}
+use Rattle.cert_work.specs.declared.wants.Wants.{Wants}
+use Rattle.cert_work.specs.Work.{HasWord, IsAt, IsBelow, IsStored, IsTaker}
 use Rattle.cert_work.proofs.Growing.{cites_kept, cites_less}
 use Rattle.cert_work.specs.Held.{IsBelowHeld, IsHeld, IsMeeting}
 use Rattle.cert_work.specs.Rules.{GoesInto, GoesOn, IsAlong, IsPopped, IsPut, one_more}
@@ -93,6 +94,9 @@ module _ (p : LinkedProgram) (t : Node) {old new : Noted} (added : AreAdded p t 
   pub word_kept : (k : Word) (i : ℕ) → HasWord old k i → HasWord new k i
   word_kept k i is = (is.0, cites_kept p t added i _ is.1)
 
+  pub taker_kept : (wants : Wants) (k : Word) (i : ℕ) → IsTaker p t wants old k i → IsTaker p t wants new k i
+  taker_kept wants k i is = record { edge = is.edge; edge_in = is.edge_in; takes = is.takes; put = cites_kept p t added i _ is.put; wanted = is.wanted }
+
   pub below_kept : (k : Word) (i : ℕ) → IsBelow old k i → IsBelow new k i
   below_kept k i is = (is.0, cites_kept p t added i _ is.1)
 
@@ -102,8 +106,9 @@ module _ (p : LinkedProgram) (t : Node) {old new : Noted} (added : AreAdded p t 
   pub stored_kept : (k : Spot) (i : ℕ) → IsStored old k i → IsStored new k i
   stored_kept k i is = (is.0, is.1, is.2, cites_kept p t added i _ is.3)
 
-  pub word_less : (k : Word) (i : ℕ) → i ≤ length old.given → HasWord new k i → HasWord old k i
-  word_less k i low is = (is.0, cites_less p t added i _ low is.1)
+  pub taker_less : (wants : Wants) (k : Word) (i : ℕ) → i ≤ length old.given → IsTaker p t wants new k i → IsTaker p t wants old k i
+  taker_less wants k i low is =
+      record { edge = is.edge; edge_in = is.edge_in; takes = is.takes; put = cites_less p t added i _ low is.put; wanted = is.wanted }
 
   pub below_less : (k : Word) (i : ℕ) → i ≤ length old.given → IsBelow new k i → IsBelow old k i
   below_less k i low is = (is.0, cites_less p t added i _ low is.1)

@@ -1,3 +1,4 @@
+pub mod Wants
 pub mod Added
 pub mod Rules
 pub mod Roads

@@ -1,5 +1,5 @@
 -- The edges and the start nodes of a demand by look-ups.
-use Rattle.std.specs.Prelude.{◌≡◌, ◌↔◌, Some}
+use Rattle.std.specs.Prelude.{◌≡◌, ◌↔◌, List, Some}
 use Rattle.link_rules.specs.Linked.{LinkedProgram}
 use Rattle.link_sites.specs.declared.site.Site.{Site}
 use Rattle.lists.specs.Groups.{found_at}
@@ -29,6 +29,10 @@ IsView v = AreRoads v.linked.now v.target v.roads.now
 -- what holds in the view's program, of its target
 abbrev pub EdgeOf : View → Edge → Type 0
 EdgeOf v e = EdgeIn v.linked.now (about v.target) e.from e.kind e.to
+
+-- all of them that lead from the node
+abbrev pub AreEdgesAt : View → Node → List Edge → Type 0
+AreEdgesAt v n edges = (e : Edge) → Has edges e ↔ ((e.from ≡ n) × EdgeOf v e)
 
 abbrev pub StartOf : View → Site → Node → Type 0
 StartOf v o n = StartIn v.linked.now (about v.target) o n

@@ -17,6 +17,8 @@ use Rattle.cert_rules.specs.declared.line.Side.TheVariants.{Field, Call}
 use Rattle.cert_rules.specs.Given.{Cites, Takes, about}
 use Rattle.cert_rules.specs.Lengths.{cited_length}
 use Rattle.cert_lines.specs.Noted.{IsThere, Noted}
+use Rattle.cert_work.specs.declared.wants.Wants.{Wants}
+use Rattle.cert_work.specs.Wants.{IsWanted}
 
 -- one rule more than so many: in the system of calls none is counted
 abbrev pub one_more : Side → ℕ → ℕ
@@ -55,8 +57,12 @@ abbrev pub IsPut : Noted → ℕ → ℕ → Site → Node → Type 0
 IsPut w i met base n = (side : Side) (o : Site) (x : Entry) (s : StoreAt) → Cites w.given i (At side o x s.arg) → Cites w.given met (Met o base s)
     → GoesInto w (cited_length w.lengths i) side o x s.field n
 
--- what the rules give of the lines up to the number is there
-pub record AreWorked (p : LinkedProgram) (t : Node) (w : Noted) (done : ℕ) : Type 0 where
-  pub along : (i : ℕ) (e : Edge) → i ≤ done → EdgeIn p (about t) e.from e.kind e.to → IsAlong w i e
-  pub popped : (i link : ℕ) (e : Edge) → i ≤ done → link ≤ done → EdgeIn p (about t) e.from e.kind e.to → IsPopped w i link e
-  pub put : (i met : ℕ) (base : Site) (n : Node) → i ≤ done → met ≤ done → StartIn p (about t) base n → IsPut w i met base n
+-- if the line put an object somewhere, it is followed there
+abbrev pub IsFollowed : Wants → Noted → ℕ → Type 0
+IsFollowed wants w i = (side : Side) (o : Site) (x : Entry) (n : Node) → Cites w.given i (At side o x n) → IsWanted wants o n
+
+-- what the rules give of the lines up to the number is there, as far as objects are followed
+pub record AreWorked (p : LinkedProgram) (t : Node) (wants : Wants) (w : Noted) (done : ℕ) : Type 0 where
+  pub along : (i : ℕ) (e : Edge) → i ≤ done → IsFollowed wants w i → EdgeIn p (about t) e.from e.kind e.to → IsAlong w i e
+  pub popped : (i link : ℕ) (e : Edge) → i ≤ done → link ≤ done → IsFollowed wants w i → EdgeIn p (about t) e.from e.kind e.to → IsPopped w i link e
+  pub put : (i met : ℕ) (base : Site) (n : Node) → i ≤ done → met ≤ done → IsFollowed wants w i → StartIn p (about t) base n → IsPut w i met base n

@@ -9,7 +9,9 @@ use Rattle.spds_rules.specs.declared.store.StoreAt.{StoreAt}
 use Rattle.cert_rules.specs.declared.fact.Entry.{Entry}
 use Rattle.cert_rules.specs.declared.fact.Fact.TheVariants.{At, Link, Met}
 use Rattle.cert_rules.specs.declared.line.Side.{Side}
-use Rattle.cert_rules.specs.Given.{Cites}
+use Rattle.spds_rules.specs.declared.edge.Edge.{Edge}
+use Rattle.spds_rules.specs.Demand.{EdgeIn}
+use Rattle.cert_rules.specs.Given.{Cites, Takes, about}
 use Rattle.cert_lines.specs.contracts.keys.SpotPartialEq.TheImpl as spot
 use Rattle.cert_lines.specs.contracts.keys.WordPartialEq.TheImpl as word
 use Rattle.cert_lines.specs.declared.keys.Spot.{Spot}
@@ -17,8 +19,10 @@ use Rattle.cert_lines.specs.declared.keys.Word.{Word}
 use Rattle.cert_lines.specs.Noted.{Noted}
 use Rattle.cert_work.specs.declared.held.Held.{Held}
 use Rattle.cert_work.specs.declared.roads.View.{View}
+use Rattle.cert_work.specs.declared.wants.Wants.{Wants}
 use Rattle.cert_work.specs.declared.work.Work.{Work}
 use Rattle.cert_work.specs.Rules.{AreWorked}
+use Rattle.cert_work.specs.Wants.{IsWanted}
 
 -- the words under which it is there
 abbrev pub word_of : Held → Word
@@ -44,18 +48,26 @@ IsAt w k i = (side : Side) × (x : Entry) × Cites w.given i (At side k.site x k
 abbrev pub IsStored : Noted → Spot → ℕ → Type 0
 IsStored w k i = (base : Site) × (s : StoreAt) × (s.arg ≡ k.node) × Cites w.given i (Met k.site base s)
 
+-- it put an object of the word where it is followed, and where an edge takes the first letter of the word off
+pub record IsTaker (p : LinkedProgram) (t : Node) (wants : Wants) (w : Noted) (k : Word) (i : ℕ) : Type 0 where
+  pub edge : Edge
+  pub edge_in : EdgeIn p (about t) edge.from edge.kind edge.to
+  pub takes : Takes k.side k.entry edge.kind
+  pub put : Cites w.given i (At k.side k.site k.entry edge.from)
+  pub wanted : IsWanted wants k.site edge.from
+
 -- the lines that were gone through, by what they are looked for by
 pub record AreFiled (w : Noted) (k : Work) : Type 0 where
-  pub takers : (x : Word) (i : ℕ) → Has (found_at word.eq-value.it k.takers x) i ↔ ((i ≤ k.done) × HasWord w x i)
   pub links : (x : Word) (i : ℕ) → Has (found_at word.eq-value.it k.links x) i ↔ ((i ≤ k.done) × IsBelow w x i)
   pub spots : (x : Spot) (i : ℕ) → Has (found_at spot.eq-value.it k.spots x) i ↔ ((i ≤ k.done) × IsAt w x i)
   pub mets : (x : Spot) (i : ℕ) → Has (found_at spot.eq-value.it k.mets x) i ↔ ((i ≤ k.done) × IsStored w x i)
 
--- of the lines that were gone through, what the rules give is there
-pub record IsWork (p : LinkedProgram) (t : Node) (k : Work) : Type 0 where
+-- of the lines that were gone through, what the rules give is there, as far as objects are followed
+pub record IsWork (p : LinkedProgram) (t : Node) (wants : Wants) (k : Work) : Type 0 where
   pub within : k.done ≤ length k.written.given
   pub filed : AreFiled k.written k
-  pub worked : AreWorked p t k.written k.done
+  pub takers : (x : Word) (i : ℕ) → Has (found_at word.eq-value.it k.takers x) i ↔ ((i ≤ k.done) × IsTaker p t wants k.written x i)
+  pub worked : AreWorked p t wants k.written k.done
 
 abbrev pub IsWorkOf : View → Work → Type 0
-IsWorkOf v k = IsWork v.linked.now v.target k
+IsWorkOf v k = IsWork v.linked.now v.target v.wants.now k

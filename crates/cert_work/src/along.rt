@@ -9,7 +9,7 @@ ghost use Rattle.cert_rules.specs.declared.line.Side.TheVariants.{Call as OfCall
 ghost use Rattle.cert_rules.specs.Given.{Keeps};
 ghost use Rattle.cert_lines.specs.Noted.{IsThere};
 ghost use Rattle.cert_work.specs.Held.{IsHeld};
-ghost use Rattle.cert_work.specs.Roads.{AreAddedIn, EdgeOf, IsView};
+ghost use Rattle.cert_work.specs.Roads.{AreAddedIn, AreEdgesAt, EdgeOf};
 ghost use Rattle.cert_work.specs.Rules.{GoesOn, IsAlong, one_more};
 
 use super::adding::add;
@@ -256,13 +256,17 @@ pub(crate) fn along(
 }
 
 /// Goes on along each edge from where the object is.
-pub(crate) fn along_all(view: &View<'_>, written: &mut Written, held: Held) -> Result<(), NoMemory>
-    requires view { IsView view.now }
+pub(crate) fn along_all(
+    view: &View<'_>,
+    written: &mut Written,
+    held: Held,
+    edges: &[Edge],
+) -> Result<(), NoMemory>
+    requires edges { AreEdgesAt view.now held.node edges.now }
     requires held { IsHeld written.old held }
     ensures added { OnOk result (AreAddedIn view.now written.old written.new) }
     ensures there { OnOk result ((e : AnyEdge) → EdgeOf view.now e → IsAlong written.new held.number e) }
 {
-    let edges = view.edges(held.node);
     for edge in edges {
         along(view, written, held, *edge)?;
     }

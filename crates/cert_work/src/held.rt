@@ -41,6 +41,20 @@ pub(crate) struct Meeting {
 }
 
 impl Held {
+    /// Of these parts.
+    pub(crate) fn new(number: u32, word: Word, node: Node, length: u32) -> Self
+        ensures { result ≡ record { number = number; side = word.side; site = word.site; entry = word.entry; node = node; length = length } }
+    {
+        Held {
+            number,
+            side: word.side,
+            site: word.site,
+            entry: word.entry,
+            node,
+            length,
+        }
+    }
+
     /// The words under which the object is there.
     pub(crate) fn word(self) -> Word
         ensures { result ≡ word_of self }
@@ -59,6 +73,42 @@ impl Held {
         Spot {
             site: self.site,
             node: self.node,
+        }
+    }
+}
+
+impl Below {
+    /// Of these parts.
+    pub(crate) fn new(number: u32, entry: Entry, length: u32) -> Self
+        ensures { result ≡ record { number = number; entry = entry; length = length } }
+    {
+        Below {
+            number,
+            entry,
+            length,
+        }
+    }
+}
+
+impl Meeting {
+    /// Of these parts.
+    pub(crate) fn new(number: u32, base: Site, store: StoreAt) -> Self
+        ensures { result ≡ record { number = number; base = base; store = store } }
+    {
+        Meeting {
+            number,
+            base,
+            store,
+        }
+    }
+
+    /// Where an object of the site has to be.
+    pub(crate) fn spot(self, object: Site) -> Spot
+        ensures { result ≡ record { site = object; node = self.store.arg } }
+    {
+        Spot {
+            site: object,
+            node: self.store.arg,
         }
     }
 }

@@ -9,9 +9,11 @@ mod popping;
 mod putting;
 mod roads;
 mod starts;
+mod wants;
 mod work;
 
 pub use adding::{add, number_of};
 pub use roads::{Roads, View};
 pub use starts::start_all;
+pub use wants::Wants;
 pub use work::{Work, nothing, work_off};

@@ -8,7 +8,7 @@ ghost use Rattle.cert_rules.specs.declared.fact.Fact.TheVariants.{Link, Met};
 ghost use Rattle.cert_rules.specs.Given.{Cites};
 ghost use Rattle.cert_rules.specs.Lengths.{cited_length};
 ghost use Rattle.cert_work.specs.Held.{IsHeld};
-ghost use Rattle.cert_work.specs.Roads.{AreAddedIn, EdgeOf, IsView, StartOf};
+ghost use Rattle.cert_work.specs.Roads.{AreAddedIn, AreEdgesAt, EdgeOf, IsView, StartOf};
 ghost use Rattle.cert_work.specs.Rules.{IsPopped, IsPut};
 ghost use Rattle.cert_work.specs.Work.{HasWord, IsAt, IsBelow, IsStored, spot_of, word_of};
 
@@ -18,17 +18,24 @@ use super::putting::put_all;
 use super::roads::View;
 use cert_lines::{Spot, Word, Written};
 use jim_ast::NoMemory;
+use spds_rules::Edge;
 
 // With a line that gives what stands below its first letter.
-fn pop_link(view: &View<'_>, written: &mut Written, held: Held, link: u32) -> Result<(), NoMemory>
-    requires view { IsView view.now }
+fn pop_link(
+    view: &View<'_>,
+    written: &mut Written,
+    held: Held,
+    edges: &[Edge],
+    link: u32,
+) -> Result<(), NoMemory>
+    requires edges { AreEdgesAt view.now held.node edges.now }
     requires held { IsHeld written.old held }
     requires link { IsBelow written.old (word_of held) link }
     ensures added { OnOk result (AreAddedIn view.now written.old written.new) }
     ensures there { OnOk result ((e : AnyEdge) → EdgeOf view.now e → IsPopped written.new held.number link e) }
 {
     let below = below_under(written, link, held.word());
-    pop_all(view, written, held, below)?;
+    pop_all(view, written, held, below, edges)?;
     Ok(())
 }
 
@@ -37,16 +44,17 @@ pub(crate) fn pop_links(
     view: &View<'_>,
     written: &mut Written,
     held: Held,
+    edges: &[Edge],
     links: &[u32],
 ) -> Result<(), NoMemory>
-    requires view { IsView view.now }
+    requires edges { AreEdgesAt view.now held.node edges.now }
     requires held { IsHeld written.old held }
     requires links { (i : ℕ) → Has links.now i → IsBelow written.old (word_of held) i }
     ensures added { OnOk result (AreAddedIn view.now written.old written.new) }
     ensures there { OnOk result ((i : ℕ) → Has links.now i → (e : AnyEdge) → EdgeOf view.now e → IsPopped written.new held.number i e) }
 {
     for link in links {
-        pop_link(view, written, held, *link)?;
+        pop_link(view, written, held, edges, *link)?;
     }
     Ok(())
 }
@@ -67,7 +75,8 @@ fn pop_taker(
     ensures there { OnOk result ((e : AnyEdge) → EdgeOf view.now e → IsPopped written.new taker below.number e) }
 {
     let held = held_under(written, taker, word);
-    pop_all(view, written, held, below)?;
+    let edges = view.edges(held.node);
+    pop_all(view, written, held, below, edges)?;
     Ok(())
 }
 

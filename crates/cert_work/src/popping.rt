@@ -1,11 +1,12 @@
 //! Letters are taken off.
 ghost use Rattle.std.specs.Prelude.{◌≡◌, ◌↔◌, ◌+◌, IsTrue, OnOk};
+ghost use Rattle.lists.specs.Lists.{Has};
 ghost use Rattle.spds_rules.specs.declared.edge.Edge.{Edge as AnyEdge};
 ghost use Rattle.cert_rules.specs.declared.fact.Fact.TheVariants.{At};
 ghost use Rattle.cert_rules.specs.Given.{Takes};
 ghost use Rattle.cert_lines.specs.Noted.{IsThere};
 ghost use Rattle.cert_work.specs.Held.{IsBelowHeld, IsHeld};
-ghost use Rattle.cert_work.specs.Roads.{AreAddedIn, EdgeOf, IsView};
+ghost use Rattle.cert_work.specs.Roads.{AreAddedIn, AreEdgesAt, EdgeOf};
 ghost use Rattle.cert_work.specs.Rules.{IsPopped, one_more};
 
 use super::adding::add;
@@ -83,20 +84,33 @@ fn pop_if(
     Ok(())
 }
 
+/// Whether one of the edges takes the first letter off.
+pub(crate) fn is_taken(held: Held, edges: &[Edge]) -> bool
+    ensures yes { IsTrue result → (e : AnyEdge) × Has edges.now e × Takes held.side held.entry e.kind }
+    ensures no { (e : AnyEdge) → Has edges.now e → Takes held.side held.entry e.kind → IsTrue result }
+{
+    for edge in edges {
+        if takes(held.side, held.entry, edge.kind) {
+            return true;
+        }
+    }
+    false
+}
+
 /// Goes on along each edge that takes the first letter off.
 pub(crate) fn pop_all(
     view: &View<'_>,
     written: &mut Written,
     held: Held,
     below: Below,
+    edges: &[Edge],
 ) -> Result<(), NoMemory>
-    requires view { IsView view.now }
+    requires edges { AreEdgesAt view.now held.node edges.now }
     requires held { IsHeld written.old held }
     requires below { IsBelowHeld written.old held below }
     ensures added { OnOk result (AreAddedIn view.now written.old written.new) }
     ensures there { OnOk result ((e : AnyEdge) → EdgeOf view.now e → IsPopped written.new held.number below.number e) }
 {
-    let edges = view.edges(held.node);
     for edge in edges {
         pop_if(view, written, held, below, *edge)?;
     }

@@ -1,5 +1,5 @@
 //! The edges and the start nodes of a demand by look-ups.
-ghost use Rattle.std.specs.Prelude.{◌≡◌, ◌↔◌, ◌⊎◌, IfOk, OnOk};
+ghost use Rattle.std.specs.Prelude.{◌≡◌, ◌↔◌, ◌⊎◌, IfOk, IsTrue, OnOk};
 ghost use Rattle.lists.specs.Lists.{Has};
 ghost use Rattle.link_sites.specs.declared.site.Site.{Site as AnySite};
 ghost use Rattle.spds_rules.specs.declared.edge.Edge.{Edge as AnyEdge};
@@ -12,8 +12,10 @@ ghost use Rattle.lists.specs.Groups.{found_at};
 ghost use Rattle.cert_lines.specs.contracts.keys.OriginPartialEq.TheImpl as of_origin;
 ghost use Rattle.cert_lines.specs.declared.keys.Origin.{Origin as AnyOrigin};
 ghost use Rattle.demand_set.specs.Demands.{IsDemandOf};
-ghost use Rattle.cert_work.specs.Roads.{AreRoads, IsView};
+ghost use Rattle.cert_work.specs.Roads.{AreEdgesAt, AreRoads, IsView, StartOf};
+ghost use Rattle.cert_work.specs.Wants.{IsWanted};
 
+use super::wants::Wants;
 use cert_lines::{Files, Origin};
 use demand_set::Demand;
 use jim_ast::NoMemory;
@@ -89,19 +91,20 @@ impl Roads {
     }
 }
 
-/// A program, the node that is asked for, and the roads of what it demands.
+/// A program, the node that is asked for, the roads of what it demands, and where objects are followed.
 #[derive(Drop)]
 pub struct View<'a> {
     pub linked: &'a Linked,
     pub target: Node,
     pub roads: &'a Roads,
+    pub wants: &'a Wants,
 }
 
 impl<'a> View<'a> {
     /// The demanded edges from the node.
     pub fn edges(&self, node: Node) -> &[Edge]
         requires { IsView self.now }
-        ensures { (e : AnyEdge) → Has result.now e ↔ ((e.from ≡ node) × EdgeIn self.now.linked.now (about self.now.target) e.from e.kind e.to) }
+        ensures { AreEdgesAt self.now node result.now }
     {
         self.roads.edges.at(node)
     }
@@ -112,5 +115,20 @@ impl<'a> View<'a> {
         ensures { (n : AnyNode) → Has result.now n ↔ StartIn self.now.linked.now (about self.now.target) site n }
     {
         self.roads.starts.at(Origin { site })
+    }
+
+    /// Whether objects of the one site are followed where those of the other start.
+    pub fn is_wanted_in(&self, object: Site, base: Site) -> bool
+        requires { IsView self.now }
+        ensures yes { IsTrue result → (n : AnyNode) × StartOf self.now base n × IsWanted self.now.wants.now object n }
+        ensures no { (n : AnyNode) → StartOf self.now base n → IsWanted self.now.wants.now object n → IsTrue result }
+    {
+        let nodes = self.starts(base);
+        for node in nodes {
+            if self.wants.has(object, *node) {
+                return true;
+            }
+        }
+        false
     }
 }

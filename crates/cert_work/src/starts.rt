@@ -10,6 +10,7 @@ ghost use Rattle.cert_rules.specs.declared.line.Side.{Side as AnySide};
 ghost use Rattle.cert_rules.specs.Given.{about};
 ghost use Rattle.cert_lines.specs.Noted.{IsThere};
 ghost use Rattle.cert_work.specs.Roads.{AreAddedIn, StartOf};
+ghost use Rattle.cert_work.specs.Wants.{IsWanted};
 
 use super::adding::add;
 use super::roads::View;
@@ -58,11 +59,11 @@ fn start_both(
     Ok(())
 }
 
-// If the demanded node is a start node.
+// If the demanded node is a start node, and they are followed there.
 fn start(view: &View<'_>, written: &mut Written, node: Node) -> Result<(), NoMemory>
     requires { Demanded view.now.linked.now (about view.now.target) node }
     ensures added { OnOk result (AreAddedIn view.now written.old written.new) }
-    ensures there { OnOk result ((side : AnySide) (o : AnySite) → StartOf view.now o node → IsThere written.new (At side o Base node) 0) }
+    ensures there { OnOk result ((side : AnySide) (o : AnySite) → StartOf view.now o node → IsWanted view.now.wants.now o node → IsThere written.new (At side o Base node) 0) }
 {
     if !is_node(view.linked, node) {
         return Ok(());
@@ -70,15 +71,19 @@ fn start(view: &View<'_>, written: &mut Written, node: Node) -> Result<(), NoMem
     let Some(site) = site_of(node) else {
         return Ok(());
     };
+    if !view.wants.has(site, node) {
+        return Ok(());
+    }
     start_both(view, written, site, node)?;
     Ok(())
 }
 
-/// Objects are at the start nodes among the demanded nodes.
+/// Objects are at the start nodes among the demanded nodes, as far as they are followed there.
 pub fn start_all(view: &View<'_>, written: &mut Written, nodes: &[Node]) -> Result<(), NoMemory>
     requires { (n : AnyNode) → Has nodes.now n → Demanded view.now.linked.now (about view.now.target) n }
     ensures added { OnOk result (AreAddedIn view.now written.old written.new) }
-    ensures there { OnOk result ((side : AnySide) (o : AnySite) (n : AnyNode) → Has nodes.now n → StartOf view.now o n → IsThere written.new (At side o Base n) 0) }
+    ensures there { OnOk result ((side : AnySide) (o : AnySite) (n : AnyNode) → Has nodes.now n → StartOf view.now o n → IsWanted view.now.wants.now o n
+        → IsThere written.new (At side o Base n) 0) }
 {
     for node in nodes {
         start(view, written, *node)?;

@@ -5,20 +5,23 @@ ghost use Rattle.link_sites.specs.declared.site.Site.{Site as AnySite};
 ghost use Rattle.spds_rules.specs.declared.edge.Edge.{Edge as AnyEdge};
 ghost use Rattle.spds_rules.specs.declared.node.Node.{Node as AnyNode};
 ghost use Rattle.cert_rules.specs.declared.fact.Fact.TheVariants.{At, Link, Met};
-ghost use Rattle.cert_rules.specs.Given.{Cites};
+ghost use Rattle.cert_rules.specs.Given.{Cites, Takes};
 ghost use Rattle.cert_rules.specs.Lengths.{cited_length};
 ghost use Rattle.cert_work.specs.Held.{IsHeld};
-ghost use Rattle.cert_work.specs.Roads.{AreAddedIn, EdgeOf, IsView, StartOf};
+ghost use Rattle.cert_work.specs.Roads.{AreAddedIn, AreEdgesAt, EdgeOf, IsView, StartOf};
 ghost use Rattle.cert_work.specs.Rules.{IsAlong, IsPopped, IsPut};
+ghost use Rattle.cert_work.specs.Wants.{IsWanted};
 ghost use Rattle.cert_work.specs.Work.{AreFiled, IsAt, IsBelow, IsStored, IsWorkOf, spot_of, word_of};
 
 use super::along::along_all;
 use super::held::{Below, Held, Meeting, below_under, held_at};
 use super::pairs::{pop_links, pop_takers, put_mets, put_objects};
+use super::popping::is_taken;
 use super::roads::View;
 use cert_lines::{Files, Spot, Word, Written};
 use cert_rules::{Entry, Fact};
 use jim_ast::NoMemory;
+use spds_rules::Edge;
 use std::alloc::Global;
 
 /// Lines, the first of which were gone through. Files tell these, by their numbers from 1, by what they are looked for by.
@@ -72,11 +75,13 @@ fn follow(
     view: &View<'_>,
     written: &mut Written,
     held: Held,
+    edges: &[Edge],
     links: &[u32],
     mets: &[u32],
 ) -> Result<(), NoMemory>
     requires view { IsView view.now }
     requires held { IsHeld written.old held }
+    requires edges { AreEdgesAt view.now held.node edges.now }
     requires links { (i : ℕ) → Has links.now i → IsBelow written.old (word_of held) i }
     requires mets { (i : ℕ) → Has mets.now i → IsStored written.old (spot_of held) i }
     ensures added { OnOk result (AreAddedIn view.now written.old written.new) }
@@ -84,9 +89,68 @@ fn follow(
     ensures popped { OnOk result ((i : ℕ) → Has links.now i → (e : AnyEdge) → EdgeOf view.now e → IsPopped written.new held.number i e) }
     ensures put { OnOk result ((i : ℕ) → Has mets.now i → (base : AnySite) (n : AnyNode) → StartOf view.now base n → IsPut written.new held.number i base n) }
 {
-    along_all(view, written, held)?;
-    pop_links(view, written, held, links)?;
+    along_all(view, written, held, edges)?;
+    pop_links(view, written, held, edges, links)?;
     put_mets(view, written, held, mets)?;
+    Ok(())
+}
+
+// Goes through a line that put an object where an edge takes the first letter of its word off.
+fn work_taker(view: &View<'_>, work: &mut Work, held: Held, edges: &[Edge]) -> Result<(), NoMemory>
+    requires view { IsView view.now }
+    requires work { IsWorkOf view.now work.old }
+    requires held { IsHeld work.old.written held }
+    requires number { held.number ≡ work.old.done + 1 }
+    requires edges { AreEdgesAt view.now held.node edges.now }
+    requires wanted { IsWanted view.now.wants.now held.site held.node }
+    requires taken { (e : AnyEdge) × Has edges.now e × Takes held.side held.entry e.kind }
+    ensures added { OnOk result (AreAddedIn view.now work.old.written work.new.written) }
+    ensures work { OnOk result (IsWorkOf view.now work.new) }
+    ensures done { OnOk result (work.new.done ≡ work.old.done + 1) }
+{
+    let word = held.word();
+    let spot = held.spot();
+    let links = work.links.at(word);
+    let mets = work.mets.at(spot);
+    follow(view, &mut work.written, held, edges, links, mets)?;
+    work.takers.add(word, held.number)?;
+    work.spots.add(spot, held.number)?;
+    work.done = held.number;
+    Ok(())
+}
+
+// Goes through one that put it where none does.
+fn work_other(view: &View<'_>, work: &mut Work, held: Held, edges: &[Edge]) -> Result<(), NoMemory>
+    requires view { IsView view.now }
+    requires work { IsWorkOf view.now work.old }
+    requires held { IsHeld work.old.written held }
+    requires number { held.number ≡ work.old.done + 1 }
+    requires edges { AreEdgesAt view.now held.node edges.now }
+    requires untaken { (e : AnyEdge) → Has edges.now e → Takes held.side held.entry e.kind → ⊥ }
+    ensures added { OnOk result (AreAddedIn view.now work.old.written work.new.written) }
+    ensures work { OnOk result (IsWorkOf view.now work.new) }
+    ensures done { OnOk result (work.new.done ≡ work.old.done + 1) }
+{
+    let spot = held.spot();
+    let mets = work.mets.at(spot);
+    follow(view, &mut work.written, held, edges, &[], mets)?;
+    work.spots.add(spot, held.number)?;
+    work.done = held.number;
+    Ok(())
+}
+
+// Goes past one that put it where it isn't followed.
+fn work_past(view: &View<'_>, work: &mut Work, held: Held) -> Result<(), NoMemory>
+    requires work { IsWorkOf view.now work.old }
+    requires held { IsHeld work.old.written held }
+    requires number { held.number ≡ work.old.done + 1 }
+    requires unwanted { IsWanted view.now.wants.now held.site held.node → ⊥ }
+    ensures added { OnOk result (AreAddedIn view.now work.old.written work.new.written) }
+    ensures work { OnOk result (IsWorkOf view.now work.new) }
+    ensures done { OnOk result (work.new.done ≡ work.old.done + 1) }
+{
+    work.spots.add(held.spot(), held.number)?;
+    work.done = held.number;
     Ok(())
 }
 
@@ -100,15 +164,15 @@ fn work_at(view: &View<'_>, work: &mut Work, held: Held) -> Result<(), NoMemory>
     ensures work { OnOk result (IsWorkOf view.now work.new) }
     ensures done { OnOk result (work.new.done ≡ work.old.done + 1) }
 {
-    let word = held.word();
-    let spot = held.spot();
-    let links = work.links.at(word);
-    let mets = work.mets.at(spot);
-    follow(view, &mut work.written, held, links, mets)?;
-    work.takers.add(word, held.number)?;
-    work.spots.add(spot, held.number)?;
-    work.done = held.number;
-    Ok(())
+    if !view.wants.has(held.site, held.node) {
+        return work_past(view, work, held);
+    }
+    let edges = view.edges(held.node);
+    if is_taken(held, edges) {
+        work_taker(view, work, held, edges)
+    } else {
+        work_other(view, work, held, edges)
+    }
 }
 
 // Goes through a line that gave what stands below the first letter of a word.
@@ -166,15 +230,8 @@ fn work_next(view: &View<'_>, work: &mut Work) -> Result<(), NoMemory>
             entry,
             node,
         } => {
-            let held = Held {
-                number,
-                side,
-                site,
-                entry,
-                node,
-                length,
-            };
-            work_at(view, work, held)
+            let word = Word { side, site, entry };
+            work_at(view, work, Held::new(number, word, node, length))
         }
         Fact::Link {
             side,
@@ -182,28 +239,16 @@ fn work_next(view: &View<'_>, work: &mut Work) -> Result<(), NoMemory>
             entry,
             below,
         } => {
-            let below = Below {
-                number,
-                entry: below,
-                length,
-            };
-            work_link(view, work, Word { side, site, entry }, below)
+            let word = Word { side, site, entry };
+            work_link(view, work, word, Below::new(number, below, length))
         }
         Fact::Met {
             object,
             base,
             store,
         } => {
-            let meeting = Meeting {
-                number,
-                base,
-                store,
-            };
-            let spot = Spot {
-                site: object,
-                node: store.arg,
-            };
-            work_met(view, work, spot, meeting)
+            let meeting = Meeting::new(number, base, store);
+            work_met(view, work, meeting.spot(object), meeting)
         }
         Fact::Shared { .. } => {
             work.done = number;

@@ -18,10 +18,11 @@ use demand_set::{Demand, DemandError, Reach, demand};
 use jim_ast::NoMemory;
 use link_program::Linked;
 use link_sites::Site;
-use query_core::{QueryError, answer_sites, place};
+use query_core::{Hands, QueryError, answer_sites, place};
 use spds_rules::Node;
-use spds_solve::solve;
-use std::alloc::Global;
+use spds_solve::Gate;
+use std::marker::Sync;
+use std::thread::Threads;
 
 // The sites of an answer, in the order in which they are printed, and the evidence for each.
 #[derive(Drop)]
@@ -31,8 +32,8 @@ struct Answered {
 }
 
 // What the demand of a node says.
-fn shown(
-    alloc: Global,
+fn shown<R: Threads + Sync, G: Gate>(
+    hands: &Hands<'_, R, G>,
     linked: &Linked,
     demand: &Demand,
     target: Node,
@@ -44,24 +45,29 @@ fn shown(
     ensures evidence { IfOk result (λ a. IsEvidence linked.now target a.evidence) }
 {
     let number = demand.number_of(target).unwrap();
-    let solved = solve(alloc, linked, demand)?;
-    let sites = answer_sites(alloc, demand, &solved, number)?;
-    let evidence = Evidence::of(alloc, linked, demand, &solved, target)?;
+    let solved = hands.solve(linked, demand)?;
+    let sites = answer_sites(hands.alloc, demand, &solved, number)?;
+    let evidence = Evidence::of(hands.alloc, linked, demand, &solved, target)?;
     Ok(Answered { sites, evidence })
 }
 
 // The reply over the demand of a node.
-fn told(alloc: Global, linked: &Linked, demand: &Demand, target: Node) -> Result<Vec<u8>, NoMemory>
+fn told<R: Threads + Sync, G: Gate>(
+    hands: &Hands<'_, R, G>,
+    linked: &Linked,
+    demand: &Demand,
+    target: Node,
+) -> Result<Vec<u8>, NoMemory>
     requires well { IsWellLinked linked.now }
     requires target { IsQueryNode linked.now target }
     requires demand { IsDemandOf linked.now (about target) demand.now }
     requires few { length demand.now.nodes < 2 ^ 32 }
     ensures { IfOk result (λ text. IsAnswerTold linked.now (length demand.now.nodes) target text.items) }
 {
-    let answered = shown(alloc, linked, demand, target)?;
+    let answered = shown(hands, linked, demand, target)?;
     let demanded = demand.nodes().len() as u32;
     explain_text(
-        alloc,
+        hands.alloc,
         linked,
         &answered.evidence,
         target,
@@ -71,8 +77,8 @@ fn told(alloc: Global, linked: &Linked, demand: &Demand, target: Node) -> Result
 }
 
 // The reply about a node.
-fn told_within(
-    alloc: Global,
+fn told_within<R: Threads + Sync, G: Gate>(
+    hands: &Hands<'_, R, G>,
     linked: &Linked,
     target: Node,
     budget: u32,
@@ -84,8 +90,8 @@ fn told_within(
     ensures beyond { IsOver linked.now (target ∷ []) budget → IsErr result }
     ensures enough { (spent : ℕ) → IsAffordable linked.now (target ∷ []) budget → result ≢ Err (DemandError.OverBudget spent) }
 {
-    match demand(alloc, linked, &[target], Reach::Plain, budget) {
-        Ok(demand) => Ok(told(alloc, linked, &demand, target)?),
+    match demand(hands.alloc, linked, &[target], Reach::Plain, budget) {
+        Ok(demand) => Ok(told(hands, linked, &demand, target)?),
         Err(error) => Err(error),
     }
 }
@@ -97,8 +103,8 @@ fn told_within(
 ///
 /// The error is `NoSuchPlace` exactly where a part of the place isn't there, `OverBudget` exactly where more nodes are demanded than `budget`, and else
 /// `NoMemory`.
-pub fn explained(
-    alloc: Global,
+pub fn explained<R: Threads + Sync, G: Gate>(
+    hands: &Hands<'_, R, G>,
     linked: &Linked,
     method: &str,
     index: u32,
@@ -115,5 +121,5 @@ pub fn explained(
         → result ≢ Err (QueryError.OverBudget spent) }
 {
     let node = place(linked, method, index, local)?;
-    Ok(told_within(alloc, linked, node, budget)?)
+    Ok(told_within(hands, linked, node, budget)?)
 }

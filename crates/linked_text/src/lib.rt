@@ -5,4 +5,5 @@ mod reading;
 mod rows;
 pub mod spelled;
 
+pub use reading::linked_of;
 pub use rows::{Rows, first_wrong, told_of};

@@ -9,15 +9,17 @@ ghost use Rattle.spds_rules.specs.Answers.{AreAnswered, AreSites};
 ghost use Rattle.spds_rules.specs.Nodes.{IsNode};
 ghost use Rattle.demand_set.specs.Demands.{DemandParts, IsDemandOf};
 ghost use Rattle.spds_solve.specs.Solved.{IsSolved};
+ghost use Rattle.query_core.specs.Solvers.{SolvesDemands, TakesDemands};
 ghost use Rattle.query_core.specs.Answers.{IsAffordable, IsOver, asked};
 ghost use Rattle.query_core.specs.Sought.{AreFound, IsNumbered, IsPosed, IsSought, asked_of, nodes_of};
 
+use super::hands::Solver;
 use demand_set::{Demand, DemandError, Reach, demand};
 use jim_ast::{List, NoMemory};
 use link_program::Linked;
 use link_sites::Site;
 use spds_rules::Node;
-use spds_solve::{Solved, solve};
+use spds_solve::Solved;
 use std::alloc::Global;
 
 /// The sites that were sought, in the order in which they are printed, and how many nodes were demanded.
@@ -92,13 +94,15 @@ fn second_number(demand: &Demand, second: Option<Node>) -> Option<u32>
 }
 
 // The same of a demand that isn't solved yet.
-fn solved_sites(
-    alloc: Global,
+fn solved_sites<F: Fn(&Linked, &Demand) -> Result<Solved, NoMemory>>(
+    solver: &Solver<'_, F>,
     linked: &Linked,
     demand: &Demand,
     first: Node,
     second: Option<Node>,
 ) -> Result<Vec<Site>, NoMemory>
+    requires takes { TakesDemands (F.pre solver.now.solve.now) }
+    requires gives { SolvesDemands (F.post solver.now.solve.now) }
     requires well { IsWellLinked linked.now }
     requires demand { IsDemandOf linked.now (asked_of first second) demand.now }
     requires few { length demand.now.sites < 2 ^ 32 }
@@ -106,27 +110,30 @@ fn solved_sites(
 {
     let first_number = demand.number_of(first).unwrap();
     let second_number = second_number(demand, second);
-    match solve(alloc, linked, demand) {
-        Ok(solved) => sought_sites(alloc, demand, &solved, first_number, second_number),
+    let solve = solver.solve;
+    match solve(linked, demand) {
+        Ok(solved) => sought_sites(solver.alloc, demand, &solved, first_number, second_number),
         Err(error) => Err(error),
     }
 }
 
 // The same with the size of the demand.
-fn found_over(
-    alloc: Global,
+fn found_over<F: Fn(&Linked, &Demand) -> Result<Solved, NoMemory>>(
+    solver: &Solver<'_, F>,
     linked: &Linked,
     demand: &Demand,
     first: Node,
     second: Option<Node>,
 ) -> Result<Found, NoMemory>
+    requires takes { TakesDemands (F.pre solver.now.solve.now) }
+    requires gives { SolvesDemands (F.post solver.now.solve.now) }
     requires well { IsWellLinked linked.now }
     requires demand { IsDemandOf linked.now (asked_of first second) demand.now }
     requires few { length demand.now.nodes < 2 ^ 32 }
     ensures found { IfOk result (λ found. AreFound linked.now first second found.sites found.demanded) }
     ensures size { IfOk result (λ found. found.demanded ≡ length demand.now.nodes) }
 {
-    let sites = solved_sites(alloc, linked, demand, first, second)?;
+    let sites = solved_sites(solver, linked, demand, first, second)?;
     let demanded = demand.nodes().len() as u32;
     Ok(Found {
         sites: List::from_vec(sites),
@@ -158,13 +165,15 @@ fn demand_of(
 
 /// The sites of one node, or those that two of one method share, over the demand of the node or of both, with its size. The error is `OverBudget`
 /// exactly where more nodes are demanded than `budget`, and else `NoMemory`.
-pub(crate) fn find(
-    alloc: Global,
+pub(crate) fn find<F: Fn(&Linked, &Demand) -> Result<Solved, NoMemory>>(
+    solver: &Solver<'_, F>,
     linked: &Linked,
     first: Node,
     second: Option<Node>,
     budget: u32,
 ) -> Result<Found, DemandError>
+    requires takes { TakesDemands (F.pre solver.now.solve.now) }
+    requires gives { SolvesDemands (F.post solver.now.solve.now) }
     requires well { IsWellLinked linked.now }
     requires nodes { (n : ANode) → Has (nodes_of first second) n → IsNode linked.now n }
     ensures found { IfOk result (λ found. AreFound linked.now first second found.sites found.demanded) }
@@ -174,8 +183,8 @@ pub(crate) fn find(
     ensures beyond { IsOver linked.now (nodes_of first second) budget → IsErr result }
     ensures enough { (spent : ℕ) → IsAffordable linked.now (nodes_of first second) budget → result ≢ Err (DemandError.OverBudget spent) }
 {
-    match demand_of(alloc, linked, first, second, budget) {
-        Ok(demand) => Ok(found_over(alloc, linked, &demand, first, second)?),
+    match demand_of(solver.alloc, linked, first, second, budget) {
+        Ok(demand) => Ok(found_over(solver, linked, &demand, first, second)?),
         Err(error) => Err(error),
     }
 }

@@ -1,11 +1,11 @@
 -- A system over nodes and the one over their cells.
-use Rattle.std.proofs.Common.{◌≡◌, ◌↔◌, ◌<◌, ◌≤◌, ◌⊎◌, inl, inr, ℕ, zero, suc, List, [], ◌∷◌, ◌++◌, get_or, length, map, slice_get, Some, refl, sym, ap, ◌∙◌, subst, arith}
+use Rattle.std.proofs.Common.{◌≡◌, ◌↔◌, ◌<◌, ◌≤◌, inl, inr, ℕ, zero, suc, List, [], ◌∷◌, ◌++◌, get_or, length, map, slice_get, Some, refl, sym, ap, ◌∙◌, subst, arith}
 use Rattle.std.proofs.lemmas.Bool.{cases_lt}
 use Rattle.std.proofs.lemmas.Option.{get_or_from_slice_get}
 use Rattle.auto_table.specs.declared.rule.Rule.{Rule}
 use Rattle.auto_table.specs.declared.rule.Rule.TheVariants.{Flow, Push, Pop}
 use Rattle.auto_table.specs.Lists.{Has}
-use Rattle.auto_table.proofs.Places.{slice_get-below, slice_get-there}
+use Rattle.auto_table.proofs.Places.{slice_get-there}
 use Rattle.post_star.specs.declared.bases.BaseStep.{BaseStep}
 use Rattle.post_star.specs.declared.bases.Start.{Start}
 use Rattle.post_star.specs.Derivations.{Derives}
@@ -20,7 +20,7 @@ use Rattle.rule_cells.specs.declared.cells.Cell.{Cell}
 use Rattle.rule_cells.specs.Cells.{AreCells, AreContracted, moved}
 use Rattle.rule_cells.specs.CellRules.{HaveCells, LeadToKept}
 use Rattle.rule_cells.specs.Laws.{Contraction, IsContraction}
-use Rattle.rule_cells.specs.Made.{cell_at, head_at, offset_at, own_cell}
+use Rattle.rule_cells.specs.Made.{head_at, offset_at, own_cell}
 use Rattle.rule_cells.specs.Renamed.{AreNumbered, AreRenamed, number_in, renamed, renamed_start}
 use Rattle.rule_cells.proofs.Carrying.{kept_head}
 use Rattle.rule_cells.proofs.Extending.{contracted_both, derivations_extended, moved_to, moved_weight, ones_without_offset}
@@ -213,6 +213,20 @@ module _ {W : Type 0} {d : Domain W} (l : IsLawful W d) (rules few : List (Rule 
       back x derived =
           let here = (by_number x).1 (subst (λ (k : ℕ). Derives d between begun steps last k word x) (sym (head_number n)) derived) in
           (extended x).1 (x, here, sym (without x (derives_meant l steps few_told here)))
+
+  -- rules between cells weigh one too
+  renamed_weight : (r : Rule W) → weight_of (renamed number r) ≡ weight_of r
+  renamed_weight (Flow from to weight) = refl
+  renamed_weight (Push from to mark weight) = refl
+  renamed_weight (Pop from mark to weight) = refl
+
+  pub cells_weigh_one : (r : Rule W) → Has (map (renamed number) few) r → weight_of r ≡ d.one
+  cells_weigh_one r has =
+      let x = has_mapped (renamed number) few r has in
+      let q = (are x.0).0 x.1 in
+      let one : d.extend (offset (from_of q.0)) (weight_of q.0) ≡ d.one =
+      ap (λ (w : W). d.extend w (weight_of q.0)) (no_offset (from_of q.0)) ∙ ap (d.extend d.one) (ones q.0 q.1) ∙ l.one_extend d.one l.one_meant in
+      ap weight_of x.2 ∙ renamed_weight x.0 ∙ ap weight_of q.3 ∙ moved_weight d head offset q.0 ∙ one
 
   pub have_cells : HaveCells d rules kept numbers (map (renamed number) few)
   have_cells own starts lead steps last n word x = (there own starts lead steps last n word x, back own starts lead steps last n word x)

@@ -1,6 +1,7 @@
 pub mod Carrying
 pub mod Celling
 pub mod Contracting
+pub mod Differing
 pub mod Entering
 pub mod Extending
 pub mod Numbering

@@ -1,4 +1,5 @@
 pub mod Cells
+pub mod Distinct
 pub mod CellRules
 pub mod Entered
 pub mod Forests

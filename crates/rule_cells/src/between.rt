@@ -7,6 +7,7 @@ ghost use Rattle.rule_cells.specs.CellRules.{HaveCells};
 
 use super::cells::cells_of;
 use super::contraction::contract;
+use super::distinct::distinct;
 use super::numbers::{number_heads, renumber};
 use auto_table::{NoMemory, Rule};
 use std::alloc::Global;
@@ -20,7 +21,8 @@ pub struct CellRules<W: Weight> {
 }
 
 /// The cells of so many nodes, by numbers without gaps, and the rules between them. A system over the rules that are given, with starts and rules of its own
-/// that lead to kept nodes, derives at a node what the system between cells derives at the cell of the node. Want of memory is the only refusal.
+/// that lead to kept nodes, derives at a node what the system between cells derives at the cell of the node. Many rules become one between cells, and it
+/// stands once. Want of memory is the only refusal.
 pub fn cell_rules<W: Weight>(
     alloc: Global,
     count: u32,
@@ -37,6 +39,6 @@ pub fn cell_rules<W: Weight>(
     let between = renumber(alloc, &few.rules, &numbers.numbers)?;
     Ok(CellRules {
         cells: numbers.numbers,
-        rules: between,
+        rules: distinct(alloc, &between)?,
     })
 }

@@ -9,6 +9,7 @@
 mod between;
 mod cells;
 mod contraction;
+mod distinct;
 mod entered;
 mod laws;
 mod numbers;

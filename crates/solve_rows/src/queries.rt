@@ -5,7 +5,7 @@ ghost use Rattle.link_rules.specs.WellLinked.{IsWellLinked};
 ghost use Rattle.spds_rules.specs.Demand.{Asked};
 ghost use Rattle.spds_rules.specs.Nodes.{IsNode};
 
-use super::programs::{COPIES, PASSED_ON, THREE_CELLS, TWO_BOXES};
+use super::programs::{COPIES, CROWDED, PASSED_ON, THREE_CELLS, TWO_BOXES};
 use demand_set::{Demand, DemandError, Reach, demand};
 use jim_ast::NoMemory;
 use link_program::Linked;
@@ -14,7 +14,7 @@ use linked_text::spelled::{is_string, node, site};
 use linked_text::{Rows, first_wrong};
 use spds_nodes::is_node;
 use spds_rules::Node;
-use spds_solve::{Met, Solved, solve};
+use spds_solve::{Met, Solved, solve_here};
 use std::alloc::{AllocError, Global};
 use std::test::Fail;
 
@@ -39,6 +39,12 @@ const OF_PASSED_ON: &str =
 
 // The object, as it is made, and its copy in each of four locals share one cell in each kind of system.
 const OF_COPIES: &str = "0.4.l3 | holds 5 2";
+
+// Before the return of `main`. Each object comes to its own box alone, by each of the twelve calls of `set`: the first of these is told. Strings have the marks
+// of calls alone, and none of a common mark.
+const OF_CROWDED: &str = "2.8.l5 | meets 2.2.new 2.0.new 1.2,2.4,3.3; 2.3.new 2.1.new 1.2,2.5,3.3
+2.8.l5 | shares 2.5.l3 2.3.new
+2.8.l5 | shares 2.4.l2 -";
 
 // Whether the meet is this one.
 fn is_meeting(sites: &[Site], met: &Met, text: &str) -> bool {
@@ -155,7 +161,7 @@ fn is_solved(
     requires well { IsWellLinked linked.now }
     requires demanded { (q : Asked) × IsDemandOf linked.now q found.now }
 {
-    match solve(alloc, linked, found) {
+    match solve_here(alloc, linked, found) {
         Ok(solved) => is_found(alloc, found, &solved, target, wanted),
         Err(error) => Err(error),
     }
@@ -195,6 +201,7 @@ fn meets_answers_and_cells(rt: HostRuntime) -> Result<(), Fail> {
         (THREE_CELLS, OF_THREE_CELLS),
         (PASSED_ON, OF_PASSED_ON),
         (COPIES, OF_COPIES),
+        (CROWDED, OF_CROWDED),
     ] {
         assert_eq!(rt; first_wrong(rt.alloc(), text, &Queries, rows)?, None);
     }

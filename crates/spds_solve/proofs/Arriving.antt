@@ -4,7 +4,7 @@ use Rattle.std.proofs.lemmas.Bool.{cases_lt}
 use Rattle.jim_ast.specs.Lists.{Has}
 use Rattle.jim_ast.proofs.Places.{slice_get-below}
 use Rattle.spds_solve.specs.declared.arrivals.Arrival.{Arrival}
-use Rattle.spds_tables.proofs.Lists.{Has-take_more}
+use Rattle.call_work.proofs.Lists.{Has-take_more}
 use Rattle.spds_tables.specs.declared.tables.SiteTables.{SiteTables}
 use Rattle.spds_tables.specs.Tables.{ArrivesAt}
 

@@ -1,17 +1,12 @@
 -- Looks at the tables of all sites.
-use Rattle.std.proofs.Common.{◌≡◌, ℕ, ◌+◌, ◌<◌, ◌↔◌, ◌∷◌, [], Bool, true, IsTrue, List, Some, get_or, length, slice_get, refl, sym, ap, ◌∙◌, subst}
-use Rattle.auto_table.specs.declared.entry.Entry.{Entry}
-use Rattle.auto_table.specs.declared.entry.Entry.TheVariants as entry
-use Rattle.auto_table.specs.Cells.{Cells, IsListed, IsUsed}
-use Rattle.call_side.specs.Words.{Spells}
-use Rattle.call_side.proofs.Spelled.{Holds-entry}
+use Rattle.std.proofs.Common.{◌≡◌, ℕ, ◌+◌, ◌<◌, ◌↔◌, ◌∷◌, Bool, true, IsTrue, List, Option, Some, None, get_or, length, slice_get, refl, sym, ap, ◌∙◌, subst}
+use Rattle.call_work.specs.declared.opening.Opening.{Opening}
+use Rattle.call_work.specs.Openings.{AreOpenings, BeginsBy, opening_of}
 use Rattle.jim_ast.specs.Lists.{Has}
 use Rattle.link_rules.specs.Linked.{LinkedProgram}
 use Rattle.link_sites.specs.declared.site.Site.{Site}
 use Rattle.post_star.proofs.Loops.{EachBefore, each_more}
-use Rattle.post_star.specs.declared.bases.BaseStep.{BaseStep}
-use Rattle.post_star.specs.Readings.{IsSaturated}
-use Rattle.spds_tables.proofs.Lists.{has-read}
+use Rattle.call_work.proofs.Lists.{has-read}
 use Rattle.spds_solve.specs.declared.ends.End.TheVariants.{Arg, Base}
 use Rattle.spds_solve.specs.declared.ends.StoreEnd.{StoreEnd}
 use Rattle.spds_solve.specs.declared.heads.Head.{Head}
@@ -23,7 +18,7 @@ use Rattle.spds_solve.specs.declared.scan.View.{View}
 use Rattle.spds_solve.specs.Ends.{cell_of, ends_in}
 use Rattle.spds_solve.specs.Heads.{Begins, Fit, head_of}
 use Rattle.spds_solve.specs.Known.{IsKnown, IsSeen, Keeps}
-use Rattle.spds_solve.specs.Looks.{AreLooked, CountsAt, IsBaseAt, IsNoted, IsNotedAt, IsNotedCell, IsNotedEnd, IsNotedEntry, IsView}
+use Rattle.spds_solve.specs.Looks.{AreLooked, CountsAt, IsBaseAt, IsNoted, IsNotedAt, IsNotedCell, IsNotedEnd, IsNotedOpening, IsView}
 use Rattle.spds_solve.specs.Mets.{numbers_of}
 use Rattle.spds_solve.specs.Posts.{post_of}
 use Rattle.spds_solve.specs.Searches.{AllSettled, AreStill, AreTaken, IsBaseOf, IsCandidate, IsStill}
@@ -33,15 +28,11 @@ use Rattle.spds_tables.specs.declared.parts.Parts.{Parts}
 use Rattle.spds_tables.specs.declared.tables.SiteTables.{SiteTables}
 use Rattle.spds_tables.specs.Parts.{store_at}
 use Rattle.spds_tables.specs.Systems.{Reaches}
-use Rattle.spds_tables.proofs.Truth.{holds_derives}
-use Rattle.weight_laws.specs.declared.reach.Reach.{Reach}
-use Rattle.weight_laws.specs.Reach.{reach_domain}
 
--- the words that an entry reads begin with its head
-spells_begin : (steps : List BaseStep) (last : ℕ) (t : Cells Reach) (e : Entry) (word : List ℕ) → Spells steps last t e word → Begins (head_of e) word
-spells_begin steps last t (entry.Base b) word s = tt
-spells_begin steps last t (entry.Pushed n m) [] s = cc
-spells_begin steps last t (entry.Pushed n m) (mark ∷ word) s = (word, ap (λ (k : ℕ). k ∷ word) s.1.0)
+-- words begin with the head of their first mark, where it is told
+first_begin : (first : Option ℕ) (word : List ℕ) → BeginsBy first word → Begins (head_of first) word
+first_begin None word b = tt
+first_begin (Some mark) word b = b
 
 -- heads of one word fit
 pub begins_fit : (a b : Head) (word : List ℕ) → Begins a word → Begins b word → Fit a b
@@ -71,8 +62,8 @@ module _ (v : View) (old new : Known) (keeps : Keeps old new) (site : ℕ) where
   pub cell_kept : (head : Head) (cell : ℕ) → IsNotedCell v old site head cell → IsNotedCell v new site head cell
   cell_kept head cell noted at is = end_kept head at (noted at is)
 
-  pub entry_kept : (t : Cells Reach) (e : Entry) → IsNotedEntry v old site t e → IsNotedEntry v new site t e
-  entry_kept t e noted cell some = cell_kept (head_of e) cell (noted cell some)
+  pub opening_kept : (o : Opening) → IsNotedOpening v old site o → IsNotedOpening v new site o
+  opening_kept o noted = cell_kept (head_of o.first) o.node noted
 
 pub noted_kept : (p : LinkedProgram) (sites : List Site) (parts : Parts) (tables : List SiteTables) (old new : Known) → Keeps old new → (site : ℕ)
     → IsNoted p sites parts tables old site → IsNoted p sites parts tables new site
@@ -84,19 +75,16 @@ noted_kept p sites parts tables old new keeps site noted t at word there low cou
 pub each_next : {X : Type 0} (P Q : X → Type 0) (xs : List X) (i : ℕ) (x : X) → slice_get xs i ≡ Some x → ((y : X) → P y → Q y) → Q x → EachBefore P xs i → EachBefore Q xs (i + 1)
 each_next P Q xs i x there more now was = each_more Q xs i x there now (λ j y low at. more y (was j y low at))
 
--- where the heads of all entries are noted, the site is
-pub site_noted : (v : View) (known : Known) (site : ℕ) (t : SiteTables) (cells : Cells Reach) (entries : List Entry) → slice_get v.tables.now.each.items site ≡ Some t
-    → IsSaturated reach_domain t.calls.rules t.calls.starts t.calls.steps t.calls.last cells → IsListed reach_domain cells entries
-    → ((e : Entry) → Has entries e → IsNotedEntry v known site cells e) → IsNotedAt v known site
-site_noted v known site t cells entries here saturated listed noted x at word there low counts reaches =
+-- where the heads of all openings are noted, the site is
+pub site_noted : (v : View) (known : Known) (site : ℕ) (t : SiteTables) (openings : List Opening) → slice_get v.tables.now.each.items site ≡ Some t
+    → AreOpenings t.calls openings → ((o : Opening) → Has openings o → IsNotedOpening v known site o) → IsNotedAt v known site
+site_noted v known site t openings here opened noted x at word there low counts reaches =
     let same : x ≡ t = cc (here, there) in
     let cell = cell_of at.end (store_at v.parts.now at.store) in
     let arrives : Reaches t.calls cell word = subst (λ (y : SiteTables). Reaches y.calls cell word) same reaches in
-    let holds = (holds_derives t.calls.rules t.calls.starts t.calls.steps t.calls.last cells saturated cell word).1 arrives in
-    let from = Holds-entry t.calls.steps t.calls.last cells cell word holds in
-    let used : IsUsed reach_domain cells from.0 = IsUsed.by_weight cell from.1 in
-    let known_at = noted from.0 (listed.all from.0 used) cell from.1 at (record { store = low; cell_is = refl }) counts in
-    (head_of from.0, known_at, spells_begin t.calls.steps t.calls.last cells from.0 word from.2)
+    let o = opened cell word arrives in
+    let known_at = noted (opening_of o.0 cell) o.1 at (record { store = low; cell_is = refl {a = cell} }) counts in
+    (head_of o.0, known_at, first_begin o.0 word o.2)
 
 module _ (p : LinkedProgram) (sites : List Site) (parts : Parts) (old new : List SiteTables) where
   base_same : (base store : ℕ) → slice_get new base ≡ slice_get old base → IsBaseOf p sites parts new base store → IsBaseOf p sites parts old base store

@@ -1,18 +1,21 @@
 -- A meet goes to its object's site, and asks nothing of the others.
-use Rattle.std.proofs.Common.{◌≡◌, ℕ, ◌+◌, ◌<◌, ◌≤◌, ◌++◌, Bool, true, false, List, [], ◌∷◌, length, Some, slice_get, slice_set, refl, sym, ap, ◌∙◌, subst, inl, inr, arith}
+use Rattle.std.proofs.Common.{◌≡◌, ◌⊎◌, ℕ, ◌+◌, ◌<◌, ◌^◌, ◌++◌, Bool, true, false, List, [], ◌∷◌, length, Some, slice_get, slice_set, refl, sym, ap, ◌∙◌, subst, inl, inr, arith}
 use Rattle.std.proofs.lemmas.Bool.{cases_eq}
 use Rattle.std.proofs.lemmas.List.{length-set}
-use Rattle.jim_ast.proofs.Places.{slice_get-below, slice_get-set_other, slice_get-set_same}
+use Rattle.jim_ast.proofs.Places.{slice_get-below, slice_get-set_other, slice_get-set_same, slice_get-there}
 use Rattle.link_indexes.proofs.Grown.{Has-push}
+use Rattle.piece_join.specs.Brought.{AllAt}
+use Rattle.piece_join.proofs.Joined.{became}
 use Rattle.post_star.specs.Jobs.{Job}
 use Rattle.spds_tables.proofs.Lists.{Has-left}
 use Rattle.spds_solve.specs.declared.refresh.Tables.{Tables}
-use Rattle.spds_solve.specs.Searches.{AllSettled, AreSettledBelow, AreStill, AreTaken, IsStill}
+use Rattle.spds_solve.specs.Searches.{AllSettled, AreCompleted, AreStill, AreTaken, IsCompleted, IsStill, MayComplete, MayCompleteAll}
 use Rattle.spds_tables.proofs.Built.{met_passed, within_more}
 use Rattle.spds_tables.specs.declared.numbered.Met.{Met}
 use Rattle.spds_tables.specs.declared.numbered.StartAt.{StartAt}
 use Rattle.spds_tables.specs.declared.parts.Parts.{Parts}
 use Rattle.spds_tables.specs.declared.tables.SiteTables.{SiteTables}
+use Rattle.spds_tables.specs.Parts.{AreLedIn}
 use Rattle.spds_tables.specs.Tables.{AreBuilt, AreSettled, IsAskedOf}
 use Rattle.weight_laws.specs.declared.reach.Reach.{Reach}
 
@@ -80,55 +83,71 @@ module _ (parts : Parts) (old new : Tables) (at : ℕ) (t : SiteTables) (low : a
           settled_passed parts i mets m (λ e. h.0 (sym e ∙ is)) x (was.still i x before h.1);
     }
 
-  module _ (mets : List Met) (changed : new.changed ≡ old.changed) (done : AreSettled parts at mets t) where
-    -- the tables of a site that changed came to the end
-    pub ended : AreSettledBelow parts mets at old → AreSettledBelow parts mets (at + 1) new
-    ended was = record {
-      taken = record {
-        count = ap length each ∙ length-set old.each.items at t ∙ was.taken.count;
-        flags = ap (λ v. length v.items) changed ∙ was.taken.flags;
-        built = λ i x there. by i x there (λ now. now.built) (λ before. was.taken.built i x before);
-        still = λ i x there still. by i x there (λ now. now) (λ before. was.taken.still i x before (subst (λ v. slice_get v.items i ≡ Some false) changed still));
-      };
-      settled = λ i x below there. set_cases old.each.items at i t x low (subst (λ (xs : List SiteTables). slice_get xs i ≡ Some x) each there)
-          (λ e same. subst (λ (n : ℕ). AreSettled parts n mets x) (sym e) (subst (λ (y : SiteTables). AreSettled parts at mets y) (sym same) done))
-          (λ n before. was.settled i x (omega arith) before);
-    }
-      where
-        by : {P : Type 0} (i : ℕ) (x : SiteTables) → slice_get new.each.items i ≡ Some x → (AreSettled parts i mets x → P) → (slice_get old.each.items i ≡ Some x → P) → P
-        by i x there now before = set_cases old.each.items at i t x low (subst (λ (xs : List SiteTables). slice_get xs i ≡ Some x) each there)
-            (λ e same. now (subst (λ (n : ℕ). AreSettled parts n mets x) (sym e) (subst (λ (y : SiteTables). AreSettled parts at mets y) (sym same) done)))
-            (λ n there. before there)
+-- the tables of all sites may be brought to the end
+pub taken_may : (parts : Parts) (mets : List Met) (t : Tables) → AreLedIn parts → length t.each.items < 2 ^ 32 → AreTaken parts mets t
+    → MayCompleteAll parts t.changed.items t.each.items
+taken_may parts mets t led few taken = record { led = led; few = few; flags = taken.flags ∙ sym taken.count; mets = mets; built = taken.built }
 
-  -- sites that are still were not brought to the end
-  pub ended_still : new.changed ≡ old.changed → slice_get old.changed.items at ≡ Some true → AreStill old new
-  ended_still changed is = record {
-    each = λ i still.
-        let before : IsStill old i = subst (λ v. slice_get v.items i ≡ Some false) changed still in
-        let n : i ≡ at → ⊥ = (λ e. let h : slice_get old.changed.items at ≡ Some false = subst (λ (k : ℕ). slice_get old.changed.items k ≡ Some false) e before in cc) in
-        (before, ap (λ (xs : List SiteTables). slice_get xs i) each ∙ slice_get-set_other old.each.items at i t n);
+module _ (parts : Parts) (changed : List Bool) (tables : List SiteTables) (may : MayCompleteAll parts changed tables) where
+  -- so may those of each
+  pub each_may : AllAt (MayComplete parts changed) 0 tables
+  each_may site t there =
+      let at : site ≡ 0 + site = omega arith in
+      let low = slice_get-below tables site t there in
+      subst (λ (n : ℕ). MayComplete parts changed n t) at
+      (record { led = may.led; flagged = omega (arith, low, may.flags); mets = may.mets; built = may.built site t there })
+
+module _ (parts : Parts) (old new : Tables) (changed : new.changed ≡ old.changed) (done : AreCompleted parts old.changed.items old.each.items new.each.items) (mets : List Met)
+    (was : AreTaken parts mets old) where
+  -- what the tables of a site were, and whether it had changed
+  before : (site : ℕ) (x : SiteTables) → slice_get new.each.items site ≡ Some x
+      → (y : SiteTables) × (slice_get old.each.items site ≡ Some y) × IsCompleted parts old.changed.items site y x
+  before site x there =
+      let at : 0 + site ≡ site = omega arith in
+      let h = became (IsCompleted parts old.changed.items) 0 old.each.items new.each.items done.count done.each site x there in
+      (h.0, h.1, subst (λ (n : ℕ). IsCompleted parts old.changed.items n h.0 x) at h.2)
+
+  -- each site has a flag
+  flag : (site : ℕ) (y : SiteTables) → slice_get old.each.items site ≡ Some y → IsStill old site ⊎ (slice_get old.changed.items site ≡ Some true)
+  flag site y there =
+      let low = slice_get-below old.each.items site y there in
+      let h = slice_get-there old.changed.items site (omega (arith, low, was.count, was.flags)) in
+      by h.0 h.1
+    where
+      by : (b : Bool) → slice_get old.changed.items site ≡ Some b → IsStill old site ⊎ (slice_get old.changed.items site ≡ Some true)
+      by true is = inr is
+      by false is = inl is
+
+  -- those of each site have come to the end
+  pub completed_each : (site : ℕ) (x : SiteTables) → slice_get new.each.items site ≡ Some x → AreSettled parts site mets x
+  completed_each site x there =
+      let h = before site x there in
+      elim (flag site h.0 h.1) [
+        | inl still ↦ subst (AreSettled parts site mets) (sym (h.2.kept still)) (was.still site h.0 h.1 still)
+        | inr is ↦ h.2.settled is mets (was.built site h.0 h.1)
+      ]
+
+  pub completed_all : AllSettled parts mets new.each.items
+  completed_all = record { count = done.count ∙ was.count; each = completed_each }
+
+  pub completed_taken : AreTaken parts mets new
+  completed_taken = record {
+    count = done.count ∙ was.count;
+    flags = ap (λ v. length v.items) changed ∙ was.flags;
+    built = λ site x there. (completed_each site x there).built;
+    still = λ site x there still. completed_each site x there;
   }
 
--- the tables of a site that is still have come to the end already
-pub ended_before : (parts : Parts) (mets : List Met) (at : ℕ) (t : Tables) → IsStill t at → AreSettledBelow parts mets at t → AreSettledBelow parts mets (at + 1) t
-ended_before parts mets at t still was = record {
-  taken = was.taken;
-  settled = λ i x below there. elim (cases_eq i at) [
-    | inl e ↦ was.taken.still i x there (subst (λ (n : ℕ). slice_get t.changed.items n ≡ Some false) (sym e) still)
-    | inr n ↦ was.settled i x (omega arith) there
-  ];
-}
-
--- none have to yet
-pub ended_none : (parts : Parts) (mets : List Met) (t : Tables) → AreTaken parts mets t → AreSettledBelow parts mets 0 t
-ended_none parts mets t taken = record { taken = taken; settled = λ i x below there. absurd (omega arith) }
-
--- all have
-pub ended_all : (parts : Parts) (mets : List Met) (done : ℕ) (t : Tables) → length t.each.items ≤ done → AreSettledBelow parts mets done t → AllSettled parts mets t.each.items
-ended_all parts mets done t all was = record {
-  count = was.taken.count;
-  each = λ i x there. was.settled i x (let below = slice_get-below t.each.items i x there in omega arith) there;
-}
+  -- sites that are still were not touched
+  pub completed_still : AreStill old new
+  completed_still = record {
+    each = λ site still.
+        let same : IsStill old site = subst (λ v. slice_get v.items site ≡ Some false) changed still in
+        let low = slice_get-below old.changed.items site false same in
+        let h = slice_get-there new.each.items site (omega (arith, low, was.flags, was.count, done.count)) in
+        let there = before site h.0 h.1 in
+        (same, h.1 ∙ ap Some (there.2.kept same) ∙ sym there.1);
+  }
 
 -- one more site was looked at
 pub rested : (old : List Bool) (at : ℕ) → at < length old → ((k : ℕ) → k < at → slice_get old k ≡ Some false) → (k : ℕ) → k < at + 1 → slice_get (slice_set old at false) k ≡ Some false

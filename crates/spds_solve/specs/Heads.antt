@@ -1,7 +1,5 @@
 -- With which marks words begin.
-use Rattle.std.specs.Prelude.{◌≡◌, ℕ, List, ◌∷◌}
-use Rattle.auto_table.specs.declared.entry.Entry.{Entry}
-use Rattle.auto_table.specs.declared.entry.Entry.TheVariants.{Base, Pushed}
+use Rattle.std.specs.Prelude.{◌≡◌, ℕ, List, ◌∷◌, Option, Some, None}
 use Rattle.spds_solve.specs.declared.heads.Head.{Head}
 use Rattle.spds_solve.specs.declared.heads.Head.TheVariants.{Any, Mark}
 
@@ -16,7 +14,7 @@ Fit Any other = Unit {0}
 Fit (Mark mark) Any = Unit {0}
 Fit (Mark mark) (Mark other) = mark ≡ other
 
--- an entry reads words that begin so: a pushed one reads only those of its mark
-abbrev pub head_of : Entry → Head
-head_of (Base base) = Any
-head_of (Pushed node mark) = Mark mark
+-- words begin so of which this is the first mark, where it is told
+abbrev pub head_of : Option ℕ → Head
+head_of None = Any
+head_of (Some mark) = Mark mark

@@ -1,7 +1,6 @@
 -- A look at the tables of all sites: what is noted of a site, and what a look goes over.
-use Rattle.std.specs.Prelude.{◌≡◌, ◌≢◌, ◌<◌, ℕ, List, Some, length, slice_get}
-use Rattle.auto_table.specs.declared.entry.Entry.{Entry}
-use Rattle.auto_table.specs.Cells.{Cells, weight_at}
+use Rattle.std.specs.Prelude.{◌≡◌, ◌<◌, ℕ, List, Some, length, slice_get}
+use Rattle.call_work.specs.declared.opening.Opening.{Opening}
 use Rattle.jim_ast.specs.Lists.{Has}
 use Rattle.link_rules.specs.Linked.{LinkedProgram}
 use Rattle.link_sites.specs.declared.site.Site.{Site}
@@ -23,8 +22,6 @@ use Rattle.spds_tables.specs.declared.parts.Parts.{Parts}
 use Rattle.spds_tables.specs.declared.tables.SiteTables.{SiteTables}
 use Rattle.spds_tables.specs.Parts.{store_at}
 use Rattle.spds_tables.specs.Systems.{Reaches}
-use Rattle.weight_laws.specs.declared.reach.Reach.{Reach}
-use Rattle.weight_laws.specs.Reach.{reach_domain}
 
 -- the site counts at the end of the store: at the base only where it is one
 abbrev pub Counts : LinkedProgram → List Site → Parts → List SiteTables → ℕ → StoreEnd → Type 0
@@ -75,6 +72,6 @@ IsNotedEnd v known site head at = CountsAt v site at → Knows (posts_at known a
 abbrev pub IsNotedCell : View → Known → ℕ → Head → ℕ → Type 0
 IsNotedCell v known site head cell = (at : StoreEnd) → IsEndAt v.parts.now cell at → IsNotedEnd v known site head at
 
--- that of the entry is at each cell that the entry has
-abbrev pub IsNotedEntry : View → Known → ℕ → Cells Reach → Entry → Type 0
-IsNotedEntry v known site t entry = (cell : ℕ) → weight_at reach_domain t entry cell ≢ reach_domain.zero → IsNotedCell v known site (head_of entry) cell
+-- that of the opening is at its cell
+abbrev pub IsNotedOpening : View → Known → ℕ → Opening → Type 0
+IsNotedOpening v known site o = IsNotedCell v known site (head_of o.first) o.node

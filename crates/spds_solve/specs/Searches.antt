@@ -1,10 +1,11 @@
 -- The search for meets, over settled tables.
-use Rattle.std.specs.Prelude.{◌≡◌, ◌<◌, ◌++◌, ℕ, List, [], Some, false, length, slice_get}
+use Rattle.std.specs.Prelude.{◌≡◌, ◌<◌, ◌^◌, ◌++◌, ℕ, Bool, List, [], OnOk, Result, Some, false, length, slice_get, true}
 use Rattle.jim_ast.specs.Lists.{Has}
 use Rattle.link_rules.specs.Linked.{LinkedProgram}
 use Rattle.link_sites.specs.declared.place.Place.{Place}
 use Rattle.link_sites.specs.declared.site.Site.{Site}
 use Rattle.link_sites.specs.Sites.{HasField}
+use Rattle.piece_join.specs.Brought.{AllBecome}
 use Rattle.spds_solve.specs.declared.met.Met.{Met}
 use Rattle.spds_solve.specs.declared.refresh.Tables.{Tables}
 use Rattle.spds_solve.specs.Composing.{AreJoined}
@@ -12,9 +13,10 @@ use Rattle.spds_solve.specs.Mets.{numbers, numbers_of, string_of}
 use Rattle.spds_tables.specs.declared.numbered.Met.{Met as Numbers}
 use Rattle.spds_tables.specs.declared.parts.Parts.{Parts}
 use Rattle.spds_tables.specs.declared.tables.SiteTables.{SiteTables}
-use Rattle.spds_tables.specs.Parts.{store_at}
+use Rattle.spds_tables.specs.Parts.{AreLedIn, store_at}
 use Rattle.spds_tables.specs.Systems.{Reaches}
 use Rattle.spds_tables.specs.Tables.{AreBuilt, AreSettled}
+use denote.Ref.{Bor, MutBor}
 
 -- the base's own object is at the base of the store, and has the field
 pub record IsBaseOf (p : LinkedProgram) (sites : List Site) (parts : Parts) (tables : List SiteTables) (base store : ℕ) : Type 0 where
@@ -77,10 +79,40 @@ pub record AreTaken (parts : Parts) (mets : List Numbers) (t : Tables) : Type 0 
   pub built : (site : ℕ) (x : SiteTables) → slice_get t.each.items site ≡ Some x → AreBuilt parts site mets x
   pub still : (site : ℕ) (x : SiteTables) → slice_get t.each.items site ≡ Some x → IsStill t site → AreSettled parts site mets x
 
--- those of the sites before one have come to the end too
-pub record AreSettledBelow (parts : Parts) (mets : List Numbers) (done : ℕ) (t : Tables) : Type 0 where
-  pub taken : AreTaken parts mets t
-  pub settled : (site : ℕ) (x : SiteTables) → site < done → slice_get t.each.items site ≡ Some x → AreSettled parts site mets x
+-- the tables of a site are over some meets, and it has a flag
+pub record MayComplete (parts : Parts) (changed : List Bool) (site : ℕ) (t : SiteTables) : Type 0 where
+  pub led : AreLedIn parts
+  pub flagged : site < length changed
+  pub mets : List Numbers
+  pub built : AreBuilt parts site mets t
+
+-- the tables of a site that is still stayed, and others have come to the end over whatever meets they were over
+pub record IsCompleted (parts : Parts) (changed : List Bool) (site : ℕ) (old new : SiteTables) : Type 0 where
+  pub kept : slice_get changed site ≡ Some false → new ≡ old
+  pub settled : slice_get changed site ≡ Some true → (mets : List Numbers) → AreBuilt parts site mets old → AreSettled parts site mets new
+
+-- the tables of all sites are over some meets, and each site has a flag
+pub record MayCompleteAll (parts : Parts) (changed : List Bool) (tables : List SiteTables) : Type 0 where
+  pub led : AreLedIn parts
+  pub few : length tables < 2 ^ 32
+  pub flags : length changed ≡ length tables
+  pub mets : List Numbers
+  pub built : (site : ℕ) (t : SiteTables) → slice_get tables site ≡ Some t → AreBuilt parts site mets t
+
+-- those of all sites that changed have come to the end
+pub record AreCompleted (parts : Parts) (changed : List Bool) (old new : List SiteTables) : Type 0 where
+  pub count : length new ≡ length old
+  pub each : AllBecome (IsCompleted parts changed) 0 old new
+
+-- tables that may be brought to the end are taken
+abbrev pub TakesTables : (Bor Parts → Bor (List Bool) → MutBor (List SiteTables) → Type 0) → Type 0
+TakesTables pre = (parts : Bor Parts) (changed : Bor (List Bool)) (tables : MutBor (List SiteTables)) → MayCompleteAll parts.now changed.now tables.now
+    → pre parts changed tables
+
+-- and those that changed are brought there
+abbrev pub CompletesTables : {E : Type 0} → (Bor Parts → Bor (List Bool) → MutBor (List SiteTables) → Result (Unit {0}) E → MutBor (List SiteTables) → Type 0) → Type 0
+CompletesTables {E} post = (parts : Bor Parts) (changed : Bor (List Bool)) (old new : MutBor (List SiteTables)) (result : Result (Unit {0}) E)
+    → MayCompleteAll parts.now changed.now old.now → post parts changed old result new → OnOk result (AreCompleted parts.now changed.now old.now new.now)
 
 -- each site that is still was so, and has the tables that it had
 pub record AreStill (old new : Tables) : Type 0 where

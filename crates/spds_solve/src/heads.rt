@@ -2,8 +2,6 @@
 ghost use Rattle.std.specs.Prelude.{◌≡◌};
 ghost use Rattle.spds_solve.specs.Heads.{head_of as head_by};
 
-use auto_table::Entry;
-
 /// What call strings begin with.
 #[derive(Clone, Copy, Debug, PartialEq, Eq)]
 pub enum Head {
@@ -13,12 +11,12 @@ pub enum Head {
     Mark(u32),
 }
 
-/// What the call strings of an entry begin with.
-pub fn head_of(entry: Entry) -> Head
-    ensures { result ≡ head_by entry }
+/// What call strings begin with of which this is the first mark, where it is told.
+pub fn head_of(first: Option<u32>) -> Head
+    ensures { result ≡ head_by first }
 {
-    match entry {
-        Entry::Base(_) => Head::Any,
-        Entry::Pushed { node: _, mark } => Head::Mark(mark),
+    match first {
+        Some(mark) => Head::Mark(mark),
+        None => Head::Any,
     }
 }

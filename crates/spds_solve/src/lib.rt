@@ -16,5 +16,6 @@ mod solved;
 mod solver;
 
 pub use met::Met;
+pub use piece_join::{Gate, Open};
 pub use solved::Solved;
-pub use solver::solve;
+pub use solver::{solve, solve_here, solve_with};

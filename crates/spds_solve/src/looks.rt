@@ -1,9 +1,8 @@
 //! A look at the sites that changed: what their call strings at the ends of stores begin with, and which pairs meet now.
 ghost use Rattle.std.specs.Prelude.{◌≡◌, ◌↔◌, ◌<◌, ℕ, length, IsTrue, OnOk};
-ghost use Rattle.auto_table.specs.Cells.{IsListed};
 ghost use Rattle.jim_ast.specs.Lists.{Has};
 ghost use Rattle.spds_solve.specs.Known.{IsInRange, IsKnown, Keeps};
-ghost use Rattle.spds_solve.specs.Looks.{CountsAt, IsCandidateAt, IsGrownAt, IsNotedAt, IsNotedCell, IsNotedEnd, IsNotedEntry, IsView};
+ghost use Rattle.spds_solve.specs.Looks.{CountsAt, IsCandidateAt, IsGrownAt, IsNotedAt, IsNotedCell, IsNotedEnd, IsView};
 ghost use Rattle.spds_solve.specs.Mets.{numbers_of};
 ghost use Rattle.spds_solve.specs.Searches.{IsStill};
 ghost use Rattle.spds_tables.specs.declared.numbered.Met.{Met as AMet};
@@ -14,10 +13,9 @@ use super::known::Known;
 use super::mets::Mets;
 use super::posts::Post;
 use super::scan::{View, is_base, try_mets};
-use auto_table::{Entry, NoMemory, Table};
+use auto_table::NoMemory;
 use spds_tables::count_of;
 use std::alloc::Global;
-use weight_laws::Reach;
 
 /// Whether the site counts at the end of the store: at the base only where its own object is there, and has the field. That may come to be so later.
 fn counts(view: &View<'_>, site: u32, at: StoreEnd) -> bool
@@ -79,31 +77,14 @@ fn note_cell(
     Ok(())
 }
 
-/// Notes what the call strings of an entry begin with, at each cell that it has in the call table of the site.
-fn note_entry(
+/// Notes what the call strings of the site begin with.
+fn note_site(
+    alloc: Global,
     view: &View<'_>,
     known: &mut Known,
     mets: &Mets,
     site: u32,
-    table: &Table<Reach>,
-    entry: Entry,
 ) -> Result<(), NoMemory>
-    requires view { IsView view.now }
-    requires known { IsKnown view.now.parts.now mets.now known.old }
-    requires site { site < length view.now.parts.now.starts.items }
-    ensures known { OnOk result (IsKnown view.now.parts.now mets.now known.new) }
-    ensures keeps { OnOk result (Keeps known.old known.new) }
-    ensures noted { OnOk result (IsNotedEntry view.now known.new site table.now entry) }
-{
-    let head = head_of(entry);
-    for reached in table.row(entry) {
-        note_cell(view, known, mets, site, head, reached.node)?;
-    }
-    Ok(())
-}
-
-/// Notes what the call strings of the site begin with.
-fn note_site(view: &View<'_>, known: &mut Known, mets: &Mets, site: u32) -> Result<(), NoMemory>
     requires view { IsView view.now }
     requires known { IsKnown view.now.parts.now mets.now known.old }
     requires site { site < length view.now.parts.now.starts.items }
@@ -111,15 +92,22 @@ fn note_site(view: &View<'_>, known: &mut Known, mets: &Mets, site: u32) -> Resu
     ensures keeps { OnOk result (Keeps known.old known.new) }
     ensures noted { OnOk result (IsNotedAt view.now known.new site) }
 {
-    let table = view.tables.each[site as usize].calls.table();
-    for entry in table.entries() {
-        note_entry(view, known, mets, site, table, *entry)?;
+    let openings = view.tables.each[site as usize].calls.openings(alloc)?;
+    for opening in &openings {
+        let head = head_of(opening.first);
+        note_cell(view, known, mets, site, head, opening.node)?;
     }
     Ok(())
 }
 
 /// Notes what the call strings of the site begin with, if its tables changed.
-fn note_changed(view: &View<'_>, known: &mut Known, mets: &Mets, site: u32) -> Result<(), NoMemory>
+fn note_changed(
+    alloc: Global,
+    view: &View<'_>,
+    known: &mut Known,
+    mets: &Mets,
+    site: u32,
+) -> Result<(), NoMemory>
     requires view { IsView view.now }
     requires known { IsKnown view.now.parts.now mets.now known.old }
     requires site { site < length view.now.parts.now.starts.items }
@@ -132,12 +120,12 @@ fn note_changed(view: &View<'_>, known: &mut Known, mets: &Mets, site: u32) -> R
     if !view.tables.changed[site as usize] {
         return Ok(());
     }
-    note_site(view, known, mets, site)?;
+    note_site(alloc, view, known, mets, site)?;
     Ok(())
 }
 
 /// Notes what the call strings of the sites that changed begin with.
-fn note_all(view: &View<'_>, known: &mut Known, mets: &Mets) -> Result<(), NoMemory>
+fn note_all(alloc: Global, view: &View<'_>, known: &mut Known, mets: &Mets) -> Result<(), NoMemory>
     requires view { IsView view.now }
     requires known { IsKnown view.now.parts.now mets.now known.old }
     requires flags { length view.now.tables.now.changed.items ≡ length view.now.parts.now.starts.items }
@@ -146,7 +134,7 @@ fn note_all(view: &View<'_>, known: &mut Known, mets: &Mets) -> Result<(), NoMem
     ensures noted { OnOk result ((site : ℕ) → IsNotedAt view.now known.new site) }
 {
     for site in 0..count_of(view.tables.each.len())? {
-        note_changed(view, known, mets, site)?;
+        note_changed(alloc, view, known, mets, site)?;
     }
     Ok(())
 }
@@ -170,7 +158,7 @@ pub fn look(
     ensures closed { OnOk result ((m : AMet) → m.store < length view.now.parts.now.stores.items → IsCandidateAt view.now m → Has (numbers_of mets.new) m) }
     ensures grown { OnOk result (IsGrownAt view.now mets.old mets.new) }
 {
-    note_all(view, known, mets)?;
+    note_all(alloc, view, known, mets)?;
     let waiting = known.waiting(alloc, &view.tables.changed)?;
     try_mets(alloc, view, &waiting, mets)?;
     known.drop_met(alloc, mets)?;

@@ -1,13 +1,16 @@
 //! The tables of all sites, and which of them changed.
 ghost use Rattle.std.specs.Prelude.{◌≡◌, ◌+◌, ◌<◌, ◌≤◌, ◌++◌, ◌∷◌, ℕ, All, List, Some, [], length, slice_get, take, IfOk, OnOk};
-ghost use Rattle.spds_solve.specs.Searches.{AllBuilt, AllSettled, AreSettledBelow, AreStill, AreTaken, IsStill};
+ghost use Rattle.spds_solve.specs.Searches.{AllBuilt, AllSettled, AreCompleted, AreStill, AreTaken, CompletesTables, IsStill, MayCompleteAll, TakesTables};
 ghost use Rattle.spds_tables.specs.declared.numbered.Met.{Met as AMet};
 ghost use Rattle.spds_tables.specs.Parts.{AreLedIn, IsInParts};
 ghost use Rattle.spds_tables.specs.Tables.{AreOpenFor};
 
 use auto_table::NoMemory;
-use spds_tables::{Met, Parts, SiteTables};
+use piece_join::{Bring, Gate, bring_all, bring_here};
+use spds_tables::{Met, Parts, SiteTables, count_of};
 use std::alloc::Global;
+use std::marker::Sync;
+use std::thread::Threads;
 
 /// The tables of all sites.
 #[derive(Drop)]
@@ -28,6 +31,85 @@ fn all_tables(alloc: Global, parts: &Parts, count: u32) -> Result<Vec<SiteTables
         all.push(SiteTables::new(alloc, parts, site)?)?;
     }
     Ok(all)
+}
+
+// What the tables of a site that changed are brought to the end with.
+#[derive(Clone, Copy)]
+struct Completing<'a> {
+    alloc: Global,
+    parts: &'a Parts,
+    changed: &'a [bool],
+}
+
+impl Bring<SiteTables> for Completing<'_> {
+    ghost use Rattle.spds_solve.specs.Searches.{IsCompleted, MayComplete};
+
+    ghost may = { λ c site tables. MayComplete c.parts.now c.changed.now site tables };
+
+    ghost ends = { λ c site old new. IsCompleted c.parts.now c.changed.now site old new };
+
+    fn bring(&self, site: u32, tables: &mut SiteTables) -> Result<(), NoMemory> {
+        if self.changed[site as usize] {
+            tables.complete(self.alloc, self.parts)?;
+        }
+        Ok(())
+    }
+}
+
+/// Brings the tables of all sites that changed to the end, one after the other in the caller's thread.
+pub fn complete_here(
+    alloc: Global,
+    parts: &Parts,
+    changed: &[bool],
+    tables: &mut [SiteTables],
+) -> Result<(), NoMemory>
+    requires { MayCompleteAll parts.now changed.now tables.old }
+    ensures { OnOk result (AreCompleted parts.now changed.now tables.old tables.new) }
+{
+    let completing = Completing {
+        alloc,
+        parts,
+        changed,
+    };
+    bring_here(&completing, tables)?;
+    Ok(())
+}
+
+/// The same in pieces, side by side. The gate is told of each as it begins.
+pub fn complete_in_pieces<R: Threads + Sync, G: Gate>(
+    threads: &R,
+    gate: &G,
+    alloc: Global,
+    parts: &Parts,
+    changed: &[bool],
+    tables: &mut [SiteTables],
+) -> Result<(), NoMemory>
+    requires { MayCompleteAll parts.now changed.now tables.old }
+    ensures { OnOk result (AreCompleted parts.now changed.now tables.old tables.new) }
+{
+    let completing = Completing {
+        alloc,
+        parts,
+        changed,
+    };
+    bring_all(threads, gate, &completing, tables)?;
+    Ok(())
+}
+
+// Brings the tables of all sites that changed to the end, by the call that is given.
+fn complete_by<F: Fn(&Parts, &[bool], &mut [SiteTables]) -> Result<(), NoMemory>>(
+    complete: &F,
+    parts: &Parts,
+    changed: &[bool],
+    tables: &mut Vec<SiteTables>,
+) -> Result<(), NoMemory>
+    requires takes { TakesTables (F.pre complete.now) }
+    requires gives { CompletesTables (F.post complete.now) }
+    requires may { MayCompleteAll parts.now changed.now tables.old.items }
+    ensures { OnOk result (AreCompleted parts.now changed.now tables.old.items tables.new.items) }
+{
+    complete(parts, changed, tables)?;
+    Ok(())
 }
 
 impl Tables {
@@ -74,42 +156,35 @@ impl Tables {
         Ok(())
     }
 
-    /// Brings the tables of a site to the end, if they changed.
-    fn complete(&mut self, alloc: Global, parts: &Parts, site: usize) -> Result<(), NoMemory>
-        requires led { AreLedIn parts.now }
-        requires site { site < length self.old.each.items }
-        requires taken { (mets : List AMet) × AreTaken parts.now mets self.old }
-        ensures still { OnOk result (AreStill self.old self.new) }
-        ensures settled { OnOk result ((mets : List AMet) → AreSettledBelow parts.now mets site self.old → AreSettledBelow parts.now mets (site + 1) self.new) }
-    {
-        if !self.changed[site] {
-            return Ok(());
-        }
-        self.each[site].complete(alloc, parts)?;
-        Ok(())
-    }
-
-    /// Brings the tables of all sites that changed to the end.
-    fn complete_all(&mut self, alloc: Global, parts: &Parts) -> Result<(), NoMemory>
+    /// The same of the sites that changed since they were looked at.
+    fn complete_all<F: Fn(&Parts, &[bool], &mut [SiteTables]) -> Result<(), NoMemory>>(
+        &mut self,
+        complete: &F,
+        parts: &Parts,
+    ) -> Result<(), NoMemory>
+        requires takes { TakesTables (F.pre complete.now) }
+        requires gives { CompletesTables (F.post complete.now) }
         requires led { AreLedIn parts.now }
         requires taken { (mets : List AMet) × AreTaken parts.now mets self.old }
         ensures still { OnOk result (AreStill self.old self.new) }
         ensures settled { OnOk result ((mets : List AMet) → AreTaken parts.now mets self.old → AreTaken parts.now mets self.new × AllSettled parts.now mets self.new.each.items) }
     {
-        for site in 0..self.each.len() {
-            self.complete(alloc, parts, site)?;
-        }
+        // Sites are numbered: more of them than there are numbers find no memory.
+        count_of(self.each.len())?;
+        complete_by(complete, parts, &self.changed, &mut self.each)?;
         Ok(())
     }
 
     /// Takes all meets in but those that were taken before, and brings the tables that changed to the end.
-    pub fn bring(
+    pub fn bring<F: Fn(&Parts, &[bool], &mut [SiteTables]) -> Result<(), NoMemory>>(
         &mut self,
-        alloc: Global,
+        complete: &F,
         parts: &Parts,
         taken: usize,
         mets: &[Met],
     ) -> Result<(), NoMemory>
+        requires takes { TakesTables (F.pre complete.now) }
+        requires gives { CompletesTables (F.post complete.now) }
         requires led { AreLedIn parts.now }
         requires mets { All (IsInParts parts.now) mets.now }
         requires low { taken ≤ length mets.now }
@@ -120,7 +195,7 @@ impl Tables {
         ensures settled { OnOk result (AllSettled parts.now mets.now self.new.each.items) }
     {
         self.take_all(parts, taken, mets)?;
-        self.complete_all(alloc, parts)?;
+        self.complete_all(complete, parts)?;
         Ok(())
     }
 

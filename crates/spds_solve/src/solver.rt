@@ -1,5 +1,6 @@
 //! The solver.
 ghost use Rattle.std.specs.Prelude.{◌≡◌, ◌<◌, ◌≤◌, ◌⊎◌, ◌↔◌, ◌++◌, ◌*◌, All, ℕ, List, Ok, false, true, length, take, map, slice_get, Some, IfOk, OnOk, [], IsTrue};
+ghost use Rattle.std.specs.Thread.{IsSync};
 ghost use Rattle.demand_set.specs.Demands.{IsDemandOf};
 ghost use Rattle.jim_ast.specs.Lists.{Has, IsApart};
 ghost use Rattle.link_rules.specs.WellLinked.{IsWellLinked};
@@ -8,7 +9,7 @@ ghost use Rattle.spds_solve.specs.declared.arrivals.Arrival.{Arrival as AnArriva
 ghost use Rattle.spds_solve.specs.Ends.{AreEnds};
 ghost use Rattle.spds_solve.specs.Looks.{AreLooked};
 ghost use Rattle.spds_solve.specs.Mets.{numbers_of};
-ghost use Rattle.spds_solve.specs.Searches.{AreFoundBy, AreTaken, IsComplete, IsStill};
+ghost use Rattle.spds_solve.specs.Searches.{AreCompleted, AreFoundBy, AreTaken, CompletesTables, IsComplete, IsStill, MayCompleteAll, TakesTables};
 ghost use Rattle.spds_solve.specs.Solved.{IsSolved};
 ghost use Rattle.spds_solve.specs.declared.met.Met.{Met as AMet};
 ghost use Rattle.spds_tables.specs.declared.tables.SiteTables.{SiteTables as ATables};
@@ -21,19 +22,23 @@ use super::ends::Ends;
 use super::known::Known;
 use super::looks::look;
 use super::mets::Mets;
-use super::refresh::Tables;
+use super::refresh::{Tables, complete_here, complete_in_pieces};
 use super::scan::View;
 use super::solved::Solved;
 use auto_table::NoMemory;
 use demand_set::Demand;
 use link_program::Linked;
 use link_sites::Site;
+use piece_join::{Gate, Open};
 use spds_tables::{Parts, SiteTables, Size, count_of};
 use std::alloc::Global;
+use std::marker::Sync;
+use std::thread::Threads;
 
 /// What stays as it is from turn to turn.
 #[derive(Clone, Copy)]
 struct Given<'a> {
+    alloc: Global,
     linked: &'a Linked,
     sites: &'a [Site],
     parts: &'a Parts,
@@ -41,14 +46,16 @@ struct Given<'a> {
 }
 
 /// Brings the tables to the end for all meets but those taken before, and looks for further meets; `false` says that there are none.
-fn turn(
-    alloc: Global,
+fn turn<F: Fn(&Parts, &[bool], &mut [SiteTables]) -> Result<(), NoMemory>>(
+    complete: &F,
     given: &Given<'_>,
     tables: &mut Tables,
     known: &mut Known,
     mets: &mut Mets,
     taken: usize,
 ) -> Result<bool, NoMemory>
+    requires takes { TakesTables (F.pre complete.now) }
+    requires gives { CompletesTables (F.post complete.now) }
     requires led { AreLedIn given.now.parts.now }
     requires mets { All (IsInParts given.now.parts.now) (numbers_of mets.old) }
     requires taken { taken ≤ length mets.old }
@@ -65,7 +72,7 @@ fn turn(
     ensures done { result ≡ Ok false → IsComplete given.now.linked.now given.now.sites.now given.now.parts.now tables.new.each.items mets.new }
 {
     let before = mets.as_slice().len();
-    tables.bring(alloc, given.parts, taken, mets.numbers())?;
+    tables.bring(complete, given.parts, taken, mets.numbers())?;
     let view = View {
         linked: given.linked,
         sites: given.sites,
@@ -73,35 +80,30 @@ fn turn(
         ends: given.ends,
         tables: &*tables,
     };
-    look(alloc, &view, known, mets)?;
+    look(given.alloc, &view, known, mets)?;
     tables.rest();
     Ok(mets.as_slice().len() > before)
 }
 
 /// Goes on in turns until no further meet is found. Before each turn what the meets give by themselves is put in.
-fn search(
-    alloc: Global,
-    linked: &Linked,
-    sites: &[Site],
-    parts: &Parts,
+fn search<F: Fn(&Parts, &[bool], &mut [SiteTables]) -> Result<(), NoMemory>>(
+    complete: &F,
+    given: &Given<'_>,
     tables: &mut Tables,
     mets: &mut Mets,
 ) -> Result<(), NoMemory>
-    requires led { AreLedIn parts.now }
-    requires sites { length sites.now ≡ length parts.now.starts.items }
-    requires taken { AreTaken parts.now [] tables.old }
+    requires takes { TakesTables (F.pre complete.now) }
+    requires gives { CompletesTables (F.post complete.now) }
+    requires led { AreLedIn given.now.parts.now }
+    requires sites { length given.now.sites.now ≡ length given.now.parts.now.starts.items }
+    requires ends { AreEnds given.now.parts.now given.now.ends.now }
+    requires taken { AreTaken given.now.parts.now [] tables.old }
     requires changed { (site : ℕ) → IsStill tables.old site → ⊥ }
     requires none { mets.old ≡ [] }
-    ensures complete { OnOk result (IsComplete linked.now sites.now parts.now tables.new.each.items mets.new) }
+    ensures complete { OnOk result (IsComplete given.now.linked.now given.now.sites.now given.now.parts.now tables.new.each.items mets.new) }
     ensures apart { OnOk result (IsApart (numbers_of mets.new)) }
 {
-    let ends = Ends::of(alloc, parts)?;
-    let given = Given {
-        linked,
-        sites,
-        parts,
-        ends: &ends,
-    };
+    let alloc = given.alloc;
     let mut known = Known::new(alloc);
     let mut ways = Ways::new(alloc);
     let mut taken = 0;
@@ -109,7 +111,7 @@ fn search(
     while goes_on {
         compose(alloc, &mut ways, mets)?;
         let before = mets.as_slice().len();
-        goes_on = turn(alloc, &given, tables, &mut known, mets, taken)?;
+        goes_on = turn(complete, given, tables, &mut known, mets, taken)?;
         taken = before;
     }
     Ok(())
@@ -161,26 +163,88 @@ fn whole_size(tables: &[SiteTables]) -> Size
     size
 }
 
-/// The meets of the demand and the two systems of its sites, exactly. Want of memory is the only refusal.
-pub fn solve(alloc: Global, linked: &Linked, demand: &Demand) -> Result<Solved, NoMemory>
+// The meets of the demand and the two systems of its sites, exactly, where the tables that changed in a turn are brought to the end by the call that is
+// given.
+fn solve_by<F: Fn(&Parts, &[bool], &mut [SiteTables]) -> Result<(), NoMemory>>(
+    complete: &F,
+    alloc: Global,
+    linked: &Linked,
+    demand: &Demand,
+) -> Result<Solved, NoMemory>
+    requires takes { TakesTables (F.pre complete.now) }
+    requires gives { CompletesTables (F.post complete.now) }
     requires well { IsWellLinked linked.now }
     requires demanded { (q : Asked) × IsDemandOf linked.now q demand.now }
     ensures { IfOk result (λ solved. (q : Asked) → IsDemandOf linked.now q demand.now → IsSolved linked.now q demand.now solved) }
 {
     let parts = Parts::new(alloc, linked, demand)?;
-    let mut tables = Tables::new(alloc, &parts, count_of(parts.starts.len())?)?;
-    let mut mets = Mets::new(alloc);
-    search(
+    let ends = Ends::of(alloc, &parts)?;
+    let given = Given {
         alloc,
         linked,
-        demand.sites(),
-        &parts,
-        &mut tables,
-        &mut mets,
-    )?;
+        sites: demand.sites(),
+        parts: &parts,
+        ends: &ends,
+    };
+    let mut tables = Tables::new(alloc, &parts, count_of(parts.starts.len())?)?;
+    let mut mets = Mets::new(alloc);
+    search(complete, &given, &mut tables, &mut mets)?;
     let Tables { each: tables, .. } = tables;
     let mut arrivals = Arrivals::new(alloc);
     all_arrivals(alloc, &tables, &mut arrivals)?;
     let size = whole_size(&tables);
     Ok(Solved::of(parts, tables, mets, arrivals, size))
+}
+
+/// The meets of the demand and the two systems of its sites, exactly, in the caller's thread. Want of memory is the only refusal.
+pub fn solve_here(alloc: Global, linked: &Linked, demand: &Demand) -> Result<Solved, NoMemory>
+    requires well { IsWellLinked linked.now }
+    requires demanded { (q : Asked) × IsDemandOf linked.now q demand.now }
+    ensures { IfOk result (λ solved. (q : Asked) → IsDemandOf linked.now q demand.now → IsSolved linked.now q demand.now solved) }
+{
+    let complete = |parts: &Parts, changed: &[bool], tables: &mut [SiteTables]| -> Result<
+        (),
+        NoMemory,
+    >
+        requires { MayCompleteAll parts.now changed.now tables.old }
+        ensures { OnOk result (AreCompleted parts.now changed.now tables.old tables.new) }
+    { complete_here(alloc, parts, changed, tables) };
+    solve_by(&complete, alloc, linked, demand)
+}
+
+/// The same, with the answer of one thread. The tables of more than 16 sites are brought to the end in pieces side by side, in each turn, and the gate is
+/// told of each piece as it begins.
+pub fn solve_with<R: Threads + Sync, G: Gate>(
+    threads: &R,
+    alloc: Global,
+    linked: &Linked,
+    demand: &Demand,
+    gate: &G,
+) -> Result<Solved, NoMemory>
+    requires well { IsWellLinked linked.now }
+    requires demanded { (q : Asked) × IsDemandOf linked.now q demand.now }
+    ensures { IfOk result (λ solved. (q : Asked) → IsDemandOf linked.now q demand.now → IsSolved linked.now q demand.now solved) }
+{
+    let complete = |parts: &Parts, changed: &[bool], tables: &mut [SiteTables]| -> Result<
+        (),
+        NoMemory,
+    >
+        requires { IsSync R.row × IsSync G.row × MayCompleteAll parts.now changed.now tables.old }
+        ensures { OnOk result (AreCompleted parts.now changed.now tables.old tables.new) }
+    { complete_in_pieces(threads, gate, alloc, parts, changed, tables) };
+    solve_by(&complete, alloc, linked, demand)
+}
+
+/// The same with no gate.
+pub fn solve<R: Threads + Sync>(
+    threads: &R,
+    alloc: Global,
+    linked: &Linked,
+    demand: &Demand,
+) -> Result<Solved, NoMemory>
+    requires well { IsWellLinked linked.now }
+    requires demanded { (q : Asked) × IsDemandOf linked.now q demand.now }
+    ensures { IfOk result (λ solved. (q : Asked) → IsDemandOf linked.now q demand.now → IsSolved linked.now q demand.now solved) }
+{
+    solve_with(threads, alloc, linked, demand, &Open)
 }

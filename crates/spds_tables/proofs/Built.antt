@@ -18,7 +18,8 @@ use Rattle.spds_tables.specs.declared.parts.Parts.{Parts}
 use Rattle.spds_tables.specs.declared.tables.SiteTables.{SiteTables}
 use Rattle.spds_tables.specs.Parts.{AreLedIn, call_start, candidates, field_start, pushes_for, pushes_of, pushes_over, start_rows, starts_at}
 use Rattle.spds_tables.specs.Tables.{AreAdded, AreBuilt, AreBuiltWithin, AreOpenFor, AreSettled, IsAskedOf, IsCallJob, IsFieldJob, IsStoredTo, Opens, settled_of, settled_tables}
-use Rattle.spds_tables.proofs.Lists.{Has-left, Has-right, has-read}
+use Rattle.call_work.proofs.Lists.{has-read}
+use Rattle.spds_tables.proofs.Lists.{Has-left, Has-right}
 use Rattle.spds_tables.proofs.Questions.{has_one}
 use Rattle.auto_table.proofs.Keys.{Has-list_any}
 use Rattle.spds_tables.specs.contracts.numbered.StartAtPartialEq.TheImpl.{eq-value}

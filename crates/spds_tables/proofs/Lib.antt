@@ -1,6 +1,4 @@
 pub mod Lists
-pub mod Gathered
-pub mod Truth
 pub mod FieldSystems
 pub mod CallSystems
 pub mod ByCells
@@ -10,5 +8,4 @@ pub mod Questions
 pub mod Exact
 pub mod Ascending
 pub mod Made
-pub mod Arriving
 pub mod SideBySide

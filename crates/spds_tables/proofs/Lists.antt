@@ -1,23 +1,11 @@
 -- Elements of lists that grow, and of their fronts.
-use Rattle.std.proofs.Common.{◌≡◌, ℕ, zero, suc, ◌+◌, ◌<◌, ◌↔◌, ◌⊎◌, List, [], ◌∷◌, ◌++◌, length, get_or, take, slice_get, Some, sym, ◌∙◌, subst, inl, inr}
+use Rattle.std.proofs.Common.{◌≡◌, ℕ, zero, suc, ◌+◌, ◌⊎◌, List, [], ◌∷◌, ◌++◌, length, slice_get, Some, sym, ◌∙◌, subst, inl, inr}
 use Rattle.std.specs.List.{flat_map}
-use Rattle.std.proofs.lemmas.List.{take_more}
-use Rattle.std.proofs.lemmas.Option.{slice_get-get_or}
 use Rattle.jim_ast.specs.Lists.{Has}
 use Rattle.jim_ast.proofs.Places.{slice_get-append_left}
-use Rattle.link_indexes.proofs.Grown.{Has-push}
 use Rattle.link_laws.proofs.Lists.{slice_get-append_right}
 
 module _ {X : Type 0} where
-  -- what indexing reads stands there
-  pub has-read : (xs : List X) (i : ℕ) (d : X) → i < length xs → Has xs (get_or xs i d)
-  has-read xs i d below = (i, slice_get-get_or xs i d below)
-
-  -- the elements of a front that has one more
-  pub Has-take_more : (xs : List X) (i : ℕ) (d y : X) → i < length xs → Has (take (i + 1) xs) y ↔ (Has (take i xs) y ⊎ (y ≡ get_or xs i d))
-  Has-take_more xs i d y below =
-      subst (λ (ys : List X). Has ys y ↔ (Has (take i xs) y ⊎ (y ≡ get_or xs i d))) (sym (take_more xs i d below)) (Has-push (take i xs) (get_or xs i d) y)
-
   -- the elements of two lists
   pub Has-left : (xs ys : List X) (y : X) → Has xs y → Has (xs ++ ys) y
   Has-left xs ys y has = (has.0, slice_get-append_left xs ys has.0 y has.1)

@@ -26,7 +26,7 @@ use Rattle.spds_rules.specs.declared.node.Node.{Node}
 use Rattle.spds_rules.specs.declared.store.StoreAt.{StoreAt}
 use Rattle.demand_walk.specs.declared.numbered.EdgeAt.{EdgeAt}
 use Rattle.demand_walk.specs.Numbers.{AreEdgesAt, IsEdgeAt}
-use Rattle.spds_tables.specs.Gathered.{AreGathered}
+use Rattle.call_work.specs.Gathered.{AreGathered}
 use Rattle.spds_tables.proofs.Lists.{Has-append}
 use Rattle.spds_rules.specs.Demand.{AreAll, Asked, Demanded, EdgeIn}
 use Rattle.spds_rules.specs.Nodes.{IsNode, site_of}

@@ -7,7 +7,7 @@ use Rattle.rule_cells.specs.Renamed.{number_in}
 use Rattle.spds_tables.specs.declared.numbered.Jump.{Jump}
 use Rattle.spds_tables.specs.declared.numbered.StartAt.{StartAt}
 use Rattle.spds_tables.specs.Tables.{ArrivesAt, IsJumpedTo}
-use Rattle.spds_tables.proofs.Lists.{Has-take_more}
+use Rattle.call_work.proofs.Lists.{Has-take_more}
 use Rattle.weight_laws.specs.declared.reach.Reach.{Reach}
 
 -- one more was looked at

@@ -1,4 +1,3 @@
-pub mod Gathered
 pub mod Names
 pub mod Systems
 pub mod Parts
@@ -6,4 +5,3 @@ pub mod Tables
 pub mod Triples
 pub mod PartsOf
 pub mod Making
-pub mod Arrivals

@@ -16,7 +16,7 @@ ghost use Rattle.spds_rules.specs.declared.store.StoreAt.{StoreAt as AStore};
 ghost use Rattle.spds_rules.specs.Demand.{Asked};
 ghost use Rattle.spds_tables.specs.declared.numbered.Jump.{Jump as AJump};
 ghost use Rattle.spds_tables.specs.declared.numbered.StartAt.{StartAt as AStart};
-ghost use Rattle.spds_tables.specs.Gathered.{AreGathered};
+ghost use Rattle.call_work.specs.Gathered.{AreGathered};
 ghost use Rattle.spds_tables.specs.Making.{IsCallRuleOf, IsJumpAt, IsStartAt, IsStartHere, field_rule_of};
 ghost use Rattle.spds_tables.specs.Parts.{AreLedIn, open_nodes, start_nodes};
 ghost use Rattle.spds_tables.specs.PartsOf.{ArePartsOf, IsStoreOf};
@@ -26,12 +26,12 @@ ghost use Rattle.weight_laws.specs.Reach.{reach_domain};
 use super::numbered::{Jump, StartAt, StoreNodes};
 use super::parts::Parts;
 use auto_table::{NoMemory, Rule};
-use call_side::{Calls, IndexedBases, bases};
+use call_side::{Calls, bases};
+use call_work::{CallBases, CallCommon};
 use demand_set::Demand;
 use demand_walk::EdgeAt;
 use link_program::Linked;
-use post_star::copies::copied;
-use post_star::{BaseStep, Bases, Common};
+use post_star::Common;
 use rule_cells::{CellRules, cell_rules};
 use spds_nodes::is_node;
 use spds_rules::{EdgeKind, Node, StoreAt};
@@ -264,39 +264,41 @@ fn open_numbers(
     Ok(numbers)
 }
 
-/// The cells of nodes in one kind of system, and what the systems have in common.
+/// The cells of nodes in field systems, and what these have in common.
 #[derive(Drop)]
-struct Side {
+struct FieldSide {
     cells: Vec<u32>,
     common: Arc<Common<Reach>>,
 }
 
-/// What systems over these rules have in common. The rules are between nodes; rules and starts that a system has of its own lead to nodes that are kept.
+/// What field systems over these rules have in common. The rules are between nodes; rules and starts that a system has of its own lead to nodes that are
+/// kept.
 fn contracted(
     alloc: Global,
     count: u32,
     rules: &[Rule<Reach>],
     kept: &[u32],
-    steps: Vec<BaseStep>,
-    last: u32,
-) -> Result<Side, NoMemory>
+) -> Result<FieldSide, NoMemory>
     requires ones { (r : ARule AReach) → Has rules.now r → weight_of r ≡ reach_domain.one }
-    requires led { IsLed {W = AReach} [] steps.items last }
     ensures cells { IfOk result (λ side. HaveCells reach_domain rules.now kept.now side.cells.items side.common.value.rules) }
-    ensures steps { IfOk result (λ side. side.common.value.steps ≡ steps.items) }
-    ensures last { IfOk result (λ side. side.common.value.last ≡ last) }
+    ensures steps { IfOk result (λ side. side.common.value.steps ≡ []) }
+    ensures last { IfOk result (λ side. side.common.value.last ≡ 0) }
 {
     let CellRules {
         cells,
         rules: between,
     } = cell_rules(alloc, count, rules, kept)?;
-    let common = Common::new(alloc, between, steps, last)?;
+    let common = Common::new(alloc, between, Vec::new(alloc), 0)?;
     let common = Arc::new(alloc, common)?;
-    Ok(Side { cells, common })
+    Ok(FieldSide { cells, common })
 }
 
 /// What the field systems have in common.
-fn common_fields(alloc: Global, demand: &Demand, starts: &[Vec<StartAt>]) -> Result<Side, NoMemory>
+fn common_fields(
+    alloc: Global,
+    demand: &Demand,
+    starts: &[Vec<StartAt>],
+) -> Result<FieldSide, NoMemory>
     ensures cells { IfOk result (λ side. (edges : List AnEdge) × AreEdgesAt demand.now.nodes demand.now.edges edges
         × HaveCells reach_domain (map field_rule_of edges) (start_nodes (map (λ v. v.items) starts.now)) side.cells.items side.common.value.rules) }
     ensures steps { IfOk result (λ side. side.common.value.steps ≡ []) }
@@ -305,7 +307,37 @@ fn common_fields(alloc: Global, demand: &Demand, starts: &[Vec<StartAt>]) -> Res
     let count = count_of(demand.nodes().len())?;
     let rules = field_rules(alloc, demand.numbered())?;
     let kept = start_numbers(alloc, starts)?;
-    contracted(alloc, count, &rules, &kept, Vec::new(alloc), 0)
+    contracted(alloc, count, &rules, &kept)
+}
+
+/// The cells of nodes in call systems, and what these have in common.
+#[derive(Drop)]
+struct CallSide {
+    cells: Vec<u32>,
+    common: Arc<CallCommon>,
+}
+
+/// What call systems over these rules have in common. The rules are between nodes; starts lead to nodes that are kept.
+fn contracted_calls(
+    alloc: Global,
+    count: u32,
+    rules: &[Rule<Reach>],
+    kept: &[u32],
+    strings: &CallBases,
+) -> Result<CallSide, NoMemory>
+    requires ones { (r : ARule AReach) → Has rules.now r → weight_of r ≡ reach_domain.one }
+    requires led { IsLed {W = AReach} [] strings.now.steps strings.now.last }
+    ensures cells { IfOk result (λ side. HaveCells reach_domain rules.now kept.now side.cells.items side.common.value.rules) }
+    ensures steps { IfOk result (λ side. side.common.value.steps ≡ strings.now.steps) }
+    ensures last { IfOk result (λ side. side.common.value.last ≡ strings.now.last) }
+{
+    let CellRules {
+        cells,
+        rules: between,
+    } = cell_rules(alloc, count, rules, kept)?;
+    let common = CallCommon::new(alloc, between, strings)?;
+    let common = Arc::new(alloc, common)?;
+    Ok(CallSide { cells, common })
 }
 
 /// What the call systems have in common.
@@ -315,20 +347,19 @@ fn common_calls(
     calls: &Calls,
     starts: &[Vec<StartAt>],
     jumps: &[Jump],
-    strings: Bases<'_>,
-) -> Result<Side, NoMemory>
-    requires { IsLed {W = AReach} [] strings.steps.now strings.last }
+    strings: &CallBases,
+) -> Result<CallSide, NoMemory>
+    requires { IsLed {W = AReach} [] strings.now.steps strings.now.last }
     ensures cells { IfOk result (λ side. (edges : List AnEdge) × (rules : List (ARule AReach)) × AreEdgesAt demand.now.nodes demand.now.edges edges
         × AreGathered (IsCallRuleOf calls.now) edges rules
         × HaveCells reach_domain rules (open_nodes (map (λ v. v.items) starts.now) jumps.now) side.cells.items side.common.value.rules) }
-    ensures steps { IfOk result (λ side. side.common.value.steps ≡ strings.entry.steps.now) }
-    ensures last { IfOk result (λ side. side.common.value.last ≡ strings.entry.last) }
+    ensures steps { IfOk result (λ side. side.common.value.steps ≡ strings.now.steps) }
+    ensures last { IfOk result (λ side. side.common.value.last ≡ strings.now.last) }
 {
     let count = count_of(demand.nodes().len())?;
     let rules = call_rules(alloc, calls, demand.numbered())?;
     let kept = open_numbers(alloc, starts, jumps)?;
-    let steps = copied(alloc, strings.steps)?;
-    contracted(alloc, count, &rules, &kept, steps, strings.last)
+    contracted_calls(alloc, count, &rules, &kept, strings)
 }
 
 /// A store by the numbers of its nodes.
@@ -367,21 +398,17 @@ impl Parts {
     {
         let places = Calls::new(alloc, linked)?;
         let steps = bases(alloc, linked, &places)?;
-        let root = linked.root();
+        let strings = CallBases::new(alloc, steps, linked.root())?;
         let starts = all_starts(alloc, linked, demand, count_of(demand.sites().len())?)?;
         let jumps = jumps(alloc, demand.nodes(), demand.numbered())?;
         let fields = common_fields(alloc, demand, &starts)?;
-        let strings = Bases {
-            steps: &steps,
-            last: root,
-        };
-        let calls = common_calls(alloc, demand, &places, &starts, &jumps, strings)?;
+        let calls = common_calls(alloc, demand, &places, &starts, &jumps, &strings)?;
         Ok(Parts {
             fields: fields.common,
             field_cells: fields.cells,
             calls: calls.common,
             call_cells: calls.cells,
-            bases: IndexedBases::new(alloc, steps, root)?,
+            bases: strings,
             places,
             jumps,
             starts,

@@ -3,7 +3,8 @@ ghost use Rattle.std.specs.Prelude.{◌≡◌, ◌<◌, length};
 ghost use Rattle.spds_tables.specs.Parts.{call_cell, cells_at, field_cell, starts_at, store_at, store_nodes_at};
 
 use super::numbered::{CellsAt, Jump, StartAt, StoreNodes, Stored};
-use call_side::{Calls, IndexedBases};
+use call_side::Calls;
+use call_work::{CallBases, CallCommon};
 use post_star::Common;
 use rule_cells::number_of;
 use std::sync::Arc;
@@ -17,11 +18,11 @@ pub struct Parts {
     /// The cell of each node in field systems.
     pub field_cells: Vec<u32>,
     /// What the call systems have in common: their rules between cells, and the call strings of methods.
-    pub calls: Arc<Common<Reach>>,
+    pub calls: Arc<CallCommon>,
     /// The cell of each node in call systems.
     pub call_cells: Vec<u32>,
     /// The call strings of methods.
-    pub bases: IndexedBases,
+    pub bases: CallBases,
     /// The calls that marks stand for.
     pub places: Calls,
     pub jumps: Vec<Jump>,

@@ -7,7 +7,6 @@ ghost use Rattle.spds_tables.specs.Parts.{AreLedIn, IsInParts, candidates};
 ghost use Rattle.spds_tables.specs.Systems.{Reaches};
 ghost use Rattle.spds_tables.specs.Tables.{AreArrivals, AreBuilt, AreBuiltWithin, AreOpenFor, AreSettled, ArrivesAt, IsCallJob, Opens, settled_tables};
 
-use super::arrivals::arrivals;
 use super::asking::asked;
 use super::begun::Begun;
 use super::numbered::{Met, StartAt};
@@ -15,7 +14,7 @@ use super::parts::Parts;
 use super::size::Size;
 use super::works::{add_field_starts, add_pushes, begin_all};
 use auto_table::{Entry, NoMemory};
-use call_side::{IndexedBases, shared_at};
+use call_work::{CallBases, CallWork, shared};
 use indexmap::IndexSet;
 use post_star::Work;
 use std::alloc::Global;
@@ -25,7 +24,7 @@ use weight_laws::Reach;
 #[derive(Drop)]
 pub struct SiteTables {
     pub fields: Work<Reach>,
-    pub calls: Work<Reach>,
+    pub calls: CallWork,
     /// The start nodes of the call system.
     pub begun: Begun,
     /// The meets of which the site is the object.
@@ -44,7 +43,7 @@ fn blank(alloc: Global, parts: &Parts) -> Result<SiteTables, NoMemory>
 {
     Ok(SiteTables {
         fields: Work::new(alloc, parts.fields.clone()?),
-        calls: Work::new(alloc, parts.calls.clone()?),
+        calls: CallWork::new(alloc, parts.calls.clone()?)?,
         begun: Begun::new(alloc),
         mets: Vec::new(alloc),
         done: false,
@@ -76,7 +75,7 @@ fn fill(tables: &mut SiteTables, parts: &Parts, site: u32) -> Result<(), NoMemor
 /// The marks of a call string that both tables give at these cells, the innermost call first; `None` where there is none.
 pub fn shared_word(
     alloc: Global,
-    bases: &IndexedBases,
+    bases: &CallBases,
     first: &SiteTables,
     a: u32,
     second: &SiteTables,
@@ -92,20 +91,13 @@ pub fn shared_word(
     ensures second { IfOk result (λ r. IfSome r (λ word. Reaches second.now.calls b word.items)) }
     ensures none { IfOk result (λ r. IfNone r ((word : List ℕ) → Reaches first.now.calls a word → Reaches second.now.calls b word → ⊥)) }
 {
-    shared_at(
-        alloc,
-        bases,
-        first.calls.table(),
-        a,
-        second.calls.table(),
-        b,
-    )
+    shared(alloc, bases, &first.calls, a, &second.calls, b)
 }
 
 /// Whether both tables give one call string at these cells.
 pub fn share(
     alloc: Global,
-    bases: &IndexedBases,
+    bases: &CallBases,
     first: &SiteTables,
     a: u32,
     second: &SiteTables,
@@ -243,7 +235,7 @@ impl SiteTables {
         requires fields { self.now.fields.settled ≡ true }
         requires calls { self.now.calls.settled ≡ true }
     {
-        Size::of(self.fields.table()).plus(Size::of(self.calls.table()))
+        Size::of(self.fields.table()).plus(Size::of(self.calls.saturated()))
     }
 
     /// The cells at which some call string is.
@@ -251,6 +243,6 @@ impl SiteTables {
         requires { self.now.calls.settled ≡ true }
         ensures { IfOk result (λ nodes. AreArrivals self.now.calls nodes.keys) }
     {
-        arrivals(alloc, self.calls.table())
+        self.calls.arrivals(alloc)
     }
 }

@@ -9,6 +9,7 @@ ghost use Rattle.spds_tables.specs.Tables.{AreAdded};
 use super::begun::Begun;
 use super::numbered::{StartAt, StoreNodes};
 use auto_table::{NoMemory, Rule};
+use call_work::CallWork;
 use post_star::{Start, Work};
 use rule_cells::number_of;
 use weight_laws::{Reach, Weight};
@@ -54,7 +55,7 @@ pub fn add_field_starts(
 
 /// Puts a start of a call system last, by the cell of its node, unless it is there already.
 fn begin(
-    work: &mut Work<Reach>,
+    work: &mut CallWork,
     begun: &mut Begun,
     cells: &[u32],
     start: StartAt,
@@ -81,7 +82,7 @@ fn begin(
 
 /// Puts starts of a call system last, by the cells of nodes, each unless it is there already.
 pub fn begin_all(
-    work: &mut Work<Reach>,
+    work: &mut CallWork,
     begun: &mut Begun,
     cells: &[u32],
     starts: &[StartAt],

@@ -16,7 +16,7 @@ use Rattle.spds_rules.specs.Answers.{IsAnswered}
 use Rattle.spds_rules.specs.Demand.{Asked}
 use Rattle.spds_rules.specs.Nodes.{IsNode}
 use Rattle.spds_solve.specs.Solved.{IsSolved, SolvedParts}
-use Rattle.spds_tables.proofs.Lists.{Has-take_more}
+use Rattle.call_work.proofs.Lists.{Has-take_more}
 use Rattle.track_tables.specs.declared.growth.Growth.{Growth}
 use Rattle.track_tables.specs.Making.{AreAnswering, HasBegun}
 use Rattle.track_tables.proofs.Growing.{kept_has}

@@ -108,7 +108,7 @@ module _ (p : LinkedProgram) (k : ProtocolParts) (q : Asked) (a : Site) (d : Dem
   derived_in (Derives.pops {from} {mark} {to} {word} {x} {weight} has dx) = λ i low h.
       let over = (meaning.extend x weight 0 i (omega arith)).0 h in
       let was = derived_in dx over.0 over.1 over.2 in
-      let cross = (is.pops from mark to over.0 i over.1 low (mark ∷ word, x, dx)).0 (weight, has, over.3) in
+      let cross = (is.pops from mark to over.0 i over.1 low (word, x, dx)).0 (weight, has, over.3) in
       let same : over.0 ≡ i = sym cross.2.along in
       pop_in word from mark to i was.node was.string (subst (λ (j : ℕ). IsCrossStep p k q a d.nodes is.calls Return from mark to j i) same cross) was.there was.marks
       (subst (λ (j : ℕ). Tracks p k q a was.node was.string j) same was.tracks)
@@ -190,7 +190,7 @@ module _ (p : LinkedProgram) (k : ProtocolParts) (q : Asked) (a : Site) (d : Dem
         word = word;
         marks = marks.1;
         derived = λ number there.
-            let step = (is.pops from.0 mark number i i low low (mark ∷ word, before.0, before.1)).1
+            let step = (is.pops from.0 mark number i i low low (word, before.0, before.1)).1
             (call, marks.0, record { source = b; target = n; edge = edge; from_is = from.1; to_is = there; along = refl }) in
             (rel_domain.extend before.0 step.0, Derives.pops step.1 before.1, (meaning.extend before.0 step.0 0 i (omega arith)).1 (i, low, before.2, step.2));
       }

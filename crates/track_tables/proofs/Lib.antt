@@ -1,6 +1,10 @@
 pub mod Sums
 pub mod Exact
+pub mod Filing
 pub mod Growing
+pub mod Upward
 pub mod Taken
+pub mod Backward
+pub mod Going
 pub mod Beginning
 pub mod Made

@@ -1,5 +1,5 @@
 -- The system of a site, as it is made.
-use Rattle.std.proofs.Common.{◌≡◌, ◌↔◌, ◌⊎◌, ℕ, ◌<◌, List, [], Some, true, slice_get, refl, sym, ap, ◌∙◌, subst, inl, inr, arith}
+use Rattle.std.proofs.Common.{◌≡◌, ◌↔◌, ◌⊎◌, ℕ, suc, ◌<◌, List, [], Some, true, slice_get, refl, sym, ap, ◌∙◌, subst, inl, inr, arith}
 use Rattle.auto_table.specs.declared.rule.Rule.{Rule}
 use Rattle.auto_table.specs.declared.rule.Rule.TheVariants as rule
 use Rattle.call_side.specs.Bases.{AreStrings, IsLast}
@@ -12,9 +12,10 @@ use Rattle.link_rules.specs.Linked.{LinkedProgram}
 use Rattle.link_sites.specs.declared.place.Place.{Place}
 use Rattle.link_sites.specs.declared.site.Site.{Site}
 use Rattle.link_sites.specs.declared.site.Site.TheVariants as site
+use Rattle.post_star.specs.declared.bases.BaseStep.{BaseStep}
 use Rattle.post_star.specs.declared.bases.Start.{Start}
 use Rattle.post_star.specs.declared.key.Key.TheVariants as key
-use Rattle.post_star.specs.Derivations.{Derives}
+use Rattle.post_star.specs.Derivations.{Derives, Leads}
 use Rattle.post_star.specs.Groups.{found_at}
 use Rattle.post_star.specs.Jobs.{Job}
 use Rattle.post_star.specs.Measures.{to_of}
@@ -32,11 +33,13 @@ use Rattle.track_systems.specs.Values.{IsWeight}
 use Rattle.track_systems.specs.Weights.{Anywhere, Sends}
 use Rattle.track_tables.specs.declared.growth.Growth.{Growth}
 use Rattle.track_tables.specs.declared.parts.TrackParts.{TrackParts}
+use Rattle.track_tables.specs.declared.returns.Return.{Return}
 use Rattle.track_tables.specs.Begun.{IsBegun, IsFirstWeight}
-use Rattle.track_tables.specs.Making.{AreAnswering, AreTrackParts, HasBegun, HasStepBy, IsGrown, IsRuleBy, IsRuleOf, IsTaken}
+use Rattle.track_tables.specs.Making.{AreAnswering, AreOf, AreOpenFrom, AreTrackParts, HasBegun, HasStepBy, IsEdgeOf, IsGrown, IsOnward, IsRuleBy, IsRuleOf, IsStartAt, IsTaken}
 use Rattle.track_tables.specs.Systems.{Begins, HasStart, HasStep, IsBeginning, IsEdgeStep, IsReached, IsTrackSystem}
 use Rattle.track_tables.specs.Systems as systems
 use Rattle.track_tables.proofs.Growing.{kept_has}
+use Rattle.track_tables.proofs.Upward.{in_more}
 use Rattle.weight_laws.specs.declared.rel.Rel.{Rel}
 use Rattle.weight_laws.specs.Rel.{Relates, rel_domain}
 
@@ -190,31 +193,70 @@ module _ (p : LinkedProgram) (k : ProtocolParts) (q : Asked) (a : Site) (d : Dem
     begin_here node number i low there (systems.loaded {b} {n} {kind} known is_loaded answered sends) =
         begin_loaded b node kind number i low there known is_loaded answered sends
 
-    -- the starts are there
-    pub begun_made : zero.work.steps ≡ parts.strings.value.steps → zero.work.last ≡ parts.strings.value.last → zero.work.rules ≡ parts.strings.value.rules
-        → IsBegun p k q a d parts two
-    begun_made steps last rules = record {
-      steps = more.steps ∙ (begun.steps ∙ steps);
-      last = more.last ∙ (begun.last ∙ last);
-      none = more.rules ∙ (begun.rules ∙ (rules ∙ of.none));
-      starts = λ method number i low. (
-        begins_here method number i low,
-        λ h. subst (λ (m : ℕ). HasStart two.work.starts m number i) (sym h.method_is) (begin_here h.node number i low h.there h.begins),
-      );
-      within = λ s has. elim (more.within s has) [
-        | inl before ↦ elim (begun.within s before) [
-          | inl none ↦ absurd (let empty : Has [] s = subst (λ (ss : List (Start Rel)). Has ss s) no_starts none in cc empty.1)
-          | inr there ↦ kept_has one.reached.keys two.reached.keys s.node more.reached there
-        ]
-        | inr there ↦ there
-      ];
-    }
+    -- the node of a start, whose method is its base
+    home_of : (number : ℕ) (weight : Rel) (s : Start Rel) → IsStartAt p d.nodes number weight s
+        → (n : Node) × (slice_get d.nodes s.node ≡ Some n) × (s.base ≡ n.place.method)
+    home_of number weight s h = (
+      h.node,
+      subst (λ (x : ℕ). slice_get d.nodes x ≡ Some h.node) (sym (ap (λ (t : Start Rel). t.node) h.start_is)) h.there,
+      ap (λ (t : Start Rel). t.base) h.start_is,
+    )
+
+    home : (s : Start Rel) → Has two.work.starts s → (n : Node) × (slice_get d.nodes s.node ≡ Some n) × (s.base ≡ n.place.method)
+    home s has = elim ((more.starts s).0 has) [
+      | inl before ↦ elim ((begun.starts s).0 before) [
+        | inl none ↦ absurd (let empty : Has [] s = subst (λ (ss : List (Start Rel)). Has ss s) no_starts none in cc empty.1)
+        | inr start ↦ home_of start.0 first s start.2
+      ]
+      | inr load ↦ home_of load.0 anywhere s load.2
+    ]
+
+    within : (s : Start Rel) → Has two.work.starts s → Has two.reached.keys s.node
+    within s has = elim (more.within s has) [
+      | inl before ↦ elim (begun.within s before) [
+        | inl none ↦ absurd (let empty : Has [] s = subst (λ (ss : List (Start Rel)). Has ss s) no_starts none in cc empty.1)
+        | inr there ↦ kept_has one.reached.keys two.reached.keys s.node more.reached there
+      ]
+      | inr there ↦ there
+    ]
+
+    module _ (steps : zero.work.steps ≡ parts.strings.value.steps) (last : zero.work.last ≡ parts.strings.value.last)
+        (rules : zero.work.rules ≡ parts.strings.value.rules) (marks : List ℕ)
+        (opens : (number : ℕ) (n : Node) (end : ℕ) → Has two.reached.keys number → slice_get d.nodes number ≡ Some n
+        → AreOpenFrom parts.strings.value.steps n.place.method end marks) where
+      steps_are : two.work.steps ≡ parts.strings.value.steps
+      steps_are = more.steps ∙ (begun.steps ∙ steps)
+
+      -- the starts are there, and the marks of the strings with which objects begin
+      pub begun_made : (three : Growth) → three.work ≡ two.work → three.reached.keys ≡ two.reached.keys → three.marks.keys ≡ marks → IsBegun p k q a d parts three
+      begun_made three work reached is = record {
+        steps = ap (λ (j : Job Rel). j.steps) work ∙ steps_are;
+        last = ap (λ (j : Job Rel). j.last) work ∙ (more.last ∙ (begun.last ∙ last));
+        none = ap (λ (j : Job Rel). j.rules) work ∙ (more.rules ∙ (begun.rules ∙ (rules ∙ of.none)));
+        starts = λ method number i low. subst (λ (ss : List (Start Rel)). HasStart ss method number i ↔ IsBeginning p k q a d.nodes method number i) (sym starts_are) (
+          begins_here method number i low,
+          λ h. subst (λ (m : ℕ). HasStart two.work.starts m number i) (sym h.method_is) (begin_here h.node number i low h.there h.begins),
+        );
+        within = λ s has. subst (λ (ns : List ℕ). Has ns s.node) (sym reached) (within s (was s has));
+        opened = λ s has word mark leads in_word.
+            let n = home s (was s has) in
+            let from = subst (λ (ss : List BaseStep). Leads ss s.base word three.work.last) (ap (λ (j : Job Rel). j.steps) work ∙ steps_are) leads in
+            subst (λ (ms : List ℕ). Has ms mark) (sym is) (opens s.node n.0 three.work.last (within s (was s has)) n.1 word mark
+            (subst (λ (b : ℕ). Leads parts.strings.value.steps b word three.work.last) n.2 from) in_word);
+      }
+        where
+          starts_are : three.work.starts ≡ two.work.starts
+          starts_are = ap (λ (j : Job Rel). j.starts) work
+
+          was : (s : Start Rel) → Has three.work.starts s → Has two.work.starts s
+          was s has = subst (λ (ss : List (Start Rel)). Has ss s) starts_are has
 
   module _ (zero one : Growth) (begun : IsBegun p k q a d parts zero) (grown : IsGrown zero one)
-      (each : (r : Rule Rel) → Has one.work.rules r → Has zero.work.rules r ⊎ ((number : ℕ) × (e : EdgeAt) × Has (found_at parts.edges (key.Node number)) e
-      × IsRuleOf p k q a d.nodes parts.calls e r))
-      (taken : (number : ℕ) (e : EdgeAt) → Has one.reached.keys number → Has (found_at parts.edges (key.Node number)) e
-      → IsTaken p k q a d.nodes parts.calls e one.work.rules) where
+      (each : AreOf p k q a d.nodes parts.calls (IsEdgeOf parts) zero.work.rules one.work.rules)
+      (onward : (number : ℕ) (e : EdgeAt) → Has one.reached.keys number → Has (found_at parts.onward (key.Node number)) e
+      → IsTaken p k q a d.nodes parts.calls e one.work.rules)
+      (back : (r : Return) → Has parts.returns r → Has one.reached.keys r.edge.from → Has one.marks.keys r.mark
+      → IsTaken p k q a d.nodes parts.calls r.edge one.work.rules) where
     no_rule : (r : Rule Rel) → Has zero.work.rules r → ⊥
     no_rule r has = let empty : Has [] r = subst (λ (rs : List (Rule Rel)). Has rs r) begun.none has in cc empty.1
 
@@ -233,6 +275,33 @@ module _ (p : LinkedProgram) (k : ProtocolParts) (q : Asked) (a : Site) (d : Dem
     reached (Derives.pushes {from} {to} {mark} {word} {x} {weight} has dx) = reached_to (rule.Push from to mark weight) to has refl
     reached (Derives.pops {from} {mark} {to} {word} {x} {weight} has dx) = reached_to (rule.Pop from mark to weight) to has refl
 
+    -- each mark of a word that is derived is open
+    opened_for : (from to mark : ℕ) (weight : Rel) → Has one.work.rules (rule.Push from to mark weight) → Has one.marks.keys mark
+    opened_for from to mark weight has = elim (grown.opened (rule.Push from to mark weight) has) [
+      | inl was ↦ absurd (no_rule (rule.Push from to mark weight) was)
+      | inr there ↦ there
+    ]
+
+    opened : {number : ℕ} {word : List ℕ} {w : Rel} → Derives rel_domain one.work.rules one.work.starts one.work.steps one.work.last number word w
+        → (m : ℕ) → Has word m → Has one.marks.keys m
+    opened (Derives.starts_at {s} {word} has leads) = λ m there.
+        let here = subst (λ (l : ℕ). Leads zero.work.steps s.base word l) grown.last
+        (subst (λ (ss : List BaseStep). Leads ss s.base word one.work.last) grown.steps leads) in
+        kept_has zero.marks.keys one.marks.keys m grown.marks (begun.opened s (subst (λ (ss : List (Start Rel)). Has ss s) grown.starts has) word m here there)
+    opened (Derives.flows {from} {to} {word} {x} {weight} has dx) = λ m there. opened dx m there
+    opened (Derives.pushes {from} {to} {mark} {word} {x} {weight} has dx) = λ m there. elim (in_more mark word m there) [
+      | inl same ↦ subst (Has one.marks.keys) (sym same) (opened_for from to mark weight has)
+      | inr below ↦ opened dx m below
+    ]
+    opened (Derives.pops {from} {mark} {to} {word} {x} {weight} has dx) = λ m there. opened dx m (suc there.0, there.1)
+
+    -- an edge of the parts is one of the demand
+    edge_has : (e : EdgeAt) → IsEdgeOf parts e → Has of.edges e
+    edge_has e among = elim among [
+      | inl on ↦ let x = (of.onward on.0 e).0 on.1 in subst (Has of.edges) (sym x.2.0) x.1
+      | inr r ↦ let x = (of.returns r.0).0 r.1 in subst (Has of.edges) (sym x.2.0 ∙ r.2) x.1
+    ]
+
     -- a rule is that of an edge of the demand
     step_at : (e : EdgeAt) (r : Rule Rel) (i j : ℕ) → i < 16 → j < 16 → Has of.edges e → (h : IsRuleOf p k q a d.nodes parts.calls e r) → Relates h.weight i j
         → IsEdgeStep p k q a d.nodes e.kind e.from e.to i j
@@ -248,7 +317,7 @@ module _ (p : LinkedProgram) (k : ProtocolParts) (q : Asked) (a : Site) (d : Dem
     of_edge : (r : Rule Rel) → Has one.work.rules r → (e : EdgeAt) × Has of.edges e × IsRuleOf p k q a d.nodes parts.calls e r
     of_edge r has = elim (each r has) [
       | inl none ↦ absurd (no_rule r none)
-      | inr h ↦ (h.1, ((of.filed (key.Node h.0) h.1).0 h.2).0, h.3)
+      | inr h ↦ (h.0, edge_has h.0 h.1, h.2)
     ]
 
     moved : (kind other : EdgeKind) (first from last to i j : ℕ) → kind ≡ other → first ≡ from → last ≡ to → IsEdgeStep p k q a d.nodes kind first last i j
@@ -288,12 +357,21 @@ module _ (p : LinkedProgram) (k : ProtocolParts) (q : Asked) (a : Site) (d : Dem
         )
 
     -- each edge from where the system comes is taken
-    taken_from : (kind : EdgeKind) (from to i j : ℕ) → i < 16 → j < 16 → Has one.reached.keys from → IsEdgeStep p k q a d.nodes kind from to i j
-        → HasStepBy parts.calls one.work.rules kind from to i j
-    taken_from kind from to i j low few there h =
+    taken_from : (kind : EdgeKind) (from to i j : ℕ) → IsOnward kind → i < 16 → j < 16 → Has one.reached.keys from
+        → IsEdgeStep p k q a d.nodes kind from to i j → HasStepBy parts.calls one.work.rules kind from to i j
+    taken_from kind from to i j is low few there h =
         let e : EdgeAt = record { from = from; to = to; kind = kind } in
         let has = at_edge p q d demand of.edges of.numbered h.source h.target kind from to h.edge h.from_is h.to_is in
-        taken from e there ((of.filed (key.Node from) e).1 (has, refl)) h.source h.target i j h.from_is h.to_is low few h.along
+        onward from e there ((of.onward from e).1 (e, has, (refl, is, refl))) h.source h.target i j h.from_is h.to_is low few h.along
+
+    -- and each back from a call whose mark is open
+    taken_back : (call : Place) (from mark to i j : ℕ) → slice_get parts.calls mark ≡ Some call → i < 16 → j < 16 → Has one.reached.keys from → Has one.marks.keys mark
+        → IsEdgeStep p k q a d.nodes (edge.Return call) from to i j → HasStep one.work.rules (λ w. rule.Pop from mark to w) i j
+    taken_back call from mark to i j is low few there open_mark h =
+        let e : EdgeAt = record { from = from; to = to; kind = edge.Return call } in
+        let r : Return = record { edge = e; mark = mark } in
+        let has = at_edge p q d demand of.edges of.numbered h.source h.target (edge.Return call) from to h.edge h.from_is h.to_is in
+        back r ((of.returns r).1 (e, has, (refl, is))) there open_mark h.source h.target i j h.from_is h.to_is low few h.along mark is
 
     abbrev settled_job : Job Rel
     settled_job = record { steps = one.work.steps; last = one.work.last; rules = one.work.rules; starts = one.work.starts; settled = true }
@@ -306,14 +384,14 @@ module _ (p : LinkedProgram) (k : ProtocolParts) (q : Asked) (a : Site) (d : Dem
       are_calls = of.are_calls;
       steps = subst (AreStrings p parts.calls) (sym (grown.steps ∙ begun.steps)) of.strings;
       last = subst (IsLast p) (sym (grown.last ∙ begun.last)) of.last;
-      flows = λ from to i j low few at. (flow_step from to i j low few, taken_from edge.Flow from to i j low few (reached at.2));
+      flows = λ from to i j low few at. (flow_step from to i j low few, taken_from edge.Flow from to i j tt low few (reached at.2));
       pushes = λ from to mark i j low few at. (
         push_step from to mark i j low few,
-        λ h. taken_from (edge.Call h.0) from to i j low few (reached at.2) h.2 mark h.1,
+        λ h. taken_from (edge.Call h.0) from to i j tt low few (reached at.2) h.2 mark h.1,
       );
       pops = λ from mark to i j low few at. (
         pop_step from mark to i j low few,
-        λ h. taken_from (edge.Return h.0) from to i j low few (reached at.2) h.2 mark h.1,
+        λ h. taken_back h.0 from mark to i j h.1 low few (reached at.2) (opened at.2 mark (0, refl)) h.2,
       );
       starts = λ method number i low.
           subst (λ (ss : List (Start Rel)). HasStart ss method number i ↔ IsBeginning p k q a d.nodes method number i) (sym grown.starts) (begun.starts method number i low);

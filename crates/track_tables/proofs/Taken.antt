@@ -1,24 +1,19 @@
 -- The rules of edges.
-use Rattle.std.proofs.Common.{◌≡◌, ◌↔◌, ◌⊎◌, ℕ, ◌+◌, ◌<◌, ◌≤◌, List, [], ◌∷◌, ◌++◌, length, get_or, take, Some, None, slice_get, true, refl, sym, ap, ◌∙◌, subst, inl, inr, arith, rules}
-use Rattle.std.proofs.lemmas.Bool.{cases_lt}
+use Rattle.std.proofs.Common.{◌≡◌, ◌↔◌, ◌⊎◌, ℕ, ◌+◌, ◌<◌, List, [], ◌∷◌, ◌++◌, length, get_or, take, Some, None, slice_get, true, refl, sym, ap, ◌∙◌, subst, inl, inr, rules}
 use Rattle.auto_table.specs.declared.rule.Rule.{Rule}
 use Rattle.auto_table.specs.declared.rule.Rule.TheVariants as rule
-use Rattle.call_side.specs.Trails.{AreKept}
 use Rattle.demand_walk.specs.declared.numbered.EdgeAt.{EdgeAt}
 use Rattle.jim_ast.specs.Lists.{Has}
-use Rattle.jim_ast.proofs.Places.{slice_get-below, slice_get-there}
 use Rattle.link_indexes.proofs.Grown.{Has-push}
 use Rattle.link_rules.specs.Linked.{LinkedProgram}
 use Rattle.link_sites.specs.declared.place.Place.{Place}
 use Rattle.link_sites.specs.declared.site.Site.{Site}
-use Rattle.post_star.specs.declared.key.Key.TheVariants as key
-use Rattle.post_star.specs.Groups.{Groups, found_at}
 use Rattle.post_star.specs.Measures.{to_of}
 use Rattle.spds_rules.specs.declared.edge.EdgeKind.{EdgeKind}
 use Rattle.spds_rules.specs.declared.edge.EdgeKind.TheVariants as edge
 use Rattle.spds_rules.specs.declared.node.Node.{Node}
 use Rattle.spds_rules.specs.Demand.{Asked}
-use Rattle.spds_tables.proofs.Lists.{Has-take_more}
+use Rattle.call_work.proofs.Lists.{Has-take_more}
 use Rattle.track_rules.specs.Protocols.{ProtocolParts}
 use Rattle.track_systems.specs.Track.{IsLoaded}
 use Rattle.track_systems.specs.Values.{IsWeight}
@@ -144,32 +139,6 @@ pub all_more : (edges : List EdgeAt) (index : ℕ) → index < length edges → 
 all_more edges index below Q was now e has = elim ((Has-take_more edges index no_edge e below).0 has) [
   | inl before ↦ was e before
   | inr same ↦ subst Q (sym same) now
-]
-
--- one more reached node was gone on from
-pub gone_on : (edges : Groups EdgeAt) (at node : ℕ) (old new : List ℕ) (Q : EdgeAt → Type 0) → AreKept old new → slice_get old at ≡ Some node
-    → ((i number : ℕ) (e : EdgeAt) → i < at → slice_get old i ≡ Some number → Has (found_at edges (key.Node number)) e → Q e)
-    → ((e : EdgeAt) → Has (found_at edges (key.Node node)) e → Q e)
-    → (i number : ℕ) (e : EdgeAt) → i < at + 1 → slice_get new i ≡ Some number → Has (found_at edges (key.Node number)) e → Q e
-gone_on edges at node old new Q kept there was now i number e below is has = elim (cases_lt i at) [
-  | inl before ↦
-      let x = slice_get-there old i (omega (arith, slice_get-below old at node there)) in
-      let moved = kept i x.0 x.1 in
-      let same : x.0 ≡ number = cc in
-      was i number e before (subst (λ (n : ℕ). slice_get old i ≡ Some n) same x.1) has
-  | inr other ↦
-      let last : i ≡ at = omega arith in
-      let moved = kept at node there in
-      let here : slice_get new at ≡ Some number = subst (λ (n : ℕ). slice_get new n ≡ Some number) last is in
-      let same : number ≡ node = cc in
-      now e (subst (λ (n : ℕ). Has (found_at edges (key.Node n)) e) same has)
-]
-
--- no node was reached past the last
-pub past : (nodes : List ℕ) (number : ℕ) → slice_get nodes number ≡ None → length nodes ≤ number
-past nodes number none = elim (cases_lt number (length nodes)) [
-  | inl below ↦ let there = (slice_get-there nodes number below).1 in cc
-  | inr more ↦ more
 ]
 
 -- the derived test on relations is equality

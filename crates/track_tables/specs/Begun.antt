@@ -11,6 +11,7 @@ use Rattle.track_systems.specs.Track.{IsMade}
 use Rattle.track_systems.specs.Weights.{Anywhere, Sends}
 use Rattle.track_tables.specs.declared.growth.Growth.{Growth}
 use Rattle.track_tables.specs.declared.parts.TrackParts.{TrackParts}
+use Rattle.track_tables.specs.Making.{AreOpenFrom}
 use Rattle.track_tables.specs.Systems.{HasStart, IsBeginning}
 use Rattle.weight_laws.specs.declared.rel.Rel.{Rel}
 use Rattle.weight_laws.specs.Rel.{Relates}
@@ -27,3 +28,4 @@ pub record IsBegun (p : LinkedProgram) (k : ProtocolParts) (q : Asked) (a : Site
   pub none : growth.work.rules ≡ []
   pub starts : (method number i : ℕ) → i < 16 → HasStart growth.work.starts method number i ↔ IsBeginning p k q a d.nodes method number i
   pub within : (s : Start Rel) → Has growth.work.starts s → Has growth.reached.keys s.node
+  pub opened : (s : Start Rel) → Has growth.work.starts s → AreOpenFrom growth.work.steps s.base growth.work.last growth.marks.keys

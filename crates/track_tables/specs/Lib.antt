@@ -1,3 +1,4 @@
 pub mod Systems
 pub mod Making
 pub mod Begun
+pub mod Returns

@@ -1,6 +1,6 @@
 -- The system of a site under a protocol, as rules between the numbers of nodes: its marks are the numbers of calls, and its weights relations over sixteen
 -- states. It is said state by state: how many rules there are between two nodes, and whether one of them leads nowhere, says nothing.
-use Rattle.std.specs.Prelude.{◌≡◌, ◌↔◌, ℕ, ◌<◌, List, Some, slice_get}
+use Rattle.std.specs.Prelude.{◌≡◌, ◌↔◌, ℕ, ◌<◌, List, ◌∷◌, Some, slice_get}
 use Rattle.auto_table.specs.declared.rule.Rule.{Rule}
 use Rattle.auto_table.specs.declared.rule.Rule.TheVariants as rule
 use Rattle.call_side.specs.Bases.{AreStrings, IsLast}
@@ -35,6 +35,10 @@ HasStart starts base number i = (w : Rel) × Has starts (record { base = base; n
 -- the system derives some word at the node
 abbrev pub IsReached : Job Rel → ℕ → Type 0
 IsReached job number = (word : List ℕ) × (w : Rel) × Derives rel_domain job.rules job.starts job.steps job.last number word w
+
+-- it derives some word there that begins with the mark
+abbrev pub IsReachedUnder : Job Rel → ℕ → ℕ → Type 0
+IsReachedUnder job number mark = (word : List ℕ) × (w : Rel) × Derives rel_domain job.rules job.starts job.steps job.last number (mark ∷ word) w
 
 module _ (p : LinkedProgram) (k : ProtocolParts) (q : Asked) (a : Site) where
   -- along an edge the first state may become the second. What comes out of the heap or of a static field begins anew, and doesn't go along an edge
@@ -72,7 +76,8 @@ module _ (p : LinkedProgram) (k : ProtocolParts) (q : Asked) (a : Site) where
     pub method_is : method ≡ node.place.method
     pub begins : Begins node i
 
-  -- the system of the site over a demand: edges are rules, from each node that it reaches, and objects begin with the call strings of methods
+  -- the system of the site over a demand: edges are rules, from each node that it reaches, and back from each call under whose mark it reaches it; and
+  -- objects begin with the call strings of methods
   pub record IsTrackSystem (d : DemandParts) (job : Job Rel) : Type 0 where
     pub demand : IsDemandOf p q d
     pub calls : List Place
@@ -83,6 +88,6 @@ module _ (p : LinkedProgram) (k : ProtocolParts) (q : Asked) (a : Site) where
         → HasStep job.rules (λ w. rule.Flow from to w) i j ↔ IsEdgeStep d.nodes Flow from to i j
     pub pushes : (from to mark i j : ℕ) → i < 16 → j < 16 → IsReached job from
         → HasStep job.rules (λ w. rule.Push from to mark w) i j ↔ IsCrossStep d.nodes calls Call from mark to i j
-    pub pops : (from mark to i j : ℕ) → i < 16 → j < 16 → IsReached job from
+    pub pops : (from mark to i j : ℕ) → i < 16 → j < 16 → IsReachedUnder job from mark
         → HasStep job.rules (λ w. rule.Pop from mark to w) i j ↔ IsCrossStep d.nodes calls Return from mark to i j
     pub starts : (method number i : ℕ) → i < 16 → HasStart job.starts method number i ↔ IsBeginning d.nodes method number i

@@ -1,15 +1,19 @@
 //! A system of rules and starts that grows.
-ghost use Rattle.std.specs.Prelude.{◌≡◌, ◌<◌, ◌^◌, length, slice_get};
+ghost use Rattle.std.specs.Prelude.{◌≡◌, ◌<◌, ◌^◌, length, slice_get, IsTrue};
+ghost use Rattle.jim_ast.specs.Lists.{Has};
+ghost use Rattle.track_tables.specs.Making.{IsPast};
 
-use indexmap::IndexSet;
+use lists::Numbered;
 use post_star::Work;
 use weight_laws::Rel;
 
-/// A system that grows, and the nodes that it reaches: those at which it begins, and those that its rules lead to.
+/// A system that grows, the nodes that it reaches, those at which it begins and those that its rules lead to, and the marks that may be on top there.
 #[derive(Drop)]
 pub struct Growth {
     pub work: Work<Rel>,
-    pub reached: IndexSet<u32>,
+    pub reached: Numbered<u32>,
+    /// Those of the words with which objects begin, and those that pushes put on.
+    pub marks: Numbered<u32>,
 }
 
 impl Growth {
@@ -18,6 +22,31 @@ impl Growth {
         ensures value { result ≡ slice_get self.now.reached.keys number }
         ensures few { length self.now.reached.keys < 2 ^ 63 }
     {
-        self.reached.as_slice().get(number).copied()
+        self.reached.keys().get(number).copied()
+    }
+
+    /// The mark that was opened as the one with the number, from 0.
+    pub fn mark_at(&self, number: usize) -> Option<u32>
+        ensures value { result ≡ slice_get self.now.marks.keys number }
+        ensures few { length self.now.marks.keys < 2 ^ 63 }
+    {
+        self.marks.keys().get(number).copied()
+    }
+
+    /// Whether the node is one of the first that were reached, so many of them.
+    pub fn is_past(&self, at: usize, node: u32) -> bool
+        ensures { IsPast self.now.reached.keys at node → IsTrue result }
+    {
+        match self.reached.find(node) {
+            Some(number) => (number as usize) < at,
+            None => false,
+        }
+    }
+
+    /// Whether the mark is open.
+    pub fn is_open(&self, mark: u32) -> bool
+        ensures { Has self.now.marks.keys mark → IsTrue result }
+    {
+        self.marks.find(mark).is_some()
     }
 }

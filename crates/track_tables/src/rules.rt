@@ -1,6 +1,7 @@
 //! The rules of a site.
 ghost use Rattle.std.specs.Prelude.{◌≡◌, ◌↔◌, ◌⊎◌, ◌++◌, ◌∷◌, [], ℕ, Some, IsTrue, OnOk};
 ghost use Rattle.auto_table.specs.declared.rule.Rule.{Rule as ARule};
+ghost use Rattle.call_side.specs.Trails.{AreKept};
 ghost use Rattle.demand_walk.specs.declared.numbered.EdgeAt.{EdgeAt as AnEdge};
 ghost use Rattle.jim_ast.specs.Lists.{Has};
 ghost use Rattle.link_sites.specs.declared.site.Site.{Site};
@@ -11,17 +12,20 @@ ghost use Rattle.site_events.specs.Sites.{AreEventsOf};
 ghost use Rattle.spds_rules.specs.Demand.{Asked};
 ghost use Rattle.track_rules.specs.Protocols.{ProtocolParts};
 ghost use Rattle.track_systems.specs.Values.{IsWeight};
-ghost use Rattle.track_tables.specs.Making.{IsGrown, IsRuleBy, IsRuleOf, IsTaken};
+ghost use Rattle.track_tables.specs.declared.returns.Return.{Return as AReturn};
+ghost use Rattle.track_tables.specs.Making.{AreOf, IsEdgeOf, IsGrown, IsOpenFor, IsRuleBy, IsRuleOf, IsTaken};
 ghost use Rattle.track_tables.specs.Systems.{LeadsAlong};
 ghost use Rattle.weight_laws.specs.declared.rel.Rel.{Rel as ARel};
 ghost use Rattle.weight_laws.specs.Rel.{rel_domain};
 
+use super::coming::{come_back, go_back};
 use super::given::{SolvedDemand, node_at};
 use super::growth::Growth;
 use auto_table::{NoMemory, Rule};
 use call_side::Calls;
 use demand_walk::EdgeAt;
 use link_program::Linked;
+use lists::Numbered;
 use site_events::SiteEvents;
 use spds_rules::{EdgeKind, Node};
 use track_weights::{flow_weight, own_weight};
@@ -75,19 +79,31 @@ fn edge_rule(calls: &Calls, edge: EdgeAt, weight: Rel) -> Option<Rule<Rel>>
     }
 }
 
-/// Puts the rule last, and the node that it leads to among those that are reached.
+/// Opens the mark that the rule puts on, if it does one.
+fn open_for(rule: Rule<Rel>, marks: &mut Numbered<u32>) -> Result<(), NoMemory>
+    ensures kept { OnOk result (AreKept marks.old.keys marks.new.keys) }
+    ensures opened { OnOk result (IsOpenFor marks.new.keys rule) }
+{
+    if let Rule::Push { mark, .. } = rule {
+        marks.add(mark)?;
+    }
+    Ok(())
+}
+
+/// Puts the rule last, the node that it leads to among those that are reached, and the mark that it puts on among those that are open.
 fn add_rule(growth: &mut Growth, rule: Rule<Rel>, to: u32) -> Result<(), NoMemory>
     requires { to ≡ to_of rule }
     ensures grown { OnOk result (IsGrown growth.old growth.new) }
     ensures rules { OnOk result (growth.new.work.rules ≡ growth.old.work.rules ++ rule ∷ []) }
 {
     growth.work.add_rule(rule)?;
-    growth.reached.insert(to)?;
+    growth.reached.add(to)?;
+    open_for(rule, &mut growth.marks)?;
     Ok(())
 }
 
 /// Puts the rule of an edge last, if states lead along it, and the node that it leads to among those that are reached.
-fn add_edge(
+pub fn add_edge(
     given: &SolvedDemand<'_>,
     events: &SiteEvents,
     edge: EdgeAt,
@@ -117,15 +133,15 @@ fn add_edge(
 }
 
 /// Puts the rules of edges last.
-fn add_edges(
+pub fn add_edges(
     given: &SolvedDemand<'_>,
     events: &SiteEvents,
     edges: &[EdgeAt],
     growth: &mut Growth,
 ) -> Result<(), NoMemory>
     ensures grown { OnOk result (IsGrown growth.old growth.new) }
-    ensures each { OnOk result ((k : ProtocolParts) (q : Asked) (a : Site) → AreEventsOf given.now.linked.now k q a events.now → (r : ARule ARel) → Has growth.new.work.rules r
-        → Has growth.old.work.rules r ⊎ ((e : AnEdge) × Has edges.now e × IsRuleOf given.now.linked.now k q a given.now.demand.now.nodes given.now.parts.now.calls e r)) }
+    ensures each { OnOk result ((k : ProtocolParts) (q : Asked) (a : Site) → AreEventsOf given.now.linked.now k q a events.now
+        → AreOf given.now.linked.now k q a given.now.demand.now.nodes given.now.parts.now.calls (Has edges.now) growth.old.work.rules growth.new.work.rules) }
     ensures taken { OnOk result ((k : ProtocolParts) (q : Asked) (a : Site) → AreEventsOf given.now.linked.now k q a events.now → (e : AnEdge) → Has edges.now e
         → IsTaken given.now.linked.now k q a given.now.demand.now.nodes given.now.parts.now.calls e growth.new.work.rules) }
 {
@@ -135,24 +151,29 @@ fn add_edges(
     Ok(())
 }
 
-/// Goes on from each node that is reached along its edges, until none is new.
+/// Goes on from each node that is reached, along its edges, and back from calls over marks that are open, until no node is new.
 pub fn spread(
     given: &SolvedDemand<'_>,
     events: &SiteEvents,
     growth: &mut Growth,
 ) -> Result<(), NoMemory>
     ensures grown { OnOk result (IsGrown growth.old growth.new) }
-    ensures each { OnOk result ((k : ProtocolParts) (q : Asked) (a : Site) → AreEventsOf given.now.linked.now k q a events.now → (r : ARule ARel) → Has growth.new.work.rules r
-        → Has growth.old.work.rules r ⊎ ((number : ℕ) × (e : AnEdge) × Has (found_at given.now.parts.now.edges (key.Node number)) e
-        × IsRuleOf given.now.linked.now k q a given.now.demand.now.nodes given.now.parts.now.calls e r)) }
-    ensures taken { OnOk result ((k : ProtocolParts) (q : Asked) (a : Site) → AreEventsOf given.now.linked.now k q a events.now → (number : ℕ) (e : AnEdge)
-        → Has growth.new.reached.keys number → Has (found_at given.now.parts.now.edges (key.Node number)) e
+    ensures each { OnOk result ((k : ProtocolParts) (q : Asked) (a : Site) → AreEventsOf given.now.linked.now k q a events.now
+        → AreOf given.now.linked.now k q a given.now.demand.now.nodes given.now.parts.now.calls (IsEdgeOf given.now.parts.now) growth.old.work.rules growth.new.work.rules) }
+    ensures onward { OnOk result ((k : ProtocolParts) (q : Asked) (a : Site) → AreEventsOf given.now.linked.now k q a events.now → (number : ℕ) (e : AnEdge)
+        → Has growth.new.reached.keys number → Has (found_at given.now.parts.now.onward (key.Node number)) e
         → IsTaken given.now.linked.now k q a given.now.demand.now.nodes given.now.parts.now.calls e growth.new.work.rules) }
+    ensures back { OnOk result ((k : ProtocolParts) (q : Asked) (a : Site) → AreEventsOf given.now.linked.now k q a events.now → (r : AReturn)
+        → Has given.now.parts.now.returns r → Has growth.new.reached.keys r.edge.from → Has growth.new.marks.keys r.mark
+        → IsTaken given.now.linked.now k q a given.now.demand.now.nodes given.now.parts.now.calls r.edge growth.new.work.rules) }
 {
     let mut at = 0;
     while let Some(node) = growth.reached_at(at) {
-        add_edges(given, events, given.parts.edges_from(node), growth)?;
+        let seen = growth.marks.len();
+        go_back(given, events, node, growth)?;
+        add_edges(given, events, given.parts.onward(node), growth)?;
         at += 1;
+        come_back(given, events, at, seen, growth)?;
     }
     Ok(())
 }

@@ -63,7 +63,7 @@ fn begin(
                 node: number,
                 weight,
             })?;
-            growth.reached.insert(number)?;
+            growth.reached.add(number)?;
         }
     }
     Ok(())

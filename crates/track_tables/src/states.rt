@@ -18,12 +18,13 @@ ghost use Rattle.weight_laws.specs.Rel.{Relates};
 
 use super::given::SolvedDemand;
 use super::growth::Growth;
+use super::opening::open_strings;
 use super::parts::TrackParts;
 use super::rules::spread;
 use super::starts::{answering, begin_all, is_made_at};
 use auto_table::NoMemory;
-use indexmap::IndexSet;
 use link_sites::Site;
+use lists::Numbered;
 use post_star::{Work, any_value};
 use site_events::SiteEvents;
 use std::alloc::Global;
@@ -37,7 +38,8 @@ fn blank(alloc: Global, parts: &TrackParts) -> Result<Growth, NoMemory>
 {
     Ok(Growth {
         work: Work::new(alloc, parts.strings().clone()?),
-        reached: IndexSet::new(alloc),
+        reached: Numbered::new(alloc),
+        marks: Numbered::new(alloc),
     })
 }
 
@@ -72,6 +74,7 @@ fn begun(
     begin_all(linked, nodes, given.demand.starts(site), first, &mut growth)?;
     let loaded = answering(alloc, given.solved, site, given.parts.loaded())?;
     begin_all(linked, nodes, &loaded, events.anywhere(), &mut growth)?;
+    open_strings(alloc, given, &mut growth)?;
     Ok(growth)
 }
 

@@ -1,11 +1,13 @@
 -- What is known in a search.
-use Rattle.std.proofs.Common.{◌≡◌, ◌↔◌, ℕ, ◌<◌, List, Some, get_or, map, slice_get, sym, ap, ◌∙◌, subst, arith}
+use Rattle.std.proofs.Common.{◌≡◌, ◌↔◌, ℕ, ◌+◌, ◌<◌, List, [], Some, get_or, map, slice_get, sym, ap, ◌∙◌, subst, arith}
+use Rattle.std.specs.Global.{Vec}
 use Rattle.std.proofs.lemmas.Option.{get_or_from_slice_get}
 use Rattle.jim_ast.specs.Lists.{Has}
 use Rattle.link_program.proofs.Found.{at_map, from_map}
 use Rattle.link_rules.specs.Linked.{LinkedProgram}
 use Rattle.link_sites.specs.declared.place.Place.{Place}
 use Rattle.link_sites.specs.declared.site.Site.{Site}
+use Rattle.piece_join.proofs.Joined.{became}
 use Rattle.spds_rules.specs.Answers.{IsAnswered}
 use Rattle.spds_rules.specs.Demand.{Asked}
 use Rattle.track_events.specs.declared.statement.EventStatement.{EventStatement}
@@ -21,7 +23,7 @@ use Rattle.type_track.specs.declared.receivers.Receiver.{Receiver}
 use Rattle.type_track.specs.declared.search.Search.{Search}
 use Rattle.type_track.specs.Findings.{IsBarred, IsKeptBefore, IsFindingAt, IsFindingOf}
 use Rattle.type_track.specs.Growing.{GrowsBy}
-use Rattle.type_track.specs.Searches.{IsPosed}
+use Rattle.type_track.specs.Searches.{AreBlank, AreFoundAt, AreSearched, IsPosed, IsSiteAt}
 use Rattle.type_track.proofs.Findings.{barred_at, none_at, none_of}
 use Rattle.type_track.proofs.Growing.{grows_none, grows_same}
 
@@ -80,3 +82,14 @@ module _ (q : Asked) (s : Search) (posed : IsPosed q s) where
     grows_barred b value old new same tracked answered leads grown =
         grows_same (IsKeptBefore p) (subst (λ (x : Site). GrowsBy (IsKeptBefore p) (IsBarred k x r.statement value) old new) same grown)
         (barred_at p k q a r.statement (is_event r has) tracked posed.events.form answered value leads)
+
+-- where each site was searched for a blank list, its findings come behind none
+pub found_each : (q : Asked) (s : Search) → IsPosed q s → (count : ℕ) (old new : List (Vec Finding)) → AreBlank count old → AreSearched s old new
+    → (i : ℕ) (a : Site) (list : Vec Finding) → IsSiteAt s i a → slice_get new i ≡ Some list
+    → GrowsBy (IsKeptBefore s.given.linked.now) (IsFindingOf s.given.linked.now s.protocol.now q a) [] list.items
+found_each q s posed count old new blank done i a list there is =
+    let was = became (λ number before after. AreFoundAt s number before.items after.items) 0 old new done.count done.each i list is in
+    let at : 0 + i ≡ i = omega arith in
+    let found : AreFoundAt s i was.0.items list.items = subst (λ (n : ℕ). AreFoundAt s n was.0.items list.items) at was.2 in
+    subst (λ (xs : List Finding). GrowsBy (IsKeptBefore s.given.linked.now) (IsFindingOf s.given.linked.now s.protocol.now q a) xs list.items)
+    (blank.none i was.0 was.1) (found q a posed there)

@@ -1,7 +1,8 @@
 -- Findings by event statement, and by site.
-use Rattle.std.proofs.Common.{◌≡◌, ◌↔◌, ◌⊎◌, ℕ, ◌+◌, ◌<◌, ◌≤◌, List, [], ◌∷◌, ◌++◌, Some, get_or, length, map, slice_get, take, inl, inr, refl, sym, ◌∙◌, subst, arith}
-use Rattle.std.specs.List.{AllPairs}
-use Rattle.std.proofs.lemmas.List.{length-map, take_all}
+use Rattle.std.proofs.Common.{◌≡◌, ◌↔◌, ◌⊎◌, ℕ, zero, suc, ◌+◌, ◌<◌, ◌≤◌, List, [], ◌∷◌, ◌++◌, Some, get_or, length, map, slice_get, take, inl, inr, refl, sym, ap, ◌∙◌, subst, arith}
+use Rattle.std.specs.Global.{Vec}
+use Rattle.std.specs.List.{AllPairs, flat_map}
+use Rattle.std.proofs.lemmas.List.{flat_map_more, length-map, take_all}
 use Rattle.std.proofs.lemmas.Option.{get_or_from_slice_get}
 use Rattle.jim_ast.specs.Lists.{Has}
 use Rattle.jim_ast.proofs.Places.{slice_get-there}
@@ -127,6 +128,30 @@ module _ (p : LinkedProgram) (k : ProtocolParts) (q : Asked) where
           | inr is ↦ (is.0, (Has-push (take i sites) a f.site).1 (inr is.1))
         ]),
       )
+
+  -- findings that come behind none come behind any
+  found_behind : (a : Site) (old found : List Finding) → GrowsBy (IsKeptBefore p) (IsFindingOf p k q a) [] found
+      → GrowsBy (IsKeptBefore p) (IsFindingOf p k q a) old (old ++ found)
+  found_behind a old found g = record { added = g.added; grown = ap (λ (xs : List Finding). old ++ xs) g.grown; exact = g.exact }
+
+  -- those of a list for each site, one behind the other
+  pub sites_joined : (sites : List Site) → AllPairs (Precedes p) sites → (lists : List (Vec Finding)) → length lists ≡ length sites
+      → ((i : ℕ) (a : Site) (list : Vec Finding) → slice_get sites i ≡ Some a → slice_get lists i ≡ Some list
+      → GrowsBy (IsKeptBefore p) (IsFindingOf p k q a) [] list.items)
+      → (n : ℕ) → n ≤ length lists → GrowsBy (IsKeptBefore p) (IsFindingIn (take n sites)) [] (flat_map (λ list. list.items) (take n lists))
+  sites_joined sites ordered lists count each zero low = sites_none sites []
+  sites_joined sites ordered lists count each (suc n) low =
+      let items : Vec Finding → List Finding = λ list. list.items in
+      let list = slice_get-there lists n (omega (arith, low)) in
+      let a = slice_get-there sites n (omega (arith, low, count)) in
+      let was = sites_joined sites ordered lists count each n (omega (arith, low)) in
+      let mid = flat_map items (take n lists) in
+      let grown = sites_next sites ordered [] mid (mid ++ items list.0) n a.0 a.1 was (found_behind a.0 mid (items list.0) (each n a.0 list.0 a.1 list.1)) in
+      let same : mid ++ items list.0 ≡ flat_map items (take (n + 1) lists) =
+      flat_map_more items [] (take n lists) list.0 ∙ ap (flat_map items) (sym (take-next lists n list.0 list.1)) in
+      let next : n + 1 ≡ suc n = omega arith in
+      subst (λ (m : ℕ). GrowsBy (IsKeptBefore p) (IsFindingIn (take m sites)) [] (flat_map items (take m lists))) next
+      (subst (λ (xs : List Finding). GrowsBy (IsKeptBefore p) (IsFindingIn (take (n + 1) sites)) [] xs) same grown)
 
   -- findings as what they name
   pub named : (findings : List Finding) → AreExactly (IsKeptBefore p) (IsOneFinding p k q) findings → AreFindings p k q (map found_of findings)

@@ -1,8 +1,10 @@
 -- How findings are searched for.
-use Rattle.std.specs.Prelude.{◌≡◌, ℕ, ◌<◌, ◌^◌, List, Some, length, slice_get}
+use Rattle.std.specs.Prelude.{◌≡◌, ℕ, ◌<◌, ◌^◌, List, [], Some, length, slice_get}
+use Rattle.std.specs.Global.{Vec}
 use Rattle.demand_set.specs.Demands.{IsDemandOf}
 use Rattle.link_rules.specs.WellLinked.{IsWellLinked}
 use Rattle.link_sites.specs.declared.site.Site.{Site}
+use Rattle.piece_join.specs.Brought.{AllBecome}
 use Rattle.post_star.specs.Jobs.{Job}
 use Rattle.site_events.specs.Events.{AreEventsIn}
 use Rattle.spds_rules.specs.Demand.{Asked}
@@ -16,6 +18,9 @@ use Rattle.track_tables.specs.Making.{AreTrackParts}
 use Rattle.track_tables.specs.Systems.{IsTrackSystem}
 use Rattle.weight_laws.specs.declared.rel.Rel.{Rel}
 use Rattle.type_track.specs.declared.search.Search.{Search}
+use Rattle.track_verdicts.specs.declared.verdict.Finding.{Finding}
+use Rattle.type_track.specs.Findings.{IsFindingOf, IsKeptBefore}
+use Rattle.type_track.specs.Growing.{GrowsBy}
 use Rattle.type_track.specs.Receivers.{AreReceivers}
 
 -- what the query demands is solved, and the protocol's class is one of the program
@@ -45,3 +50,24 @@ pub record IsTrackedIn (q : Asked) (a : Site) (s : Search) (number : ℕ) (job :
   pub there : IsSiteAt s number a
   pub tracked : IsTrackedSite s.given.linked.now s.protocol.now a
   pub system : IsTrackSystem s.given.linked.now s.protocol.now q a s.given.demand.now job
+
+-- the search goes over the site with this number
+pub record MaySearch (s : Search) (number : ℕ) : Type 0 where
+  pub query : Asked
+  pub posed : IsPosed query s
+  pub within : number < length s.given.demand.now.sites
+
+-- exactly the findings on objects of the site with this number were put behind, in order
+abbrev pub AreFoundAt : Search → ℕ → List Finding → List Finding → Type 0
+AreFoundAt s number old new = (q : Asked) (a : Site) → IsPosed q s → IsSiteAt s number a
+    → GrowsBy (IsKeptBefore s.given.linked.now) (IsFindingOf s.given.linked.now s.protocol.now q a) old new
+
+-- so many lists without an element
+pub record AreBlank (count : ℕ) (lists : List (Vec Finding)) : Type 0 where
+  pub count_is : length lists ≡ count
+  pub none : (i : ℕ) (list : Vec Finding) → slice_get lists i ≡ Some list → list.items ≡ []
+
+-- each site was searched, for its list
+pub record AreSearched (s : Search) (old new : List (Vec Finding)) : Type 0 where
+  pub count : length new ≡ length old
+  pub each : AllBecome (λ number before after. AreFoundAt s number before.items after.items) 0 old new

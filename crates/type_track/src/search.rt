@@ -1,5 +1,5 @@
 //! The search for findings over a solved demand.
-ghost use Rattle.std.specs.Prelude.{◌≡◌, ◌↔◌, ◌<◌, Some, length, map, slice_get, IfOk, IsTrue, OnOk};
+ghost use Rattle.std.specs.Prelude.{◌≡◌, ◌↔◌, ◌<◌, Some, flat_map, length, map, slice_get, IfOk, IsTrue, OnOk};
 ghost use Rattle.jim_ast.specs.Lists.{Has};
 ghost use Rattle.link_sites.specs.declared.site.Site.{Site as ASite};
 ghost use Rattle.spds_rules.specs.Answers.{IsAnswered};
@@ -11,15 +11,20 @@ ghost use Rattle.track_verdicts.specs.Found.{found_of};
 ghost use Rattle.type_track.specs.declared.receivers.Receiver.{Receiver as AReceiver};
 ghost use Rattle.type_track.specs.Growing.{GrowsBy};
 ghost use Rattle.type_track.specs.Findings.{IsKeptBefore, IsFindingAt, IsFindingOf};
-ghost use Rattle.type_track.specs.Searches.{IsPosed, IsSiteAt, IsTrackedIn};
+ghost use Rattle.type_track.specs.Searches.{AreBlank, AreSearched, IsPosed, IsSiteAt, IsTrackedIn};
 
 use super::barred::add_barred;
 use super::receivers::Receiver;
 use super::tracked::is_tracked;
 use jim_ast::NoMemory;
+use piece_join::{Bring, bring_all};
 use protocol_words::Protocol;
+use query_core::Hands;
 use site_events::{Events, site_events};
+use spds_solve::Gate;
 use std::alloc::Global;
+use std::marker::Sync;
+use std::thread::Threads;
 use track_tables::{SiteStates, SolvedDemand};
 use track_verdicts::Finding;
 
@@ -129,15 +134,75 @@ fn add_site(
     Ok(())
 }
 
-/// All findings, by site, statement and state.
-pub(crate) fn find_all(alloc: Global, search: &Search<'_>) -> Result<Vec<Finding>, NoMemory>
-    requires { (q : Asked) × IsPosed q search.now }
+// The search at each site.
+#[derive(Clone, Copy)]
+struct Searching<'a> {
+    alloc: Global,
+    search: &'a Search<'a>,
+}
+
+impl Bring<Vec<Finding>> for Searching<'_> {
+    ghost use Rattle.type_track.specs.Searches.{AreFoundAt, MaySearch};
+
+    ghost may = { λ s number findings. MaySearch s.search.now number };
+
+    ghost ends = { λ s number old new. AreFoundAt s.search.now number old.items new.items };
+
+    fn bring(&self, number: u32, findings: &mut Vec<Finding>) -> Result<(), NoMemory> {
+        add_site(self.alloc, self.search, number, findings)
+    }
+}
+
+// So many lists without a finding.
+fn blank(alloc: Global, count: usize) -> Result<Vec<Vec<Finding>>, NoMemory>
+    ensures { IfOk result (λ lists. AreBlank count lists.items) }
+{
+    let mut lists = Vec::new(alloc);
+    for _ in 0..count {
+        lists.push(Vec::new(alloc))?;
+    }
+    Ok(lists)
+}
+
+// The findings of all lists, one behind the other.
+fn joined(alloc: Global, lists: &[Vec<Finding>]) -> Result<Vec<Finding>, NoMemory>
+    ensures { IfOk result (λ findings. findings.items ≡ flat_map (λ list. list.items) lists.now) }
+{
+    let mut findings = Vec::new(alloc);
+    for list in lists {
+        findings.extend_from_slice(list)?;
+    }
+    Ok(findings)
+}
+
+// Searches each site, for a list of its own, in pieces side by side.
+fn search_all<R: Threads + Sync, G: Gate>(
+    hands: &Hands<'_, R, G>,
+    search: &Search<'_>,
+    lists: &mut Vec<Vec<Finding>>,
+) -> Result<(), NoMemory>
+    requires posed { (q : Asked) × IsPosed q search.now }
+    requires count { length lists.old.items ≡ length search.now.given.demand.now.sites }
+    ensures { OnOk result (AreSearched search.now lists.old.items lists.new.items) }
+{
+    let searching = Searching {
+        alloc: hands.alloc,
+        search,
+    };
+    bring_all(hands.threads, hands.gate, &searching, lists)?;
+    Ok(())
+}
+
+/// All findings, by site, statement and state. Sites are searched in pieces side by side.
+pub(crate) fn find_all<R: Threads + Sync, G: Gate>(
+    hands: &Hands<'_, R, G>,
+    search: &Search<'_>,
+) -> Result<Vec<Finding>, NoMemory>
+    requires posed { (q : Asked) × IsPosed q search.now }
     ensures { IfOk result (λ findings. (q : Asked) → IsPosed q search.now
         → AreFindings search.now.given.linked.now search.now.protocol.now q (map found_of findings.items)) }
 {
-    let mut findings = Vec::new(alloc);
-    for site in 0..search.given.demand.sites().len() as u32 {
-        add_site(alloc, search, site, &mut findings)?;
-    }
-    Ok(findings)
+    let mut lists = blank(hands.alloc, search.given.demand.sites().len())?;
+    search_all(hands, search, &mut lists)?;
+    joined(hands.alloc, &lists)
 }

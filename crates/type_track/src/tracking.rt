@@ -18,16 +18,18 @@ use demand_set::{Demand, DemandError, Reach, demand};
 use jim_ast::{List, NoMemory};
 use link_program::Linked;
 use protocol_words::Protocol;
+use query_core::Hands;
 use site_events::events_of;
-use spds_solve::{Solved, solve};
-use std::alloc::Global;
+use spds_solve::{Gate, Solved};
+use std::marker::Sync;
+use std::thread::Threads;
 use track_events::{EventStatement, event_statements, receivers};
 use track_tables::{SolvedDemand, TrackParts};
 use track_verdicts::{Finding, Verdict};
 
 /// The findings over a solved demand of the receivers of all event statements.
-fn findings_in(
-    alloc: Global,
+fn findings_in<R: Threads + Sync, G: Gate>(
+    hands: &Hands<'_, R, G>,
     protocol: &Protocol,
     statements: &[EventStatement],
     given: &SolvedDemand<'_>,
@@ -36,20 +38,20 @@ fn findings_in(
     requires statements { AreEventStatements given.now.linked.now protocol.now statements.now }
     ensures { IfOk result (λ findings. AreFindings given.now.linked.now protocol.now (asked_for statements.now) (map found_of findings.items)) }
 {
-    let events = events_of(alloc, protocol, statements, given.demand)?;
-    let receivers = receivers_in(alloc, statements, given.demand)?;
+    let events = events_of(hands.alloc, protocol, statements, given.demand)?;
+    let receivers = receivers_in(hands.alloc, statements, given.demand)?;
     let search = Search {
         protocol,
         given: *given,
         events: &events,
         receivers: &receivers,
     };
-    find_all(alloc, &search)
+    find_all(hands, &search)
 }
 
 /// The same over what was solved.
-fn findings_by(
-    alloc: Global,
+fn findings_by<R: Threads + Sync, G: Gate>(
+    hands: &Hands<'_, R, G>,
     linked: &Linked,
     protocol: &Protocol,
     statements: &[EventStatement],
@@ -64,19 +66,19 @@ fn findings_by(
     requires solved { IsSolved linked.now (asked_for statements.now) demand.now solved.now }
     ensures { IfOk result (λ findings. AreFindings linked.now protocol.now (asked_for statements.now) (map found_of findings.items)) }
 {
-    let parts = TrackParts::new(alloc, linked, demand)?;
+    let parts = TrackParts::new(hands.alloc, linked, demand)?;
     let given = SolvedDemand {
         linked,
         demand,
         solved,
         parts: &parts,
     };
-    findings_in(alloc, protocol, statements, &given)
+    findings_in(hands, protocol, statements, &given)
 }
 
 /// The same over a demand that isn't solved yet.
-fn findings_over(
-    alloc: Global,
+fn findings_over<R: Threads + Sync, G: Gate>(
+    hands: &Hands<'_, R, G>,
     linked: &Linked,
     protocol: &Protocol,
     statements: &[EventStatement],
@@ -89,13 +91,13 @@ fn findings_over(
     requires few { length demand.now.sites < 2 ^ 32 }
     ensures { IfOk result (λ findings. AreFindings linked.now protocol.now (asked_for statements.now) (map found_of findings.items)) }
 {
-    let solved = solve(alloc, linked, demand)?;
-    findings_by(alloc, linked, protocol, statements, demand, &solved)
+    let solved = hands.solve(linked, demand)?;
+    findings_by(hands, linked, protocol, statements, demand, &solved)
 }
 
 /// The verdict over this demand.
-fn verdict_over(
-    alloc: Global,
+fn verdict_over<R: Threads + Sync, G: Gate>(
+    hands: &Hands<'_, R, G>,
     linked: &Linked,
     protocol: &Protocol,
     statements: &[EventStatement],
@@ -109,7 +111,7 @@ fn verdict_over(
     ensures verdict { IfOk result (IsVerdict linked.now protocol.now) }
     ensures size { IfOk result (λ v. v.demanded ≡ length demand.now.nodes) }
 {
-    let findings = findings_over(alloc, linked, protocol, statements, demand)?;
+    let findings = findings_over(hands, linked, protocol, statements, demand)?;
     let demanded = demand.nodes().len() as u32;
     Ok(Verdict {
         findings: List::from_vec(findings),
@@ -118,12 +120,13 @@ fn verdict_over(
 }
 
 /// The verdict on a program under a protocol: each event that may come in a state in which no row allows it, by site, place and state, and the size of
-/// the demand of the receivers of all event statements.
+/// the demand of the receivers of all event statements. Sites are settled and searched in pieces side by side, and the gate of the hands is told of each as
+/// it begins.
 ///
 /// The error is `OverBudget` exactly where more nodes are demanded than `budget`, and else `NoMemory`. Where the targets of calls cover what runs do and
 /// there is no finding, no run, of any length, breaks the protocol.
-pub fn track(
-    alloc: Global,
+pub fn track<R: Threads + Sync, G: Gate>(
+    hands: &Hands<'_, R, G>,
     linked: &Linked,
     protocol: &Protocol,
     budget: u32,
@@ -139,10 +142,10 @@ pub fn track(
     ensures safe { IsCovered linked.now → IfOk result (λ v. v.findings ≡ [] → IsSafe linked.now protocol.now) }
 {
     protocol.tell_form();
-    let statements = event_statements(alloc, linked, protocol)?;
-    let nodes = receivers(alloc, &statements)?;
-    match demand(alloc, linked, &nodes, Reach::Tracked, budget) {
-        Ok(demand) => Ok(verdict_over(alloc, linked, protocol, &statements, &demand)?),
+    let statements = event_statements(hands.alloc, linked, protocol)?;
+    let nodes = receivers(hands.alloc, &statements)?;
+    match demand(hands.alloc, linked, &nodes, Reach::Tracked, budget) {
+        Ok(demand) => Ok(verdict_over(hands, linked, protocol, &statements, &demand)?),
         Err(error) => Err(error),
     }
 }

@@ -8,7 +8,7 @@ use Rattle.boom_top.specs.declared.status.Status.TheVariants.{Done}
 use Rattle.boom_top.proofs.explaining.explain_reply.Goals as goal
 
 pub returns-in-Ok : goal.returns-in-Ok
-returns-in-Ok c =
+returns-in-Ok g c =
     let a = c.in-Ok.ensures.answer in
     let told = a.2 in
     let made : Result Reply AllocError = Ok (record { status = Done; text = c.in-Ok.text }) in
@@ -16,7 +16,7 @@ returns-in-Ok c =
     refl (told.told, explain_lines c.args.linked.now a.0 told.sites told.demanded c.in-Ok.text.items told.told)
 
 pub returns-in-Err : goal.returns-in-Err
-returns-in-Err c =
+returns-in-Err g c =
     place_refused c.args.linked.now (points_to_of c.args.asked.now) (IsExplainText c.args.linked.now) c.not_answered.result c.in-Err.error
     (record { missing = c.not_answered.ensures.missing; over = c.not_answered.ensures.over; no_memory = c.not_answered.ensures.no_memory })
     (λ which e. (c.in-Err.ensures.missing which).0 (ap Err e)) (λ spent e. c.in-Err.ensures.over spent (ap Err e))

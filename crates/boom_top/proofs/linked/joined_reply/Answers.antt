@@ -22,12 +22,12 @@ refusal_of input prelude entry (link.Refused kind place index) refused real = re
 refusal_of input prelude entry link.NoMemory refused real = real refl
 
 pub returns-in-Ok : goal.returns-in-Ok
-returns-in-Ok c =
+returns-in-Ok g c =
     passed (IsLinkedReply c.in-Ok.linked c.args.command.now.entry.now c.args.rest.now (question_of c.args.command.now.query)) (IsJoinedReply (request_of c.args.command.now) c.args.rest.now c.args.input.now c.args.prelude.now)
     c.linked_reply.result (λ s lines h. inr (c.in-Ok.linked, c.in-Ok.ensures.ok, h)) c.linked_reply.ensures
 
 pub returns-in-Err : goal.returns-in-Err
-returns-in-Err c =
+returns-in-Err g c =
     let error = c.in-Err.error in
     IfOk-both c.not_linked.result (Tells (status.NotLinked error)) (λ (reply : Reply). error ≢ link.NoMemory) _ c.not_linked.ensures.tells c.not_linked.ensures.refused
     (λ reply tells real. (

@@ -8,17 +8,17 @@ use Rattle.boom_top.proofs.Replied.{told}
 use Rattle.boom_top.proofs.linked.program_reply.Goals as goal
 
 pub checked_reply-requires-clause-prelude : goal.checked_reply-requires-clause-prelude
-checked_reply-requires-clause-prelude c = rw (c.as_bytes.ensures.value, c.prelude_is_whole.ensures.text) at c.in-Ok.ensures.spelled
+checked_reply-requires-clause-prelude g c κs within = rw (c.as_bytes.ensures.value, c.prelude_is_whole.ensures.text) at c.in-Ok.ensures.spelled
 
 pub returns-in-Err-NotText : goal.returns-in-Err-NotText
-returns-in-Err-NotText c =
+returns-in-Err-NotText g c =
     let unread = c.in-Err-NotText.ensures.text c.in-Err-NotText.field-0-0 (ap Err c.in-Err-NotText.field-0-is) in
     let none : HasNoPrelude = λ prelude is. spelled_read _ prelude (status.NotText c.in-Err-NotText.field-0-0) is.spelled
     (subst (λ (text : List ℕ). IsUnread text (status.NotText c.in-Err-NotText.field-0-0)) (c.as_bytes.ensures.value ∙ c.prelude_is_whole.ensures.text) unread) in
     told (IsProgramReply (request_of c.args.command.now) c.args.rest.now c.args.input.now) c.refused.result status.BadPrelude c.refused.ensures (inl (none, (refl, refl)))
 
 pub returns-in-Err-NotJimple : goal.returns-in-Err-NotJimple
-returns-in-Err-NotJimple c =
+returns-in-Err-NotJimple g c =
     let unread = c.in-Err-NotJimple.ensures.jimple c.in-Err-NotJimple.field-0-0 (ap Err c.in-Err-NotJimple.field-0-is) in
     let none : HasNoPrelude = λ prelude is. spelled_read _ prelude (status.NotJimple c.in-Err-NotJimple.field-0-0) is.spelled
     (subst (λ (text : List ℕ). IsUnread text (status.NotJimple c.in-Err-NotJimple.field-0-0)) (c.as_bytes.ensures.value ∙ c.prelude_is_whole.ensures.text) unread) in

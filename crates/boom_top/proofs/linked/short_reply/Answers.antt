@@ -7,10 +7,10 @@ use Rattle.boom_top.specs.Replies.{IsTextReply}
 use Rattle.boom_top.proofs.linked.short_reply.Goals as goal
 
 pub parts_reply-requires-clause-short : goal.parts_reply-requires-clause-short
-parts_reply-requires-clause-short c = let part = c.parts_of-parts.ensures.part in let short = c.requires.short in omega (arith, part, short)
+parts_reply-requires-clause-short g c = let part = c.parts_of-parts.ensures.part in let short = c.requires.short in omega (arith, part, short)
 
 pub returns : goal.returns
-returns c =
+returns g c =
     let made = subst (λ (rest : List ℕ). IfOk c.parts_reply.result (Makes (IsTextReply (request_of c.args.command.now) rest c.parts_of-parts.result.program.now)))
     c.parts_of-parts.ensures.rest c.parts_reply.ensures in
     subst (λ (text : List ℕ). IfOk c.parts_reply.result

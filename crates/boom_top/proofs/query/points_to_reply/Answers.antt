@@ -8,15 +8,15 @@ use Rattle.boom_top.proofs.Noded.{answer_sites}
 use Rattle.boom_top.proofs.query.points_to_reply.Goals as goal
 
 pub answered-requires-clause-place : goal.answered-requires-clause-place
-answered-requires-clause-place c = let a = c.in-Ok.ensures.answer in (a.0, a.1)
+answered-requires-clause-place g c = let a = c.in-Ok.ensures.answer in (a.0, a.1)
 
 pub answered-requires-clause-sites : goal.answered-requires-clause-sites
-answered-requires-clause-sites c =
+answered-requires-clause-sites g c =
     let a = c.in-Ok.ensures.answer in
     answer_sites c.args.linked.now c.requires.form a.0 c.in-Ok.answer.sites c.in-Ok.answer.demanded a.2
 
 pub returns-in-Ok : goal.returns-in-Ok
-returns-in-Ok c =
+returns-in-Ok g c =
     let a = c.in-Ok.ensures.answer in
     place_told c.args.linked.now (points_to_of c.args.asked.now) (IsAnswerText c.args.linked.now) c.answered.result a.0 c.in-Ok.answer.sites c.in-Ok.answer.demanded
     a.1 a.2 c.in-Ok.ensures.within c.answered.ensures.done
@@ -26,7 +26,7 @@ returns-in-Ok c =
     (text, answer_lines c.args.linked.now a.0 c.in-Ok.answer.sites c.in-Ok.answer.demanded reply.text.items text)))
 
 pub returns-in-Err : goal.returns-in-Err
-returns-in-Err c =
+returns-in-Err g c =
     place_refused c.args.linked.now (points_to_of c.args.asked.now) (IsAnswerText c.args.linked.now) c.not_answered.result c.in-Err.error
     (record { missing = c.not_answered.ensures.missing; over = c.not_answered.ensures.over; no_memory = c.not_answered.ensures.no_memory })
     (λ which e. (c.in-Err.ensures.missing which).0 (ap Err e)) (λ spent e. c.in-Err.ensures.over spent (ap Err e))

@@ -8,7 +8,7 @@ use Rattle.boom_top.proofs.Replied.{told}
 use Rattle.boom_top.proofs.typestates.protocol_reply.Goals as goal
 
 pub returns-in-Ok : goal.returns-in-Ok
-returns-in-Ok c =
+returns-in-Ok g c =
     let verdict = c.in-Ok.verdict in
     IfOk-both c.verdict_reply.result _ _ _ c.verdict_reply.ensures.done c.verdict_reply.ensures.text (λ reply done t. (
       t.head ∷ (t.lines ++ verdict_lines (length verdict.findings) verdict.demanded),
@@ -25,7 +25,7 @@ returns-in-Ok c =
     ))
 
 pub returns-in-Err-OverBudget : goal.returns-in-Err-OverBudget
-returns-in-Err-OverBudget c =
+returns-in-Err-OverBudget g c =
     let spent = c.in-Err-OverBudget.budget in
     let a = c.in-Err-OverBudget.ensures.over spent (ap Err c.in-Err-OverBudget.field-0-is) in
     told (IsProtocolReply c.args.linked.now c.args.entry.now c.args.budget c.args.protocol.now) c.refused.result (status.OverBudget spent) c.refused.ensures

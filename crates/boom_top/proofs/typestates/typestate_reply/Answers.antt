@@ -22,16 +22,16 @@ reason_of p word protocol.UnknownClass is real = is
 reason_of p word protocol.NoMemory is real = real refl
 
 pub protocol_reply-requires-clause-class : goal.protocol_reply-requires-clause-class
-protocol_reply-requires-clause-class c = protocol_class c.args.linked.now c.args.asked.now.protocol.now c.in-Ok.protocol c.in-Ok.ensures.ok
+protocol_reply-requires-clause-class g c κs within = protocol_class c.args.linked.now c.args.asked.now.protocol.now c.in-Ok.protocol c.in-Ok.ensures.ok
 
 pub returns-in-Ok : goal.returns-in-Ok
-returns-in-Ok c =
+returns-in-Ok g c =
     passed (IsProtocolReply c.args.linked.now c.args.entry.now c.args.asked.now.budget c.in-Ok.protocol)
     (IsTypestateReply c.args.linked.now c.args.entry.now (typestate_of c.args.asked.now)) c.protocol_reply.result
     (λ s lines h. inr (c.in-Ok.protocol, c.in-Ok.ensures.ok, h)) c.protocol_reply.ensures
 
 pub returns-in-Err : goal.returns-in-Err
-returns-in-Err c =
+returns-in-Err g c =
     let error = c.in-Err.error in
     IfOk-both c.no_protocol.result (Tells (status.NotProtocol error)) (λ (reply : Reply). error ≢ protocol.NoMemory) _ c.no_protocol.ensures.tells
     c.no_protocol.ensures.refused (λ reply tells real. (

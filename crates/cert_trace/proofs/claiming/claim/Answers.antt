@@ -12,5 +12,5 @@ call_line-requires-clause-there c = let is = c.requires.answered in call_there i
 
 pub returns : goal.returns
 returns c = λ p trace answered.
-    can_claim p c.args.target c.args.work.now.written trace.closed trace.given trace.told c.args.site c.number_of.result c.call_line.result c.number_of.ensures.gives c.number_of.ensures.least
+    can_claim p c.args.target c.args.work.now.written trace.closed trace.given trace.told c.args.site answered c.number_of.result c.call_line.result c.number_of.ensures.gives c.number_of.ensures.least
     c.call_line.ensures.0 c.call_line.ensures.1

@@ -37,9 +37,13 @@ returns-clause-closed c =
     let traced = c.in_ok-follow_all.ensures.traced in
     let exact = (c.meets.ensures c.args.view.now.linked.now (about c.args.view.now.target) c.args.demand.now c.requires.solved).exact in
     record {
-      worked = traced.closed.worked;
-      starts = traced.closed.starts;
-      mets = λ o base s m. traced.closed.mets o base s ((exact o base s).1 m);
+      wants = c.args.view.now.wants.now;
+      closed = record {
+        wanted = c.requires.wanted;
+        worked = traced.closed.worked;
+        starts = traced.closed.starts;
+        mets = λ o base s n m. traced.closed.mets o base s n ((exact o base s).1 m);
+      };
     }
 
 pub returns-clause-filed : goal.returns-clause-filed

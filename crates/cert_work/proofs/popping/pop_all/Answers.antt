@@ -25,10 +25,10 @@ pub pop_if-requires-clause-below : goal.pop_if-requires-clause-below
 pop_if-requires-clause-below c = below_more c.args.view.now.linked.now c.args.view.now.target c.loop-edge.invariant.added c.args.held c.args.below c.requires.below
 
 pub pop_if-requires-clause-edge : goal.pop_if-requires-clause-edge
-pop_if-requires-clause-edge c = second ((c.edges-edges.ensures _).0 (c.loop-edge.edge-index, slice_get-get_or _ _ _ c.loop-edge-test.true))
+pop_if-requires-clause-edge c = second ((c.requires.edges _).0 (c.loop-edge.edge-index, slice_get-get_or _ _ _ c.loop-edge-test.true))
 
 pub pop_if-requires-clause-from : goal.pop_if-requires-clause-from
-pop_if-requires-clause-from c = first ((c.edges-edges.ensures _).0 (c.loop-edge.edge-index, slice_get-get_or _ _ _ c.loop-edge-test.true))
+pop_if-requires-clause-from c = first ((c.requires.edges _).0 (c.loop-edge.edge-index, slice_get-get_or _ _ _ c.loop-edge-test.true))
 
 pub loop-edge-preserved : goal.loop-edge-preserved
 loop-edge-preserved c =
@@ -36,14 +36,14 @@ loop-edge-preserved c =
     let now = c.in_ok-pop_if.ensures in
     record {
       added = added_more c.args.view.now.linked.now c.args.view.now.target was.added now.added;
-      there = each_next (λ (y : Edge). Takes c.args.held.side c.args.held.entry y.kind → IsThere c.pop_if.new.written (At c.args.held.side c.args.held.site c.args.below.entry y.to) (one_more c.args.held.side (c.args.held.length + c.args.below.length))) c.edges-edges.result.now c.loop-edge.edge-index _ (slice_get-get_or _ _ _ c.loop-edge-test.true)
+      there = each_next (λ (y : Edge). Takes c.args.held.side c.args.held.entry y.kind → IsThere c.pop_if.new.written (At c.args.held.side c.args.held.site c.args.below.entry y.to) (one_more c.args.held.side (c.args.held.length + c.args.below.length))) c.args.edges.now c.loop-edge.edge-index _ (slice_get-get_or _ _ _ c.loop-edge-test.true)
           (λ y has. λ takes. there_more c.args.view.now.linked.now c.args.view.now.target now.added _ _ (was.there y has takes)) now.there;
     }
 
 pub returns-clause-there : goal.returns-clause-there
 returns-clause-there c =
-    let all = take_all c.loop-edge.edge-index c.edges-edges.result.now (omega arith) in
+    let all = take_all c.loop-edge.edge-index c.args.edges.now (omega arith) in
     let added = c.loop-edge.invariant.added in
     λ e along. popped_of c.loop-edge.written c.args.held (held_more c.args.view.now.linked.now c.args.view.now.target added c.args.held c.requires.held) c.args.below
     (below_more c.args.view.now.linked.now c.args.view.now.target added c.args.held c.args.below c.requires.below) e
-    (λ from. c.loop-edge.invariant.there e (subst (λ (xs : List Edge). Has xs e) (sym all) ((c.edges-edges.ensures e).1 (from, along))))
+    (λ from. c.loop-edge.invariant.there e (subst (λ (xs : List Edge). Has xs e) (sym all) ((c.requires.edges e).1 (from, along))))

@@ -6,3 +6,6 @@ returns-then-not-is_node-clause-added c = AreAdded.none
 
 pub returns-in_default-clause-added : goal.returns-in_default-clause-added
 returns-in_default-clause-added c = AreAdded.none
+
+pub returns-then-not-has-clause-added : goal.returns-then-not-has-clause-added
+returns-then-not-has-clause-added c = AreAdded.none

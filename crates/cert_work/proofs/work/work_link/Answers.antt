@@ -7,12 +7,12 @@ use Rattle.cert_work.proofs.work.work_link.Goals as goal
 
 pub pop_takers-requires-clause-takers : goal.pop_takers-requires-clause-takers
 pop_takers-requires-clause-takers c = λ i has.
-    second ((c.requires.work.filed.takers c.args.word i).0 (subst (λ (xs : List ℕ). Has xs i) c.at-takers.ensures has))
+    let is = second ((c.requires.work.takers c.args.word i).0 (subst (λ (xs : List ℕ). Has xs i) c.at-takers.ensures has)) in (is.edge.from, is.put)
 
 pub returns-clause-work : goal.returns-clause-work
 returns-clause-work c =
     let low = cites_low c.args.work.now.written.given c.args.below.number _ c.requires.below in
     let many = many_more c.args.view.now.linked.now c.args.view.now.target c.in_ok-pop_takers.ensures.added in
-    turn_link c.args.view.now.linked.now c.args.view.now.target c.args.work.now c.requires.work c.pop_takers.new.written c.in_ok-pop_takers.ensures.added c.args.below.number c.requires.number (omega arith)
+    turn_link c.args.view.now.linked.now c.args.view.now.target c.args.view.now.wants.now c.args.work.now c.requires.work c.pop_takers.new.written c.in_ok-pop_takers.ensures.added c.args.below.number c.requires.number (omega arith)
     c.args.word c.args.below.entry (cites_kept c.args.view.now.linked.now c.args.view.now.target c.in_ok-pop_takers.ensures.added _ _ c.requires.below) c.add.new.self c.in_ok-add.ensures
     (λ i has. c.in_ok-pop_takers.ensures.there i (subst (λ (xs : List ℕ). Has xs i) (sym c.at-takers.ensures) has))

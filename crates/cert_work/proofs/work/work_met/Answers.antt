@@ -13,6 +13,6 @@ pub returns-clause-work : goal.returns-clause-work
 returns-clause-work c =
     let low = cites_low c.args.work.now.written.given c.args.meeting.number _ c.requires.meets in
     let many = many_more c.args.view.now.linked.now c.args.view.now.target c.in_ok-put_objects.ensures.added in
-    turn_met c.args.view.now.linked.now c.args.view.now.target c.args.work.now c.requires.work c.put_objects.new.written c.in_ok-put_objects.ensures.added c.args.meeting.number c.requires.number (omega arith)
+    turn_met c.args.view.now.linked.now c.args.view.now.target c.args.view.now.wants.now c.args.work.now c.requires.work c.put_objects.new.written c.in_ok-put_objects.ensures.added c.args.meeting.number c.requires.number (omega arith)
     c.args.spot c.args.meeting.base c.args.meeting.store c.requires.arg (cites_kept c.args.view.now.linked.now c.args.view.now.target c.in_ok-put_objects.ensures.added _ _ c.requires.meets) c.add.new.self
     c.in_ok-add.ensures (λ i has. c.in_ok-put_objects.ensures.there i (subst (λ (xs : List ℕ). Has xs i) (sym c.at-objects.ensures) has))

@@ -10,5 +10,5 @@ returns-in-Shared-clause-added c = AreAdded.none
 
 pub returns-in-Shared-clause-work : goal.returns-in-Shared-clause-work
 returns-in-Shared-clause-work c =
-    turn_shared c.args.view.now.linked.now c.args.view.now.target c.args.work.now c.requires.work c.args.work.now.written AreAdded.none (c.args.work.now.done + 1) refl (omega arith) _ _ _ _
+    turn_shared c.args.view.now.linked.now c.args.view.now.target c.args.view.now.wants.now c.args.work.now c.requires.work c.args.work.now.written AreAdded.none (c.args.work.now.done + 1) refl (omega arith) _ _ _ _
     (cites_next c.args.work.now.written.given c.args.work.now.done _ (c.fact.ensures ∙ ap (λ (f : Fact). Some (Some f)) c.in-Shared.is))

@@ -12,14 +12,14 @@ use Rattle.query_core.proofs.Sound.{shared_sound}
 use Rattle.query_core.proofs.sharing.aliases.Goals as goal
 
 pub returns-in_err-both-clause-missing : goal.returns-in_err-both-clause-missing
-returns-in_err-both-clause-missing c =
+returns-in_err-both-clause-missing g c =
     let part = c.in_err-both.field-0.0 in
     refused_exactly (IsMissingOfTwo c.args.linked.now c.args.method.now c.args.index c.args.first.now c.args.second.now) c.from_residual.result part
     (is_err c.from_residual.result (NoSuchPlace part) c.from_residual.ensures.1) c.in_err-both.ensures.missing
     (missing_one_of_two c.args.linked.now c.args.method.now c.args.index c.args.first.now c.args.second.now)
 
 pub find-requires-clause-nodes : goal.find-requires-clause-nodes
-find-requires-clause-nodes c =
+find-requires-clause-nodes g c =
     let p = c.args.linked.now in
     let both = c.in_ok-both.both in
     let first = place_node p c.args.method.now c.args.index c.args.first.now both.first c.in_ok-both.ensures.ok.is_first in
@@ -27,14 +27,14 @@ find-requires-clause-nodes c =
     asked_nodes (IsNode p) both.first (Some both.second) first (λ m e. let same : both.second ≡ m = cc in subst (IsNode p) same second)
 
 pub returns-in_err-found-clause-missing : goal.returns-in_err-found-clause-missing
-returns-in_err-found-clause-missing c =
+returns-in_err-found-clause-missing g c =
     refused_never (IsMissingOfTwo c.args.linked.now c.args.method.now c.args.index c.args.first.now c.args.second.now) c.from_residual-in_err-found.result
     (demanded_never c.from_residual-in_err-found.result c.in_err-found.field-0.0 c.from_residual-in_err-found.ensures.1)
     (places_there c.args.linked.now c.args.method.now c.args.index c.args.first.now c.args.second.now c.in_ok-both.both.first c.in_ok-both.both.second
     c.in_ok-both.ensures.ok)
 
 pub returns-in_err-found-clause-enough : goal.returns-in_err-found-clause-enough
-returns-in_err-found-clause-enough c = λ a b spent here few is.
+returns-in_err-found-clause-enough g c = λ a b spent here few is.
     let p = c.args.linked.now in
     let both = c.in_ok-both.both in
     let same = places_one p c.args.method.now c.args.index c.args.first.now c.args.second.now a b both.first both.second here c.in_ok-both.ensures.ok in
@@ -43,13 +43,13 @@ returns-in_err-found-clause-enough c = λ a b spent here few is.
     c.find.ensures.enough spent (subst (λ (m : Node). IsAffordable p (both.first ∷ m ∷ []) c.args.budget) same.1 moved) (c.in_err-found.was ∙ ap Err error)
 
 pub returns-clause-missing : goal.returns-clause-missing
-returns-clause-missing c =
+returns-clause-missing g c =
     refused_never (IsMissingOfTwo c.args.linked.now c.args.method.now c.args.index c.args.first.now c.args.second.now) _ (λ part e. cc)
     (places_there c.args.linked.now c.args.method.now c.args.index c.args.first.now c.args.second.now c.in_ok-both.both.first c.in_ok-both.both.second
     c.in_ok-both.ensures.ok)
 
 pub returns-clause-beyond : goal.returns-clause-beyond
-returns-clause-beyond c = λ a b here over.
+returns-clause-beyond g c = λ a b here over.
     let p = c.args.linked.now in
     let both = c.in_ok-both.both in
     let same = places_one p c.args.method.now c.args.index c.args.first.now c.args.second.now a b both.first both.second here c.in_ok-both.ensures.ok in
@@ -62,7 +62,7 @@ returns-clause-beyond c = λ a b here over.
     absurd (omega (arith, above, within))
 
 pub returns-clause-sound : goal.returns-clause-sound
-returns-clause-sound c = λ covered a b here.
+returns-clause-sound g c = λ covered a b here.
     let p = c.args.linked.now in
     let both = c.in_ok-both.both in
     let same = places_one p c.args.method.now c.args.index c.args.first.now c.args.second.now a b both.first both.second here c.in_ok-both.ensures.ok in

@@ -5,7 +5,7 @@ use Rattle.jim_ast.specs.Lists.{Has}
 use Rattle.spds_solve.specs.Composing.{AreJoined, IsThere}
 use Rattle.spds_solve.proofs.Composing.{joined_longer, joined_more, lead_ready, there_longer, there_since}
 use Rattle.spds_solve.proofs.compose.lead.Goals as goal
-use Rattle.spds_tables.proofs.Lists.{Has-take_more}
+use Rattle.call_work.proofs.Lists.{Has-take_more}
 
 pub loop-next-init : goal.loop-next-init
 loop-next-init c = record { joined = AreJoined.none; there = λ place has x y p q. cc has.1 }

@@ -3,7 +3,7 @@ use Rattle.std.proofs.lemmas.Option.{slice_get-get_or}
 use Rattle.jim_ast.specs.Lists.{Has}
 use Rattle.post_star.proofs.Loops.{each_all, each_more}
 use Rattle.spds_tables.specs.declared.numbered.Jump.{Jump}
-use Rattle.spds_tables.proofs.Lists.{has-read}
+use Rattle.call_work.proofs.Lists.{has-read}
 use Rattle.spds_tables.proofs.asking.all_begun.Goals as goal
 
 pub loop-jump-init : goal.loop-jump-init

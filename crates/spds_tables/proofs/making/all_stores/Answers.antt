@@ -4,7 +4,7 @@ use Rattle.spds_rules.specs.declared.store.StoreAt.{StoreAt}
 use Rattle.spds_rules.specs.declared.node.Node.{Node}
 use Rattle.spds_rules.specs.declared.node.Var.TheVariants.{Local}
 use Rattle.spds_tables.specs.PartsOf.{IsStoreOf}
-use Rattle.spds_tables.proofs.Lists.{has-read}
+use Rattle.call_work.proofs.Lists.{has-read}
 use Rattle.spds_tables.proofs.SideBySide.{each_all, each_more}
 use Rattle.spds_tables.proofs.making.all_stores.Goals as goal
 

@@ -2,8 +2,8 @@ use Rattle.std.proofs.lemmas.Result.{IfOk-weaker}
 use Rattle.spds_tables.proofs.Made.{field_ones}
 use Rattle.spds_tables.proofs.making.common_fields.Goals as goal
 
-pub contracted-requires-clause-ones : goal.contracted-requires-clause-ones
-contracted-requires-clause-ones c = rw (c.deref.ensures.value, c.in_ok-rules.ensures) (field_ones c.numbered.result.now)
+pub contracted-requires : goal.contracted-requires
+contracted-requires c = record { ones = rw (c.deref.ensures.value, c.in_ok-rules.ensures) (field_ones c.numbered.result.now) }
 
 pub returns-clause-cells : goal.returns-clause-cells
 returns-clause-cells c =

@@ -2,7 +2,7 @@ use Rattle.std.proofs.Common.{◌≡◌, ◌+◌, ◌<◌, ◌↔◌, ◌⊎◌,
 use Rattle.std.proofs.lemmas.List.{take_all}
 use Rattle.jim_ast.specs.Lists.{Has}
 use Rattle.spds_tables.specs.declared.numbered.StartAt.{StartAt}
-use Rattle.spds_tables.proofs.Lists.{Has-take_more, has-read}
+use Rattle.call_work.proofs.Lists.{Has-take_more, has-read}
 use Rattle.spds_tables.proofs.works.begin_all.Goals as goal
 
 pub begin-requires-clause-led : goal.begin-requires-clause-led

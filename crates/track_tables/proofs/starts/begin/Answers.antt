@@ -1,5 +1,4 @@
-use Rattle.std.proofs.Common.{◌≡◌, Some, slice_get, sym, ap, ◌∙◌, subst, refl, eqb, eqb-true, eq-eqb, true≢false}
-use Rattle.demand_walk.proofs.Keys.{Adds-insert_key}
+use Rattle.std.proofs.Common.{◌≡◌, Some, slice_get, sym, ap, ◌∙◌, true≢false}
 use Rattle.jim_ast.specs.Lists.{Adds}
 use Rattle.jim_ast.proofs.Places.{Has-adds_itself}
 use Rattle.post_star.specs.Jobs.{Job}
@@ -8,14 +7,14 @@ use Rattle.track_tables.proofs.Growing.{kept_adds}
 use Rattle.weight_laws.specs.declared.rel.Rel.{Rel}
 use Rattle.track_tables.proofs.starts.begin.Goals as goal
 
-pub returns-in_ok-insert : goal.returns-in_ok-insert
-returns-in_ok-insert c =
+pub returns-in_ok-add : goal.returns-in_ok-add
+returns-in_ok-add c =
     let old = c.args.growth.now.reached.keys in
-    let new = c.insert.new.self.keys in
+    let new = c.add.new.self.keys in
     let number = c.args.number in
-    let adds : Adds old number new = subst (Adds old number) (sym c.in_ok-insert.ensures.keys) (Adds-insert_key eqb eqb-true (λ y. eq-eqb y y refl) old number) in
+    let adds : Adds old number new = c.in_ok-add.ensures.keys in
     let ok = c.in_ok-add_start.ensures.ok in
-    begun_one c.args.linked.now c.args.nodes.now c.args.weight c.args.growth.now (record { work = c.add_start.new.self; reached = c.insert.new.self }) number c.in-Some.node
+    begun_one c.args.linked.now c.args.nodes.now c.args.weight c.args.growth.now (record { work = c.add_start.new.self; reached = c.add.new.self; marks = c.args.growth.now.marks }) number c.in-Some.node
     (sym c.in-Some.ensures) (c.is_node.ensures.0 c.if-is_node.true) (ap (λ (j : Job Rel). j.steps) ok) (ap (λ (j : Job Rel). j.last) ok) (ap (λ (j : Job Rel). j.rules) ok)
     (ap (λ (j : Job Rel). j.starts) ok) (kept_adds old new number adds) (Has-adds_itself old new number adds)
 

@@ -1,4 +1,4 @@
-use Rattle.std.proofs.Common.{ap}
+use Rattle.std.proofs.Common.{ap, refl}
 use Rattle.post_star.specs.Jobs.{Job}
 use Rattle.track_tables.proofs.Made.{begun_made}
 use Rattle.weight_laws.specs.declared.rel.Rel.{Rel}
@@ -13,4 +13,5 @@ returns c k q a demand solved site_is events =
     c.in_ok-loaded.loaded.items (c.starts.ensures a site_is) (rw c.loaded.ensures at c.in_ok-loaded.ensures) c.in_ok-growth.growth c.begin_all.new.growth c.begin_all-2.new.growth
     (ap (λ (j : Job Rel). j.starts) work) (rw c.nodes-nodes.ensures at c.in_ok-begin_all.ensures)
     (rw (c.nodes-nodes.ensures, c.deref.ensures.value) at c.in_ok-begin_all-2.ensures) (ap (λ (j : Job Rel). j.steps) work) (ap (λ (j : Job Rel). j.last) work)
-    (ap (λ (j : Job Rel). j.rules) work)
+    (ap (λ (j : Job Rel). j.rules) work) c.open_strings.new.growth.marks.keys c.in_ok-open_strings.ensures.marks c.open_strings.new.growth c.in_ok-open_strings.ensures.work
+    c.in_ok-open_strings.ensures.reached refl

@@ -1,7 +1,7 @@
 use Rattle.type_track.proofs.tracking.findings_by.Goals as goal
 
 pub findings_in-requires-clause-given : goal.findings_in-requires-clause-given
-findings_in-requires-clause-given c = record {
+findings_in-requires-clause-given g c κs within = record {
   well = c.requires.well;
   class = c.requires.class;
   demand = c.requires.demand;

@@ -5,13 +5,13 @@ use Rattle.type_track.proofs.Asking.{receivers_demanded}
 use Rattle.type_track.proofs.tracking.findings_in.Goals as goal
 
 pub events_of-requires : goal.events_of-requires
-events_of-requires c = let g = c.args.given.now in receivers_demanded g.linked.now c.args.statements.now g.demand.now c.requires.given.demand
+events_of-requires g c = let g = c.args.given.now in receivers_demanded g.linked.now c.args.statements.now g.demand.now c.requires.given.demand
 
 pub receivers_in-requires : goal.receivers_in-requires
-receivers_in-requires c = let g = c.args.given.now in receivers_demanded g.linked.now c.args.statements.now g.demand.now c.requires.given.demand
+receivers_in-requires g c = let g = c.args.given.now in receivers_demanded g.linked.now c.args.statements.now g.demand.now c.requires.given.demand
 
-pub find_all-requires : goal.find_all-requires
-find_all-requires c =
+pub find_all-requires-clause-posed : goal.find_all-requires-clause-posed
+find_all-requires-clause-posed g c κs within =
     let g = c.args.given.now in
     let statements = c.args.statements.now in (
       asked_for statements,
@@ -25,7 +25,7 @@ find_all-requires c =
     )
 
 pub returns : goal.returns
-returns c =
+returns g c =
     let g = c.args.given.now in
     let statements = c.args.statements.now in
     if_ok c.find_all.result _ _ c.find_all.ensures (λ findings are. are (asked_for statements) (record {

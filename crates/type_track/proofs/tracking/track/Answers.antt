@@ -9,7 +9,7 @@ use Rattle.type_track.proofs.Findings.{all_tellable, none_found}
 use Rattle.type_track.proofs.tracking.track.Goals as goal
 
 pub demand-requires : goal.demand-requires
-demand-requires c =
+demand-requires g c =
     let p = c.args.linked.now in
     let k = c.args.protocol.now in
     let query = query_for p k c.in_ok-statements.statements.items c.deref.result.now c.in_ok-nodes.nodes.items c.deref-2.result.now c.in_ok-statements.ensures
@@ -17,12 +17,12 @@ demand-requires c =
     record { nodes = λ n has. event_node p k c.requires.well.form n ((query.asked.receivers n).0 has) }
 
 pub returns-in-Ok-clause-tellable : goal.returns-in-Ok-clause-tellable
-returns-in-Ok-clause-tellable c =
+returns-in-Ok-clause-tellable g c =
     let verdict = c.in_ok-verdict_over-in-Ok.ensures.verdict in
     all_tellable c.args.linked.now c.args.protocol.now verdict.q c.requires.well.form c.tell_form.ensures c.in_ok-verdict_over-in-Ok.field-0.findings verdict.findings
 
 pub returns-in-Ok-clause-beyond : goal.returns-in-Ok-clause-beyond
-returns-in-Ok-clause-beyond c = λ beyond.
+returns-in-Ok-clause-beyond g c = λ beyond.
     let p = c.args.linked.now in
     let k = c.args.protocol.now in
     let query = query_for p k c.in_ok-statements.statements.items c.deref.result.now c.in_ok-nodes.nodes.items c.deref-2.result.now c.in_ok-statements.ensures
@@ -31,7 +31,7 @@ returns-in-Ok-clause-beyond c = λ beyond.
     c.in-Ok.ensures.beyond (subst (λ (q : Asked). HasMore (Demand p q) c.args.budget) same beyond.2)
 
 pub returns-in-Ok-clause-safe : goal.returns-in-Ok-clause-safe
-returns-in-Ok-clause-safe c = λ covered none.
+returns-in-Ok-clause-safe g c = λ covered none.
     let p = c.args.linked.now in
     let k = c.args.protocol.now in
     let verdict = c.in_ok-verdict_over-in-Ok.ensures.verdict in
@@ -39,7 +39,7 @@ returns-in-Ok-clause-safe c = λ covered none.
     (none_found p k verdict.q c.in_ok-verdict_over-in-Ok.field-0.findings none verdict.findings)
 
 pub returns-clause-over : goal.returns-clause-over
-returns-clause-over c = λ spent is.
+returns-clause-over g c = λ spent is.
     let p = c.args.linked.now in
     let k = c.args.protocol.now in
     let query = query_for p k c.in_ok-statements.statements.items c.deref.result.now c.in_ok-nodes.nodes.items c.deref-2.result.now c.in_ok-statements.ensures
@@ -49,7 +49,7 @@ returns-clause-over c = λ spent is.
     (over.0, (record { targets = c.deref-2.result.now; reach = Tracked }, query, over.1))
 
 pub returns-clause-enough : goal.returns-clause-enough
-returns-clause-enough c = λ spent few is.
+returns-clause-enough g c = λ spent few is.
     let p = c.args.linked.now in
     let k = c.args.protocol.now in
     let query = query_for p k c.in_ok-statements.statements.items c.deref.result.now c.in_ok-nodes.nodes.items c.deref-2.result.now c.in_ok-statements.ensures

@@ -5,11 +5,11 @@ use Rattle.type_track.specs.Receivers.{asked_for}
 use Rattle.type_track.proofs.tracking.verdict_over.Goals as goal
 
 pub findings_over-requires-clause-few : goal.findings_over-requires-clause-few
-findings_over-requires-clause-few c =
+findings_over-requires-clause-few g c =
     omega (arith, few_sites c.args.linked.now (asked_for c.args.statements.now) c.args.demand.now c.requires.demand, c.requires.few)
 
 pub returns-clause-verdict : goal.returns-clause-verdict
-returns-clause-verdict c =
+returns-clause-verdict g c =
     let p = c.args.linked.now in
     let k = c.args.protocol.now in
     let statements = c.args.statements.now in

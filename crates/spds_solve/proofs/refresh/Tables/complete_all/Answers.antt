@@ -1,25 +1,23 @@
-use Rattle.std.proofs.Common.{arith}
-use Rattle.spds_solve.proofs.Still.{ended_all, ended_none, still_self, still_then}
+use Rattle.std.proofs.Common.{refl, arith}
+use Rattle.spds_solve.specs.declared.refresh.Tables.{Tables}
+use Rattle.spds_solve.proofs.Still.{completed_all, completed_still, completed_taken, taken_may}
 use Rattle.spds_solve.proofs.refresh.Tables.complete_all.Goals as goal
 
-pub loop-site-init : goal.loop-site-init
-loop-site-init c = record { still = still_self c.args.self.now; settled = λ mets taken. ended_none c.args.parts.now mets c.args.self.now taken }
-
-pub complete-requires-clause-taken : goal.complete-requires-clause-taken
-complete-requires-clause-taken c = let taken = c.requires.taken in (taken.0, (c.loop-site.invariant.settled taken.0 taken.1).taken)
-
-pub complete-requires-clause-site : goal.complete-requires-clause-site
-complete-requires-clause-site c =
+pub complete_by-requires-clause-may : goal.complete_by-requires-clause-may
+complete_by-requires-clause-may g c =
     let taken = c.requires.taken in
-    omega (arith, (c.loop-site.invariant.settled taken.0 taken.1).taken.count, taken.1.count, c.args.self.now.each.ok.0)
+    rw c.deref.ensures.value
+    (taken_may c.args.parts.now taken.0 c.args.self.now c.requires.led (omega (arith, c.in_ok-count_of.ensures, c.args.self.now.each.ok.0)) taken.1)
 
-pub loop-site-preserved : goal.loop-site-preserved
-loop-site-preserved c = record {
-  still = still_then c.args.self.now c.loop-site.self c.complete.new.self c.loop-site.invariant.still c.in_ok-complete.ensures.still;
-  settled = λ mets taken. c.in_ok-complete.ensures.settled mets (c.loop-site.invariant.settled mets taken);
-}
+pub returns-clause-still : goal.returns-clause-still
+returns-clause-still g c =
+    let taken = c.requires.taken in
+    completed_still c.args.parts.now c.args.self.now _ refl (rw c.deref.ensures.value at c.in_ok-complete_by.ensures) taken.0 taken.1
 
 pub returns-clause-settled : goal.returns-clause-settled
-returns-clause-settled c mets taken =
-    let all = c.loop-site.invariant.settled mets taken in
-    (all.taken, ended_all c.args.parts.now mets c.loop-site.site c.loop-site.self (omega (arith, all.taken.count, taken.count)) all)
+returns-clause-settled g c mets taken =
+    let new : Tables = record { each = c.complete_by.new.tables; changed = c.args.self.now.changed } in
+    let done = rw c.deref.ensures.value at c.in_ok-complete_by.ensures in (
+      completed_taken c.args.parts.now c.args.self.now new refl done mets taken,
+      completed_all c.args.parts.now c.args.self.now new refl done mets taken,
+    )

@@ -3,8 +3,6 @@ use Rattle.std.proofs.lemmas.Bool.{ltb-true, ltb-false}
 use Rattle.jim_ast.proofs.Places.{slice_get-below}
 use Rattle.link_indexes.proofs.Grown.{slice_get-read}
 use Rattle.link_laws.proofs.Lists.{at_map, map_at}
-use Rattle.spds_rules.specs.Systems.{Fields}
-use Rattle.spds_solve.specs.declared.arrivals.Arrival.{Arrival}
 use Rattle.spds_solve.specs.Solved.{IsOfBases, SolvedParts, SpellsFields}
 use Rattle.spds_solve.proofs.Celled.{answered_else, answered_then}
 use Rattle.spds_solve.proofs.solved.Solved.holds.Goals as goal

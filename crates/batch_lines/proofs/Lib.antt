@@ -1,0 +1,4 @@
+pub mod Lines
+pub mod Marked
+pub mod Outcomes
+pub mod Spelled

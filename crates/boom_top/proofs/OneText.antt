@@ -1,0 +1,184 @@
+-- A query of a place is answered by one text.
+use Rattle.std.proofs.Common.{◌≡◌, ℕ, zero, suc, ◌-◌, ◌<◌, ◌++◌, List, [], ◌∷◌, Some, codes, length, map, slice_get, get_or, refl, sym, ap, subst, ◌∙◌, inl, inr, arith}
+use Rattle.std.proofs.lemmas.Bool.{cases_lt}
+use Rattle.std.proofs.lemmas.List.{length-map}
+use Rattle.std.proofs.lemmas.Option.{get_or_from_slice_get, same_Some, slice_get_within}
+use Rattle.jim_ast.specs.Lists.{Has}
+use Rattle.link_rules.specs.declared.code.Code.{Code}
+use Rattle.link_rules.specs.declared.code.Code.TheVariants.{New, NewArray, NewMulti}
+use Rattle.link_rules.specs.Linked.{Element, LinkedClass, LinkedMethod, LinkedProgram}
+use Rattle.link_rules.specs.Lists.{AreIncreasing, Each}
+use Rattle.link_rules.specs.Names.{brackets}
+use Rattle.link_rules.specs.WellLinked.{FitsMethod, IsInForm}
+use Rattle.link_laws.proofs.Lists.{all_at, at_all, map_at}
+use Rattle.link_program.specs.Accessed.{HasElementText}
+use Rattle.link_sites.specs.declared.place.Place.{Place}
+use Rattle.link_sites.specs.declared.site.Site.{Site}
+use Rattle.link_sites.specs.declared.site.Site.TheVariants as site
+use Rattle.link_sites.specs.Places.{CodeAt}
+use Rattle.spds_rules.specs.declared.node.Node.{Node}
+use Rattle.spds_rules.specs.declared.node.Var.{Var}
+use Rattle.spds_rules.specs.declared.node.Var.TheVariants.{Local}
+use Rattle.spds_nodes.proofs.Statements.{CodeAt-one}
+use Rattle.query_core.proofs.Determined.{answer_one, answer_over}
+use Rattle.query_core.proofs.NamedPlaces.{missing_one, place_one, place_there}
+use Rattle.query_core.specs.Answers.{IsOver}
+use Rattle.report_text.specs.Answers.{IsAnswerText, IsQueryLine, IsSiteLine, IsTargetText, IsVarName, count_lines}
+use Rattle.report_text.specs.Lines.{text_of}
+use Rattle.report_text.specs.Texts.{IsArrayText, IsMadeAt, IsMadeText, IsNewText, IsPlaceText, IsSiteText, constant_text}
+use Rattle.boom_words.specs.Requests.{PointsTo}
+use Rattle.boom_top.specs.Refusals.{refusal}
+use Rattle.boom_top.specs.Replies.{IsAnswered, IsBudgetReply, IsPlaceReply}
+use Rattle.boom_top.specs.declared.status.Status.{Status}
+use Rattle.boom_top.specs.declared.status.Status.TheVariants.{Done, NoSuchPlace, OverBudget}
+
+module _ (p : LinkedProgram) (form : IsInForm p) where
+  method_one : (number : ℕ) (m n : LinkedMethod) → slice_get p.methods number ≡ Some m → slice_get p.methods number ≡ Some n → m ≡ n
+  method_one number m n a b = same_Some m n (sym a ∙ b)
+
+  -- a place has one text
+  place_text_one : (place : Place) (a b : List ℕ) → IsPlaceText p place a → IsPlaceText p place b → a ≡ b
+  place_text_one place a b x y =
+      let same = method_one place.method x.method y.method x.there y.there in
+      let first = x.text_is in
+      let second = y.text_is in
+      let names : x.method.text ≡ y.method.text = ap (λ m. m.text) same in
+      cc
+
+  -- an element of an index has one text, where the indexes rise
+  element_one : (elements : List Element) (index : ℕ) → AreIncreasing (map (λ e. e.index) elements) → (a b : List ℕ) → HasElementText elements index a → HasElementText elements index b → a ≡ b
+  element_one elements index rising a b x y = sym x.is_text ∙ ap (λ e. e.text) same ∙ y.is_text
+    where
+      at_index : (i : ℕ) (e : Element) → slice_get elements i ≡ Some e → (d : ℕ) → get_or (map (λ e. e.index) elements) i d ≡ e.index
+      at_index i e there d = get_or_from_slice_get (map (λ e. e.index) elements) i e.index d (map_at (λ e. e.index) elements i e there)
+
+      apart : (i j : ℕ) (d e : Element) → slice_get elements i ≡ Some d → slice_get elements j ≡ Some e → d.index ≡ e.index → i < j → ⊥
+      apart i j d e here there equal less =
+          let below = slice_get_within elements j e there in
+          let long = length-map elements (λ e. e.index) in
+          let order = rising i j 0 less (omega (arith, below, long)) in
+          let first = at_index i d here 0 in
+          let second = at_index j e there 0 in
+          omega (arith, order, first, second, equal)
+
+      equal : x.element.index ≡ y.element.index
+      equal = x.at ∙ sym y.at
+
+      same : x.element ≡ y.element
+      same = elim (cases_lt x.has.0 y.has.0) [
+        | inl less ↦ absurd (apart x.has.0 y.has.0 x.element y.element x.has.1 y.has.1 equal less)
+        | inr least ↦ elim (cases_lt y.has.0 x.has.0) [
+          | inl less ↦ absurd (apart y.has.0 x.has.0 y.element x.element y.has.1 x.has.1 (sym equal) less)
+          | inr most ↦
+              let one : x.has.0 ≡ y.has.0 = omega (arith, least, most) in
+              same_Some x.element y.element (sym x.has.1 ∙ ap (slice_get elements) one ∙ y.has.1)
+        ]
+      ]
+
+  array_one : (m : LinkedMethod) → FitsMethod p m → (index pairs : ℕ) (a b : List ℕ) → IsArrayText m index pairs a → IsArrayText m index pairs b → a ≡ b
+  array_one m fits index pairs a b x y =
+      let same = element_one m.elements index fits.one_each x.0 y.0 x.1 y.1 in
+      x.2 ∙ ap (λ e. e ++ brackets pairs) same ∙ sym y.2
+
+  -- what a statement makes has one text
+  made_one : (m : LinkedMethod) → FitsMethod p m → (index level : ℕ) (code : Code) (a b : List ℕ) → IsMadeText p m index level code a → IsMadeText p m index level code b → a ≡ b
+  made_one m fits index level (New to class) a b x y =
+      let same = same_Some x.0 y.0 (sym x.1 ∙ y.1) in
+      x.2 ∙ ap (λ c. c.name) same ∙ sym y.2
+  made_one m fits index level (NewArray to) a b x y = array_one m fits index 1 a b x y
+  made_one m fits index level (NewMulti to levels) a b x y = array_one m fits index (levels - level) a b x y
+  made_one m fits index level _ a b x y = absurd x
+
+  made_at_one : (place : Place) (level : ℕ) (a b : List ℕ) → IsMadeAt p place level a → IsMadeAt p place level b → a ≡ b
+  made_at_one place level a b x y =
+      let codes_same = CodeAt-one p place.method place.index x.code y.code x.at y.at in
+      let methods_same = method_one place.method x.at.method y.at.method x.at.there y.at.there in
+      let fits = at_all (FitsMethod p) p.methods place.method y.at.method form.methods y.at.there in
+      let moved = subst (λ (m : LinkedMethod). IsMadeText p m place.index level x.code a) methods_same x.made in
+      made_one y.at.method fits place.index level y.code a b (subst (λ (c : Code). IsMadeText p y.at.method place.index level c a) codes_same moved) y.made
+
+  new_text_one : (place : Place) (level : ℕ) (a b : List ℕ) → IsNewText p place level a → IsNewText p place level b → a ≡ b
+  new_text_one place level a b x y =
+      let at_same = place_text_one place x.at y.at x.at_is y.at_is in
+      let made_same = made_at_one place level x.made y.made x.made_is y.made_is in
+      x.text_is ∙ ap (λ t. t ++ codes " new " ++ x.made) at_same ∙ ap (λ t. y.at ++ codes " new " ++ t) made_same ∙ sym y.text_is
+
+  -- a site has one text
+  site_text_one : (o : Site) (a b : List ℕ) → IsSiteText p o a → IsSiteText p o b → a ≡ b
+  site_text_one (site.New place) a b x y = new_text_one place 0 a b x y
+  site_text_one (site.Nested place level) a b x y = new_text_one place level a b x y
+  site_text_one (site.Raised place kind) a b x y =
+      let at_same = place_text_one place x.at y.at x.at_is y.at_is in
+      let class_same = same_Some x.class y.class (sym x.class_is ∙ y.class_is) in
+      x.text_is ∙ ap (λ t. t ++ codes " raise " ++ x.class) at_same ∙ ap (λ t. y.at ++ codes " raise " ++ t) class_same ∙ sym y.text_is
+  site_text_one (site.Text number) a b x y = x.2 ∙ ap (constant_text (codes "text")) (same_Some x.0 y.0 (sym x.1 ∙ y.1)) ∙ sym y.2
+  site_text_one (site.Class number) a b x y = x.2 ∙ ap (constant_text (codes "class")) (same_Some x.0 y.0 (sym x.1 ∙ y.1)) ∙ sym y.2
+
+  line_one : (o : Site) (a b : List ℕ) → IsSiteLine p o a → IsSiteLine p o b → a ≡ b
+  line_one o a b x y = x.line_is ∙ ap (λ t. codes "site " ++ t) (site_text_one o x.text y.text x.is_text y.is_text) ∙ sym y.line_is
+
+  lines_one : (sites : List Site) (xs ys : List (List ℕ)) → Each (IsSiteLine p) sites xs → Each (IsSiteLine p) sites ys → xs ≡ ys
+  lines_one [] [] [] x y = refl
+  lines_one [] (l ∷ xs) ys x y = absurd (let long = x.as_many in omega (arith, long))
+  lines_one [] [] (l ∷ ys) x y = absurd (let long = y.as_many in omega (arith, long))
+  lines_one (o ∷ sites) [] ys x y = absurd (let long = x.as_many in omega (arith, long))
+  lines_one (o ∷ sites) (l ∷ xs) [] x y = absurd (let long = y.as_many in omega (arith, long))
+  lines_one (o ∷ sites) (l ∷ xs) (k ∷ ys) x y =
+      let first = line_one o l k (x.each 0 o l refl refl) (y.each 0 o k refl refl) in
+      let long = x.as_many in
+      let also = y.as_many in
+      let rest = lines_one sites xs ys
+      (record { as_many = omega (arith, long); each = λ i a b p q. x.each (suc i) a b p q }) (record { as_many = omega (arith, also); each = λ i a b p q. y.each (suc i) a b p q }) in
+      cc (first, rest)
+
+  name_one : (place : Place) (v : Var) (a b : List ℕ) → IsVarName p place v a → IsVarName p place v b → a ≡ b
+  name_one place (Local x) a b n m =
+      let same = method_one place.method n.method m.method n.there m.there in
+      same_Some a b (sym n.named ∙ ap (λ (k : LinkedMethod). slice_get k.locals x) same ∙ m.named)
+  name_one place _ a b n m = absurd n
+
+  -- a node has one text
+  target_one : (n : Node) (a b : List ℕ) → IsTargetText p n a → IsTargetText p n b → a ≡ b
+  target_one n a b x y =
+      let at_same = place_text_one n.place x.at y.at x.at_is y.at_is in
+      let name_same = name_one n.place n.var x.name y.name x.name_is y.name_is in
+      x.text_is ∙ ap (λ t. t ++ codes " " ++ x.name) at_same ∙ ap (λ t. y.at ++ codes " " ++ t) name_same ∙ sym y.text_is
+
+  query_line_one : (word : List ℕ) (n : Node) (a b : List ℕ) → IsQueryLine p word n a → IsQueryLine p word n b → a ≡ b
+  query_line_one word n a b x y = x.line_is ∙ ap (λ t. word ++ codes " " ++ t) (target_one n x.target y.target x.target_is y.target_is) ∙ sym y.line_is
+
+  answer_text_one : (n : Node) (sites : List Site) (demanded : ℕ) (a b : List ℕ) → IsAnswerText p n sites demanded a → IsAnswerText p n sites demanded b → a ≡ b
+  answer_text_one n sites demanded a b x y =
+      let query_same = query_line_one (codes "points-to") n x.query y.query x.query_is y.query_is in
+      let lines_same = lines_one sites x.lines y.lines x.lines_are y.lines_are in
+      x.text_is ∙ ap (λ l. text_of (l ∷ (x.lines ++ count_lines (length sites) demanded))) query_same
+      ∙ ap (λ ls. text_of (y.query ∷ (ls ++ count_lines (length sites) demanded))) lines_same ∙ sym y.text_is
+
+  module _ (budget : ℕ) (n : Node) where
+    answered_one : (xs ys : List (List ℕ)) → IsAnswered p (IsAnswerText p) budget n xs → IsAnswered p (IsAnswerText p) budget n ys → text_of xs ≡ text_of ys
+    answered_one xs ys a b =
+        let same = answer_one p n a.sites b.sites a.demanded b.demanded a.answer b.answer in
+        let moved = subst (λ (d : ℕ). IsAnswerText p n b.sites d (text_of xs)) same.1 (subst (λ (s : List Site). IsAnswerText p n s a.demanded (text_of xs)) same.0 a.told) in
+        answer_text_one n b.sites b.demanded (text_of xs) (text_of ys) moved b.told
+
+    within : (xs : List (List ℕ)) → IsAnswered p (IsAnswerText p) budget n xs → IsOver p (n ∷ []) budget → ⊥
+    within xs a over = let most = a.affordable in omega (arith, most, answer_over p n a.sites a.demanded budget a.answer over)
+
+    budget_text_one : (s t : Status) (xs ys : List (List ℕ)) → IsBudgetReply p (n ∷ []) budget (IsAnswered p (IsAnswerText p) budget n) s xs
+        → IsBudgetReply p (n ∷ []) budget (IsAnswered p (IsAnswerText p) budget n) t ys → text_of xs ≡ text_of ys
+    budget_text_one s t xs ys (inl a) (inl b) = ap text_of (a.1.1 ∙ sym b.1.1)
+    budget_text_one s t xs ys (inl a) (inr b) = absurd (within ys b.0 a.0)
+    budget_text_one s t xs ys (inr a) (inl b) = absurd (within xs a.0 b.0)
+    budget_text_one s t xs ys (inr a) (inr b) = answered_one xs ys a.0 b.0
+
+  pub place_text : (asked : PointsTo) (s t : Status) (xs ys : List (List ℕ)) → IsPlaceReply p asked (IsAnswerText p) s xs → IsPlaceReply p asked (IsAnswerText p) t ys
+      → text_of xs ≡ text_of ys
+  place_text asked s t xs ys (inl a) (inl b) =
+      let same = missing_one p asked.method asked.index asked.local a.0 b.0 a.1 b.1 in
+      ap text_of (a.2.1 ∙ ap (λ w. refusal (NoSuchPlace w) ∷ []) same ∙ sym b.2.1)
+  place_text asked s t xs ys (inl a) (inr b) = absurd (place_there p asked.method asked.index asked.local b.0 b.1 a.0 a.1)
+  place_text asked s t xs ys (inr a) (inl b) = absurd (place_there p asked.method asked.index asked.local a.0 a.1 b.0 b.1)
+  place_text asked s t xs ys (inr a) (inr b) =
+      let here = subst (λ (n : Node). IsBudgetReply p (n ∷ []) asked.budget (IsAnswered p (IsAnswerText p) asked.budget n) s xs)
+      (place_one p asked.method asked.index asked.local a.0 b.0 a.1 b.1) a.2 in
+      budget_text_one asked.budget b.0 s t xs ys here b.2

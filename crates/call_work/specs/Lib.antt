@@ -1,0 +1,5 @@
+pub mod Arrivals
+pub mod Coded
+pub mod Crowds
+pub mod Gathered
+pub mod Openings

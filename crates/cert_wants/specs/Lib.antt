@@ -1,0 +1,2 @@
+pub mod SamePairing
+pub mod Settled
