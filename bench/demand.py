@@ -77,8 +77,8 @@ fn answer(rt: &HostRuntime, bytes: &[u8]) -> Result<String> {
         Err(_) => None,
     };
     match linked {
-        Some(linked) => measured(rt, &linked),
-        None => Ok(String::from_str(rt.alloc(), "no linked program")?),
+        Some(Ok(linked)) => measured(rt, &linked),
+        _ => Ok(String::from_str(rt.alloc(), "no linked program")?),
     }
 }
 

@@ -30,6 +30,46 @@ fn asked(linked: &Linked, local: &str) -> Option<Node> {
 }
 '''
 
+# A program from standard input, linked with the prelude: `told` is asked of the local at the end of `main` that is the one word of the command line.
+LINKED = '''// Microseconds since then.
+fn micros_since<R: Clock>(rt: &R, start: Instant) -> u64 {
+    match start.elapsed(rt) {
+        Ok(took) => u64::try_from(took.as_micros()).unwrap_or(u64::MAX),
+        Err(_) => u64::MAX,
+    }
+}
+
+fn measured<R: AllocGlobal + Clock + Threads + Sync>(rt: &R, linked: &Linked, local: &str) -> Result<String>
+    requires { IsWellLinked linked.now }
+{
+    match asked(linked, local) {
+        Some(node) if is_node(linked, node) => told(rt, linked, node),
+        _ => Ok(String::from_str(rt.alloc(), "no such place")?),
+    }
+}
+
+fn answer<R: AllocGlobal + Clock + Threads + Sync>(rt: &R, bytes: &[u8], local: &str) -> Result<String> {
+    let Ok(text) = str::from_utf8(bytes) else {
+        return Ok(String::from_str(rt.alloc(), "no text")?);
+    };
+    match linked_of(rt.alloc(), text) {
+        Some(Ok(linked)) => measured(rt, &linked, local),
+        _ => Ok(String::from_str(rt.alloc(), "no linked program")?),
+    }
+}
+
+fn main(rt: HostRuntime) -> Result<()> {
+    let mut bytes = Vec::new(rt.alloc());
+    rt.stdin().read_to_end(&mut bytes)?;
+    let Some(local) = env::args(&rt)?.nth(1) else {
+        return Ok(());
+    };
+    let line = answer(&rt, &bytes, &local)?;
+    println!(rt; "{line}")?;
+    Ok(())
+}
+'''
+
 INIT = '  void <init>() { return; }\n'
 
 
@@ -58,6 +98,7 @@ def build(folder, name, uses, program, proofs=()):
     needed = below(uses.split(), known)
     with open(os.path.join(folder, 'crates.txt'), 'w') as out:
         out.write(''.join(known[crate][0] for crate in needed) + f'{name}: {uses}\n')
+    shutil.copy(os.path.join(TOP, 'HANDLES'), folder)
     for crate in needed:
         shutil.copytree(os.path.join(TOP, 'crates', crate), os.path.join(folder, 'crates', crate), ignore=shutil.ignore_patterns('out', 'must-fail'))
     crate = os.path.join(folder, 'crates', name)
@@ -74,6 +115,16 @@ def write(path, text):
     os.makedirs(os.path.dirname(path), exist_ok=True)
     with open(path, 'w') as out:
         out.write(text)
+
+
+def asks(name):
+    """The proof of `told` of the program, which asks for the demand of one node."""
+    return f'''use Rattle.demand_walk.proofs.Appended.{{Has-one}}
+use Rattle.{name}.proofs.told.Goals as goal
+
+pub demand-requires : goal.demand-requires
+demand-requires g c = record {{ nodes = λ n has. rw (Has-one _ n has) c.requires.node }}
+'''
 
 
 def run_measured(path, data):

@@ -253,8 +253,8 @@ TABLES = {
         ('layers of a library, each over the one below', layers, [5, 10, 20, 40], [2, 4]),
     ],
     'explain': [
-        ('a list of cells, built and read', cells, [25, 50, 100, 200], [5, 10]),
-        ('the same, explained', explained(cells), [25, 50, 100, 200], [5, 10]),
+        ('a list of cells, built and read', cells, [50, 100, 200, 400], [5, 10]),
+        ('the same, explained', explained(cells), [50, 100, 200, 400], [5, 10]),
         ('boxes through one put and one get', boxes, [50, 100, 200, 400], [5, 10]),
         ('the same, explained', explained(boxes), [50, 100, 200, 400], [5, 10]),
         ('methods that all call each other', clique, [10, 20, 40], [4, 8]),

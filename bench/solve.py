@@ -11,11 +11,11 @@ import subprocess
 import sys
 import tempfile
 
-from proved import ASKED, build
+from proved import ASKED, LINKED, asks, build
 from queries import TABLES
 
 USES = ('linked_text jim_ast class_tree link_rules link_laws link_indexes link_program link_sites spds_rules spds_laws spds_nodes demand_walk demand_set weight_laws auto_table '
-        'post_star rule_cells call_side spds_tables spds_solve indexmap anyhow')
+        'post_star rule_cells rule_marks call_side call_work spds_tables piece_join spds_solve indexmap anyhow')
 
 PROGRAM = r'''//! Links a program from standard input with the prelude, and tells of a local at the end of `main` how long its query takes to be solved, and how much
 //! that holds. The local is the one word of the command line.
@@ -31,22 +31,17 @@ use link_program::Linked;
 use link_sites::Place;
 use spds_nodes::is_node;
 use spds_rules::{Node, Var};
-use spds_solve::{Solved, solve};
+use spds_solve::{Solved, solve_here};
 use std::env;
 use std::io::Read;
+use std::marker::Sync;
+use std::rt::Clock;
+use std::thread::Threads;
 use std::time::Instant;
 
 ''' + ASKED + r'''
-// Microseconds since then.
-fn micros_since(rt: &HostRuntime, start: Instant) -> u64 {
-    match start.elapsed(rt) {
-        Ok(took) => u64::try_from(took.as_micros()).unwrap_or(u64::MAX),
-        Err(_) => u64::MAX,
-    }
-}
-
 // How long solving took, in microseconds, and the sizes of what is demanded and found.
-fn line(rt: &HostRuntime, took: u64, found: &Demand, solved: &Solved) -> Result<String> {
+fn line<R: AllocGlobal + Clock>(rt: &R, took: u64, found: &Demand, solved: &Solved) -> Result<String> {
     let nodes = found.nodes().len();
     let size = solved.size();
     let (entries, facts, meets) = (size.entries, size.facts, solved.meets().len());
@@ -54,7 +49,7 @@ fn line(rt: &HostRuntime, took: u64, found: &Demand, solved: &Solved) -> Result<
 }
 
 // Solves what the node demands, and tells of it. It has few ways out while it owns the tables, since the prover goes over their drops at each.
-fn told(rt: &HostRuntime, linked: &Linked, node: Node) -> Result<String>
+fn told<R: AllocGlobal + Clock>(rt: &R, linked: &Linked, node: Node) -> Result<String>
     requires well { IsWellLinked linked.now }
     requires node { IsNode linked.now node }
 {
@@ -62,49 +57,13 @@ fn told(rt: &HostRuntime, linked: &Linked, node: Node) -> Result<String>
         return Ok(String::from_str(rt.alloc(), "no demand")?);
     };
     let start = Instant::now(rt)?;
-    match solve(rt.alloc(), linked, &found) {
+    match solve_here(rt.alloc(), linked, &found) {
         Ok(solved) => line(rt, micros_since(rt, start), &found, &solved),
         Err(_) => Ok(String::from_str(rt.alloc(), "no memory")?),
     }
 }
 
-fn measured(rt: &HostRuntime, linked: &Linked, local: &str) -> Result<String>
-    requires { IsWellLinked linked.now }
-{
-    match asked(linked, local) {
-        Some(node) if is_node(linked, node) => told(rt, linked, node),
-        _ => Ok(String::from_str(rt.alloc(), "no such place")?),
-    }
-}
-
-fn answer(rt: &HostRuntime, bytes: &[u8], local: &str) -> Result<String> {
-    let Ok(text) = str::from_utf8(bytes) else {
-        return Ok(String::from_str(rt.alloc(), "no text")?);
-    };
-    match linked_of(rt.alloc(), text) {
-        Some(linked) => measured(rt, &linked, local),
-        None => Ok(String::from_str(rt.alloc(), "no linked program")?),
-    }
-}
-
-fn main(rt: HostRuntime) -> Result<()> {
-    let mut bytes = Vec::new(rt.alloc());
-    rt.stdin().read_to_end(&mut bytes)?;
-    let Some(local) = env::args(&rt)?.nth(1) else {
-        return Ok(());
-    };
-    let line = answer(&rt, &bytes, &local)?;
-    println!(rt; "{line}")?;
-    Ok(())
-}
-'''
-
-ASKS = '''use Rattle.demand_walk.proofs.Appended.{Has-one}
-use Rattle.solve_speed.proofs.told.Goals as goal
-
-pub demand-requires : goal.demand-requires
-demand-requires c = record { nodes = λ n has. rw (Has-one _ n has) c.requires.node }
-'''
+''' + LINKED
 
 
 def measured(path, text, local):
@@ -122,7 +81,7 @@ def growth(now, before):
 def main():
     small = sys.argv[1:] == ['--small']
     with tempfile.TemporaryDirectory() as folder:
-        path = build(folder, 'solve_speed', USES, PROGRAM, [('told', ASKS)])
+        path = build(folder, 'solve_speed', USES, PROGRAM, [('told', asks('solve_speed'))])
         for title, shape, sizes, few in TABLES['calls'] + TABLES['fields']:
             print(f'\n{title}')
             print(f'{"size":>8} {"time":>11} {"growth":>7} {"demanded":>10} {"entries":>9} {"facts":>10} {"growth":>7} {"meets":>7}', flush=True)

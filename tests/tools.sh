@@ -71,7 +71,7 @@ for args in examples/*.args; do
   example=${args%.args}
   mapfile -t words < "$args"
   case "${words[0]} $(head -n 1 "$example.stdout")" in
-    run* | demo* | replay* | typestate* | *'refused Usage' | *'refused NotText'* | *'refused NotJimple'* | *'refused NoSuchPlace index') continue ;;
+    run* | demo* | replay* | typestate* | batch* | *'refused Usage' | *'refused NotText'* | *'refused NotJimple'* | *'refused NoSuchPlace index') continue ;;
   esac
   found=$(tools/number.py "$example" "${words[2]}" | awk -v asked="${words[3]}" '$1 == asked { print $1 }')
   prints "$example" 0 "${words[3]}" echo "$found"
