@@ -7,6 +7,7 @@
 mod list;
 mod name;
 mod names;
+mod notes;
 mod syntax;
 
 pub use list::List;

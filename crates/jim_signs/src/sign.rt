@@ -17,12 +17,13 @@ use jim_text::{Kind, Token, has_quote};
 use std::alloc::Global;
 
 // The number of a text among the names, which have it then.
-fn number(names: &mut Names, text: &str) -> Result<u32, NoMemory>
+fn number(names: &mut Names, text: &[u8]) -> Result<u32, NoMemory>
+    requires { IsUtf8 text.now }
     ensures names { IfOk result (λ _. names.new ≡ with_text names.old text.now) }
     ensures place { IfOk result (λ number. number ≡ place_of names.new text.now) }
     ensures within { IfOk result (λ number. number < length names.new) }
 {
-    let id = names.add(text)?;
+    let id = names.add_bytes(text)?;
     Ok(id.0)
 }
 
@@ -45,10 +46,10 @@ fn number_of_name(alloc: Global, names: &mut Names, text: &[u8]) -> Result<u32, 
     ensures within { IfOk result (λ number. number < length names.new) }
 {
     if !has_quote(text) {
-        return number(names, as_text(text));
+        return number(names, text);
     }
     let plain = jim_text::contents(alloc, text)?;
-    number(names, as_text(&plain))
+    number(names, &plain)
 }
 
 // The number that at most five digits write.
@@ -72,7 +73,7 @@ fn number_of_text(names: &mut Names, text: &str) -> Result<u32, NoMemory>
     ensures place { IfOk result (λ number. number ≡ place_of names.new (between_quotes text.now)) }
     ensures within { IfOk result (λ number. number < length names.new) }
 {
-    number(names, &text[1..text.len() - 1])
+    number(names, text[1..text.len() - 1].as_bytes())
 }
 
 // The class and the number of a word with an at sign.

@@ -116,6 +116,11 @@ pub run_snoc : {p : ℕ → Bool} {bytes : List ℕ} {from middle c to : ℕ} �
 run_snoc {p} {bytes} {from} {middle} {c} {to} (ends e) here passes = goes (subst (λ x. CharAt bytes x c to) (sym e) here) passes (ends refl)
 run_snoc (goes first also more) here passes = goes first also (run_snoc more here passes)
 
+-- runs that meet are one
+pub run_join : {p : ℕ → Bool} {bytes : List ℕ} {from middle to : ℕ} → Run p bytes from middle → Run p bytes middle to → Run p bytes from to
+run_join {p} {bytes} {from} {middle} {to} (ends e) more = subst (λ x. Run p bytes x to) (sym e) more
+run_join (goes first also rest) more = goes first also (run_join rest more)
+
 -- a run ends where it begins, or later
 pub run_low : {p : ℕ → Bool} {bytes : List ℕ} {from to : ℕ} → Run p bytes from to → from ≤ to
 run_low (ends e) = omega (arith, e)

@@ -1,4 +1,5 @@
 pub mod AloneLemmas
+pub mod ByteLemmas
 pub mod CharLemmas
 pub mod CommentLemmas
 pub mod DigitLemmas

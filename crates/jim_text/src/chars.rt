@@ -2,10 +2,18 @@
 ghost use Rattle.std.specs.Prelude.{◌≡◌, ◌+◌, ◌<◌, ◌≤◌, [], length, MatchOption, slice_index, IsTrue, ◌↔◌};
 ghost use Rattle.std.specs.Char.{len_utf8};
 ghost use Rattle.std.specs.Str.{StartsWithNoChar};
-ghost use Rattle.unicode_ident.specs.Ident.{is_xid_continue};
+ghost use Rattle.unicode_ident.specs.Ident.{is_xid_continue, is_xid_start};
 ghost use Rattle.jim_text.specs.Chars.{Leads, CharAt, NoCharAt, Run, Stops, Has};
 ghost use Rattle.jim_text.specs.Ends.{is_in};
 ghost use Rattle.jim_text.specs.Spelling as spell;
+
+/// Of each ASCII character 1 where it goes on a plain component, else 0.
+const CONTINUES: [u8; 128] = [
+    0, 0, 0, 0, 0, 0, 0, 0, 0, 0, 0, 0, 0, 0, 0, 0, 0, 0, 0, 0, 0, 0, 0, 0, 0, 0, 0, 0, 0, 0, 0, 0,
+    0, 0, 0, 1, 1, 0, 0, 0, 0, 0, 0, 0, 0, 1, 0, 0, 1, 1, 1, 1, 1, 1, 1, 1, 1, 1, 0, 0, 0, 0, 0, 0,
+    0, 1, 1, 1, 1, 1, 1, 1, 1, 1, 1, 1, 1, 1, 1, 1, 1, 1, 1, 1, 1, 1, 1, 1, 1, 1, 1, 0, 0, 0, 0, 1,
+    0, 1, 1, 1, 1, 1, 1, 1, 1, 1, 1, 1, 1, 1, 1, 1, 1, 1, 1, 1, 1, 1, 1, 1, 1, 1, 1, 0, 0, 0, 0, 0,
+];
 
 /// Characters that stand together.
 #[derive(Clone, Copy)]
@@ -51,7 +59,8 @@ fn first_char(bytes: &[u8]) -> Option<char>
     }
 }
 
-// A character has four bytes at most.
+// A character has four bytes at most. Kept out of line, so that ASCII is read in place.
+#[inline(never)]
 fn wide_char_at(bytes: &[u8], at: usize) -> Option<char>
     requires { at ≤ length bytes.now }
     ensures { MatchOption result (NoCharAt bytes.now at) (λ c. CharAt bytes.now at c (at + len_utf8 c)) }
@@ -93,6 +102,20 @@ impl Class {
     }
 }
 
+impl Class {
+    /// The same of an ASCII character, without looking into Unicode's tables.
+    #[inline]
+    fn contains_byte(self, b: u8) -> bool
+        requires { b < 128 }
+        ensures { result ≡ is_in self b }
+    {
+        match self {
+            Class::Continue => CONTINUES[b as usize] != 0,
+            _ => self.contains(b as char),
+        }
+    }
+}
+
 #[inline]
 pub(crate) fn is_blank(b: u8) -> bool
     ensures { result ≡ spell.is_blank b }
@@ -111,7 +134,19 @@ fn is_blank_char(c: char) -> bool
 pub(crate) fn is_start(c: char) -> bool
     ensures { result ≡ spell.is_start c }
 {
-    unicode_ident::is_xid_start(c) || c == '$' || c == '_'
+    is_xid_start(c) || c == '$' || c == '_'
+}
+
+// The property, at once for ASCII.
+#[inline]
+fn is_xid_start(c: char) -> bool
+    ensures { result ≡ is_xid_start c }
+{
+    if c < '\u{80}' {
+        c.is_ascii_alphabetic()
+    } else {
+        unicode_ident::is_xid_start(c)
+    }
 }
 
 // The property, at once for ASCII.
@@ -137,7 +172,10 @@ fn is_continue(c: char) -> bool
 fn is_bracket(c: char) -> bool
     ensures { result ≡ spell.is_bracket c }
 {
-    ['<', '>', '(', ')', ',', ':', ';', '[', ']'].contains(&c)
+    match c {
+        '<' | '>' | '(' | ')' | ',' | ':' | ';' | '[' | ']' => true,
+        _ => false,
+    }
 }
 
 #[inline]
@@ -147,7 +185,18 @@ fn is_in_quotes(c: char) -> bool
     !(c == '\'' || is_blank_char(c) || is_bracket(c))
 }
 
-/// The end of the characters of a class that stand at a place.
+// The place after the character of more than one byte that stands at a place, where it is of the class.
+#[inline(never)]
+fn wide_next(bytes: &[u8], at: usize, class: Class) -> Option<usize>
+    requires { at < length bytes.now }
+    ensures next { MatchOption result (Stops (is_in class) bytes.now at) (λ next. Run (is_in class) bytes.now at next) }
+    ensures within { MatchOption result (Unit {0}) (λ next. (at < next) × (next ≤ length bytes.now)) }
+{
+    let (c, next) = char_at(bytes, at)?;
+    if class.contains(c) { Some(next) } else { None }
+}
+
+/// The end of the characters of a class that stand at a place. ASCII is gone through by its bytes.
 #[inline]
 pub(crate) fn run_end(bytes: &[u8], at: usize, class: Class) -> usize
     requires { at ≤ length bytes.now }
@@ -158,13 +207,17 @@ pub(crate) fn run_end(bytes: &[u8], at: usize, class: Class) -> usize
 {
     let mut end = at;
     while end < bytes.len() {
-        let Some((c, next)) = char_at(bytes, end) else {
-            return end;
-        };
-        if !class.contains(c) {
+        let first = bytes[end];
+        if first >= 128 {
+            let Some(next) = wide_next(bytes, end, class) else {
+                return end;
+            };
+            end = next;
+        } else if class.contains_byte(first) {
+            end += 1;
+        } else {
             return end;
         }
-        end = next;
     }
     end
 }

@@ -1,8 +1,9 @@
 //! The lexer: at each place what begins there, by the first byte.
-ghost use Rattle.std.specs.Prelude.{◌≡◌, ◌+◌, ◌^◌, ◌<◌, ◌≤◌, ℕ, length, vec_len, slice_index, IsFalse, MatchOption, IfOk, IfErr, All};
+ghost use Rattle.std.specs.Prelude.{◌≡◌, ◌+◌, ◌^◌, ◌<◌, ◌≤◌, ℕ, length, vec_len, slice_index, IsFalse, MatchOption, IfOk, IfErr, All, List};
+ghost use Rattle.jim_text.specs.declared.Token.{Token as AToken};
 ghost use Rattle.jim_text.specs.Spelling.{IsName};
 ghost use Rattle.jim_text.specs.Ends.{IsMade, IsNameToken, is_lead, is_number_lead};
-ghost use Rattle.jim_text.specs.Lexes.{NoTokenAt, TokenAt, Lexes, IsSpelled, InOrder, Explains};
+ghost use Rattle.jim_text.specs.Lexes.{Reads, NoTokenAt, TokenAt, Lexes, IsSpelled, InOrder, Explains};
 
 use super::chars::is_blank;
 use super::comment::comment_end;
@@ -103,6 +104,21 @@ fn token_at(bytes: &[u8], at: usize) -> Option<Token>
     }
 }
 
+// The end of the blanks that stand at a place.
+#[inline]
+fn blanks_end(bytes: &[u8], at: usize) -> usize
+    requires { at ≤ length bytes.now }
+    ensures low { at ≤ result }
+    ensures within { result ≤ length bytes.now }
+    ensures read { (to : ℕ) (tokens : List AToken) → Reads bytes.now result to tokens → Reads bytes.now at to tokens }
+{
+    let mut end = at;
+    while end < bytes.len() && is_blank(bytes[end]) {
+        end += 1;
+    }
+    end
+}
+
 /// Cuts a text into its tokens: at each place the longest that begins there, with blanks and comments passed over.
 ///
 /// The text is any bytes, at most 16,777,216 of them. A token's text is `bytes[from..to]`, byte places from 0. The
@@ -124,7 +140,7 @@ pub fn lex(alloc: Global, bytes: &[u8]) -> Result<Vec<Token>, LexError>
     let mut at = 0;
     while at < bytes.len() {
         if is_blank(bytes[at]) {
-            at += 1;
+            at = blanks_end(bytes, at + 1);
         } else if let Some(to) = comment_end(bytes, at) {
             at = to;
         } else {

@@ -1,9 +1,9 @@
 -- The first place of each name of a list.
 use Rattle.std.specs.Prelude.{◌≡◌, ℕ, ◌<◌, List, Option, Some, None, map, slice_get}
-use Rattle.indexmap.specs.IndexMap.{get}
+use Rattle.std.specs.BTreeMap.{get}
+use Rattle.std.specs.Ordering.{nat_cmp}
 use Rattle.class_tree.specs.Paths.{IsLeast}
 use Rattle.jim_ast.specs.Lists.{Has}
-use Rattle.jim_ast.specs.contracts.names.NameIdPartialEq.TheImpl.{eq-value}
 use Rattle.jim_ast.specs.declared.names.NameId.{NameId}
 use Rattle.jim_ast.specs.declared.syntax.Label.{Label}
 use Rattle.link_bodies.specs.declared.places.FirstPlaces.{FirstPlaces}
@@ -15,7 +15,7 @@ IsFirstPlace names name None = Has names name → ⊥
 
 -- the place that is kept with a name
 abbrev pub place_at : FirstPlaces → NameId → Option ℕ
-place_at t name = get (eq-value).it t.places name
+place_at t name = get nat_cmp t.places name.0
 
 -- the table has each name of the list, and no other, with its first place
 abbrev pub KnowsPlaces : List NameId → FirstPlaces → Type 0

@@ -3,14 +3,16 @@ ghost use Rattle.std.specs.Prelude.{◌≡◌, ◌∷◌, ◌++◌, [], List, If
 ghost use Rattle.jim_ast.specs.declared.names.NameId.{NameId as ANameId};
 ghost use Rattle.link_bodies.specs.Places.{KnowsPlaces, label_names, place_at};
 
-use indexmap::IndexMap;
 use jim_ast::{Label, NameId, NoMemory};
 use std::alloc::{AllocError, Global};
+use std::collections::BTreeMap;
 
-/// For each name of a list the first place at which it stands, from 0.
+/// For each name of a list the first place at which it stands, from 0. Whoever writes the input picks the numbers of names, so the map is one whose
+/// look-ups are short whatever they are.
 #[derive(Drop)]
 pub(crate) struct FirstPlaces {
-    places: IndexMap<NameId, u32>,
+    // By the numbers of the names.
+    places: BTreeMap<u32, u32>,
 }
 
 impl FirstPlaces {
@@ -19,7 +21,7 @@ impl FirstPlaces {
         ensures { KnowsPlaces [] result }
     {
         FirstPlaces {
-            places: IndexMap::new(alloc),
+            places: BTreeMap::new(alloc),
         }
     }
 
@@ -27,7 +29,7 @@ impl FirstPlaces {
     pub(crate) fn find(&self, name: NameId) -> Option<u32>
         ensures { result ≡ place_at self.now name }
     {
-        self.places.get(&name).copied()
+        self.places.get(&name.0).copied()
     }
 
     // Puts a name at the place behind all names so far. There is room for 4,294,967,295 names.
@@ -40,7 +42,7 @@ impl FirstPlaces {
         if self.find(name).is_some() {
             return Ok(());
         }
-        self.places.insert(name, place as u32)?;
+        self.places.insert(name.0, place as u32)?;
         Ok(())
     }
 

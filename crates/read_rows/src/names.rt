@@ -1,5 +1,5 @@
 //! The set of names, and the types of lists and names.
-use jim_ast::{List, Name, Names};
+use jim_ast::{List, Name, NameId, Names};
 use std::test::Fail;
 
 #[test]
@@ -36,5 +36,24 @@ fn own_types(rt: HostRuntime) -> Result<(), Fail> {
     assert_eq!(rt; name.as_str(), "<init>");
     let list = List::from_vec(vec![in rt.alloc(); 3u32, 1, 2]?);
     assert!(rt; list.as_slice() == [3, 1, 2].as_slice());
+    Ok(())
+}
+
+// 24 bytes, behind which any 8 give a text that the kit's hasher folds to one number.
+const FRONT: &str = "huFyjFnloDfToYLUuA8mDHyS";
+
+#[test]
+fn names_of_one_hash(rt: HostRuntime) -> Result<(), Fail> {
+    let mut names = Names::new(rt.alloc());
+    for number in 0..300u32 {
+        let text = format!(in rt.alloc(); "{}{:08}", FRONT, number)?;
+        assert_eq!(rt; names.add(&text)?.0, number);
+    }
+    for number in 0..300u32 {
+        let text = format!(in rt.alloc(); "{}{:08}", FRONT, number)?;
+        assert!(rt; names.find(&text) == Some(NameId(number)));
+        assert_eq!(rt; names.add(&text)?.0, number);
+    }
+    assert_eq!(rt; names.len(), 300);
     Ok(())
 }

@@ -7,8 +7,8 @@ use Rattle.jim_text.proofs.lexer.lex.Goals.{After-loop-at}
 
 pub loop-at-preserved-then-is_blank : goal.loop-at-preserved-then-is_blank
 loop-at-preserved-then-is_blank c = record {
-  within = omega arith;
-  read = λ to tokens more. c.loop-at.invariant.read to tokens (blank c.loop-at-test.true (sym c.is_blank.ensures ∙ c.if-is_blank.true) more);
+  within = c.blanks_end-at.ensures.within;
+  read = λ to tokens more. c.loop-at.invariant.read to tokens (blank c.loop-at-test.true (sym c.is_blank.ensures ∙ c.if-is_blank.true) (c.blanks_end-at.ensures.read to tokens more));
 }
 
 pub loop-at-preserved-in-Some : goal.loop-at-preserved-in-Some

@@ -1,0 +1,287 @@
+"""How long the program takes on inputs that are made to be slow, how much memory that takes, and how both grow.
+
+usage: bench/hostile.sh [--small] [--limit SECONDS] [SHAPE..]     the named shapes, or all
+
+Each shape is a text of at most so many bytes, 1, 4 and 16 MiB, of which the program is asked for a run of one step or for the objects of a local. Of each size
+the seconds and the memory are told, and the exponent of the growth from 1 to 16 MiB, or to the last size that ended: 1 is linear, 2 quadratic. A call that takes
+longer than the limit, 60 seconds where none is given, is ended, and larger sizes of its shape are left out. It judges nothing.
+
+The shapes in `one_hash` have texts that the hasher of the kit's maps, whose seed is fixed, folds to one number.
+"""
+import argparse
+import math
+import os
+import random
+import resource
+import subprocess
+import sys
+import time
+
+TOP = os.path.join(os.path.dirname(os.path.abspath(__file__)), '..')
+FULL = 16 * 1024 * 1024
+MAIN = '<Main: void main(java.lang.String[])>'
+OBJECT = 'java.lang.Object'
+LETTERS = b'abcdefghijklmnopqrstuvwxyzABCDEFGHIJKLMNOPQRSTUVWXYZ0123456789$_'
+RUN = ['run', 'Main', '1', '-']
+ASK = ['points-to', 'Main', MAIN, '0', 'x', '9']
+
+
+def folded_to_zero():
+    """24 bytes of letters behind which any 8 bytes give a text of 32 bytes that the fixed hasher folds to 0: its second half begins with what the first half
+    was folded to."""
+    multiplier, mask = 0x9E3779B97F4A7C15, (1 << 64) - 1
+    start = (0x243F6A8885A308D3 + 32) & mask
+    draw = random.Random(5)
+    while True:
+        front = bytes(draw.choice(LETTERS[:52]) for _ in range(16))
+        product = (int.from_bytes(front[:8], 'little') ^ start) * (int.from_bytes(front[8:], 'little') ^ multiplier)
+        state = ((product & mask) ^ (product >> 64)).to_bytes(8, 'little')
+        if all(byte in LETTERS for byte in state):
+            return (front + state).decode()
+
+
+def tail(number):
+    """8 letters that differ from number to number."""
+    return ''.join(chr(LETTERS[number >> 6 * place & 63]) for place in range(8))
+
+
+def filled(piece, size, head='', end=''):
+    """Pieces by number between a head and an end, as many as have room in so many bytes."""
+    parts, left, number = [head], size - len(head) - len(end), 0
+    while True:
+        part = piece(number)
+        left -= len(part)
+        if left < 0:
+            return ''.join(parts) + end
+        parts.append(part)
+        number += 1
+
+
+def in_main(piece, size, declared='', end='', more=''):
+    return filled(piece, size, f'{more}class Main {{ static void main(java.lang.String[]) {{ {declared}\n', f'{end} return; }} }}\n')
+
+
+def one_hash(make):
+    front = folded_to_zero()
+    return lambda size: make(size, lambda number: front + tail(number))
+
+
+def texts(size, name):
+    return in_main(lambda i: f'x = "{name(i)}";\n', size, f'{OBJECT} x;')
+
+
+def names(size, name):
+    return in_main(lambda i: f'x = {name(i)}.<{name(i)}: int f>;\n', size, 'int x;')
+
+
+def class_names(size, name):
+    return filled(lambda i: f'class {name(i)} {{ }}\n', size, end='class Main { static void main(java.lang.String[]) { return; } }\n')
+
+
+def method_keys(size, name):
+    return filled(lambda i: f'static void {name(i)}() {{ return; }}\n', size, 'class Main {\n', 'static void main(java.lang.String[]) { return; } }\n')
+
+
+def local_names(size, name):
+    return in_main(lambda i: f'int {name(i)};\n', size)
+
+
+def label_names(size, name):
+    return in_main(lambda i: f'{name(i)}: nop;\n', size)
+
+
+def group_of(number, groups):
+    """The group of slots, of so many, at which the kit's maps begin to look for a number of 32 bits."""
+    multiplier, mask = 0x9E3779B97F4A7C15, (1 << 64) - 1
+    product = (0x243F6A8885A308D3 ^ (number | number << 32)) * (multiplier ^ 8)
+    folded = (product & mask) ^ (product >> 64)
+    return (folded ^ folded >> 32) & (groups - 1)
+
+
+def locals_of_few_slots(size):
+    """A method with many locals, and another one with those of them whose numbers begin in one quarter of the slots."""
+    many = size * 3 // 4 // 5 - 60
+    groups = 1
+    while 9 * groups < many // 4:
+        groups *= 2
+    name = lambda i: ''.join(chr(LETTERS[i // 52 ** place % 52]) for place in range(4))
+    others = ['int', 'byte', 'char', 'case', 'null', 'long', 'void', 'enum', 'from', 'with', 'goto', 'cmpg', 'cmpl', 'Main']
+    taken = [text for text in map(name, range(many)) if text not in others]
+    few = [text for number, text in enumerate(taken, 2) if group_of(number, groups) < groups // 4]
+    return (f'class Main {{ static void f() {{ int {",".join(taken)}; return; }}\nstatic void g() {{ int {",".join(few)}; return; }}\n'
+            'static void main(java.lang.String[]) { staticinvoke <Main: void g()>(); return; } }\n')
+
+
+def repeated(count):
+    """The shape of so many pieces at 16 MiB, and of as many fewer at fewer bytes."""
+    return lambda make: lambda size: make(max(1, count * size // FULL))
+
+
+def initializers(count):
+    uses = ''.join(f'x = <C{i}: int f>;\n' for i in range(count))
+    classes = ''.join(f'class C{i} {{ static int f; static void <clinit>() {{ return; }} }}\n' for i in range(count))
+    return f'{classes}class Main {{ static void main(java.lang.String[]) {{ int x;\n{uses}return; }} }}\n'
+
+
+def methods(count):
+    return 'class Main {\n' + ''.join(f'static void m{i}() {{ return; }}\n' for i in range(count)) + 'static void main(java.lang.String[]) { return; } }\n'
+
+
+def main_of(declared, body, more=''):
+    return f'{more}class Main {{ static void main(java.lang.String[]) {{ {declared}\n{body}return; }} }}\n'
+
+
+def labels(count):
+    return main_of('int x;', ''.join(f'l{i}: if x == 0 goto l{count - 1 - i};\n' for i in range(count)))
+
+
+def traps(count):
+    made = 'catch A from l to m with h;\n' * count
+    return f'class A extends java.lang.Throwable {{ }}\nclass Main {{ static void main(java.lang.String[]) {{ {OBJECT} x;\nl: x = new Main; m: return; h: x := @caughtexception; return;\n{made}}} }}\n'
+
+
+def cases(count):
+    return main_of('int x;', 'x = 1; tableswitch(x) {\n' + ''.join(f'case {i}: goto l;\n' for i in range(count)) + 'default: goto l; };\nl: nop;\n')
+
+
+def arguments(count):
+    kinds, given = ','.join(['int'] * count), ', '.join(['0'] * count)
+    called = f'static void f({kinds}) {{ return; }}\n'
+    return f'class Main {{ {called}static void main(java.lang.String[]) {{ staticinvoke <Main: void f({kinds})>({given});\nreturn; }} }}\n'
+
+
+def dimensions(count):
+    deep = '[]' * 255
+    return main_of(f'{OBJECT} x;', f'x = (int{deep}) x;\n' * count)
+
+
+def diamonds(count):
+    """Interfaces of which each stands below the two before it, and a class below the last two."""
+    made = ['interface I0 { void m(); }\n', 'interface I1 { void m(); }\n']
+    made += [f'interface I{i} implements I{i - 1}, I{i - 2} {{ void m(); }}\n' for i in range(2, count)]
+    last = f'class A implements I{count - 1}, I{count - 2} {{ void m() {{ return; }} }}\n'
+    call = 'x = new A; interfaceinvoke x.<I0: void m()>();\n'
+    return main_of('A x;', call, ''.join(made) + last)
+
+
+def parents(count):
+    made = 'class C0 { void m() { return; } }\n' + ''.join(f'class C{i} extends C{i - 1} {{ }}\n' for i in range(1, count))
+    last = f'C{count - 1}'
+    return main_of(f'{last} x;', f'x = new {last}; virtualinvoke x.<{last}: void m()>();\n', made)
+
+
+def cycle(count):
+    """A chain of classes, and two others that are each other's parents."""
+    made = 'class C0 { }\n' + ''.join(f'class C{i} extends C{i - 1} {{ }}\n' for i in range(1, count))
+    return main_of('', '', made + 'class X extends Y { }\nclass Y extends X { }\n')
+
+
+def calls(count):
+    """Classes with a call each on an object of the class."""
+    made = ''.join(f'class C{i} {{ void m() {{ return; }} }}\n' for i in range(count))
+    return main_of(f'{OBJECT} x;', ''.join(f'x = new C{i}; virtualinvoke x.<C{i}: void m()>();\n' for i in range(count)), made)
+
+
+def open_ended(head, piece):
+    return lambda size: head + piece * ((size - len(head)) // len(piece))
+
+
+MARKS = ['{', '}', '(', ')', '[', ']', ';', ',', ':', '.', '=', '<', '>', '+', '-', '*', '/ ', '%', '&', '^', '|', ':=', '==', '!=', '<=', '>=', '<<', '>>', '>>>']
+
+SHAPES = {
+    'texts of one hash': (one_hash(texts), ASK),
+    'names of one hash': (one_hash(names), ASK),
+    'class names of one hash': (one_hash(class_names), RUN),
+    'method keys of one hash': (one_hash(method_keys), RUN),
+    'locals of one hash': (one_hash(local_names), RUN),
+    'labels of one hash': (one_hash(label_names), RUN),
+    'locals of few slots': (locals_of_few_slots, RUN),
+    'initializers': (repeated(180_000)(initializers), RUN),
+    'methods of a class': (repeated(100_000)(methods), RUN),
+    'labels of a method': (repeated(500_000)(labels), RUN),
+    'traps over one range': (repeated(500_000)(traps), RUN),
+    'cases of a switch': (repeated(500_000)(cases), RUN),
+    'arguments of a call': (repeated(60_000)(arguments), RUN),
+    'dimensions': (repeated(30_000)(dimensions), ASK),
+    'interfaces in diamonds': (repeated(60_000)(diamonds), RUN),
+    'parents in a chain': (repeated(60_000)(parents), RUN),
+    'a cycle behind a chain': (repeated(60_000)(cycle), RUN),
+    'a call on each class': (repeated(60_000)(calls), RUN),
+    'open comment': (open_ended('/*', '* '), RUN),
+    'open line': (open_ended('//', 'x'), RUN),
+    'open text': (open_ended('"', '\\"'), RUN),
+    'open quote': (open_ended("a.'", 'b'), RUN),
+}
+SHAPES.update({f'marks {mark.strip()}': (open_ended('', mark), RUN) for mark in MARKS})
+
+
+def limited():
+    resource.setrlimit(resource.RLIMIT_AS, (12 << 30, 12 << 30))
+
+
+def measured(program, words, data, limit):
+    """What is replied first, seconds, and bytes of memory; no seconds where the limit is passed."""
+    began = time.monotonic()
+    with subprocess.Popen([program, *words], stdin=subprocess.PIPE, stdout=subprocess.PIPE, stderr=subprocess.DEVNULL, preexec_fn=limited) as child:
+        try:
+            reply, _ = child.communicate(data, timeout=limit)
+        except subprocess.TimeoutExpired:
+            child.kill()
+            child.communicate()
+            return 'ended', None, 0
+    took = time.monotonic() - began
+    line = reply.decode(errors='replace').split('\n')[0] or f'status {child.returncode}'
+    return line[:40], took, resource.getrusage(resource.RUSAGE_CHILDREN).ru_maxrss * 1024
+
+
+def built():
+    program = os.environ.get('BOOMER')
+    if program:
+        return program
+    done = subprocess.run([os.path.join(TOP, 'boomer')], stdin=subprocess.DEVNULL, stdout=subprocess.DEVNULL)
+    if done.returncode != 1:
+        sys.exit('the program does not build')
+    return os.path.join(TOP, 'crates', 'boomer', 'out', 'boomer')
+
+
+def shape_of(name, program, sizes, limit):
+    """One line of a shape. It runs in a process of its own, so that its memory is that of this shape."""
+    make, words = SHAPES[name]
+    cells, points, said = [], [], ''
+    for size in sizes:
+        data = make(size).encode()
+        said, took, memory = measured(program, words, data, limit)
+        if took is None:
+            cells.append(f'{"ended":>8} {"":>8}')
+            break
+        cells.append(f'{took:7.2f}s {memory / 2**20:5.0f}MiB')
+        points.append((len(data), max(took, 0.001), memory))
+    cells += [' ' * 17] * (len(sizes) - len(cells))
+    grown = '-'
+    if len(points) > 1:
+        (first, early, _), (last, late, _) = points[-2], points[-1]
+        grown = f'{math.log(late / early) / math.log(last / first):.2f}'
+    print(f'{name:24} {" ".join(cells)} {grown:>6}   {said}', flush=True)
+
+
+def main():
+    take = argparse.ArgumentParser()
+    take.add_argument('--small', action='store_true')
+    take.add_argument('--limit', type=float, default=60)
+    take.add_argument('shapes', nargs='*')
+    given = take.parse_args()
+    unknown = [name for name in given.shapes if name not in SHAPES]
+    if unknown:
+        sys.exit('no such shape: ' + ', '.join(unknown) + '\nshapes: ' + ', '.join(SHAPES))
+    program = built()
+    sizes = [FULL // part // (16 if given.small else 1) for part in [16, 4, 1]]
+    print(f'{"shape":24} ' + ' '.join(f'{size / 2**20:>14.2f}MiB' for size in sizes) + f' {"growth":>6}   replied')
+    for name in given.shapes or SHAPES:
+        child = os.fork()
+        if child == 0:
+            shape_of(name, program, sizes, given.limit)
+            os._exit(0)
+        os.waitpid(child, 0)
+
+
+main()

@@ -1,0 +1,7 @@
+use Rattle.std.proofs.Common.{sym, ◌∙◌, string_bytes}
+use Rattle.jim_ast.proofs.Texts.{slice_get-same}
+use Rattle.jim_ast.proofs.notes.has_number.Goals as goal
+
+pub returns-then-number-texts : goal.returns-then-number-texts
+returns-then-number-texts c same =
+    slice_get-same string_bytes _ _ _ _ _ c.if-number-texts.true c.index-texts-number.is c.as_bytes.ensures.value (sym c.eq.ensures ∙ same)
