@@ -6,12 +6,13 @@ use Rattle.std.proofs.lemmas.List.Elements.{filter_more}
 use Rattle.std.proofs.lemmas.Option.{get_or_from_slice_get}
 use Rattle.jim_ast.proofs.Places.{slice_get-below, slice_get-there}
 use Rattle.link_codes.proofs.SideBySide.{Each-more}
-use Rattle.link_rules.specs.Linked.{IsLinkedClass, LinkedClass}
+use Rattle.link_program.specs.Parts.{linked_field}
+use Rattle.link_program.specs.declared.parts.FieldEntry.{FieldEntry}
+use Rattle.link_rules.specs.Linked.{IsLinkedClass, LinkedClass, LinkedField, instance_fields, linked_field_of}
 use Rattle.link_rules.specs.Lists.{Each}
 use Rattle.link_rules.specs.Classes.{DeclaredClass, DeclaredField}
-use Rattle.jim_link.specs.Members.{classes_of_fields}
 
--- the class of one field more
+-- one field more
 module _ (fields : List DeclaredField) (row : ℕ) (f : DeclaredField) (there : slice_get fields row ≡ Some f) where
   -- the instance fields with it
   kept : filter (λ g. not g.decl.is_static) (take (row + 1) fields) ≡ filter (λ g. not g.decl.is_static) (take row fields) ++ cond (not f.decl.is_static) (f ∷ []) []
@@ -23,13 +24,20 @@ module _ (fields : List DeclaredField) (row : ℕ) (f : DeclaredField) (there : 
       → filter (λ g. not g.decl.is_static) (take (row + 1) fields) ≡ filter (λ g. not g.decl.is_static) (take row fields) ++ cond (not b) (f ∷ []) []
   kept_by b is = kept ∙ ap (λ s. filter (λ g. not g.decl.is_static) (take row fields) ++ cond (not s) (f ∷ []) []) is
 
-  -- the class of an instance field comes last
-  pub instance_class : f.decl.is_static ≡ false → classes_of_fields (take (row + 1) fields) ≡ classes_of_fields (take row fields) ++ f.class ∷ []
-  instance_class is = ap (map (λ (g : DeclaredField). g.class)) (kept_by false is) ∙ map-append (λ (g : DeclaredField). g.class) (filter (λ g. not g.decl.is_static) (take row fields)) (f ∷ [])
+  -- an instance field comes last
+  instance_last : f.decl.is_static ≡ false → instance_fields (take (row + 1) fields) ≡ instance_fields (take row fields) ++ linked_field_of f ∷ []
+  instance_last is = ap (map linked_field_of) (kept_by false is) ∙ map-append linked_field_of (filter (λ g. not g.decl.is_static) (take row fields)) (f ∷ [])
+
+  -- so does its entry
+  pub field_last : f.decl.is_static ≡ false → (entries : List FieldEntry) (e : FieldEntry) → map linked_field entries ≡ instance_fields (take row fields)
+      → linked_field e ≡ linked_field_of f → map linked_field (entries ++ e ∷ []) ≡ instance_fields (take (row + 1) fields)
+  field_last is entries e before same =
+      map-append linked_field entries (e ∷ []) ∙ ap (λ (ls : List LinkedField). ls ++ linked_field e ∷ []) before
+      ∙ ap (λ (l : LinkedField). instance_fields (take row fields) ++ l ∷ []) same ∙ sym (instance_last is)
 
   -- a static field has no part in them
-  pub no_class : f.decl.is_static ≡ true → classes_of_fields (take (row + 1) fields) ≡ classes_of_fields (take row fields)
-  no_class is = ap (map (λ (g : DeclaredField). g.class)) (kept_by true is ∙ append-nil (filter (λ g. not g.decl.is_static) (take row fields)))
+  pub no_instance : f.decl.is_static ≡ true → instance_fields (take (row + 1) fields) ≡ instance_fields (take row fields)
+  no_instance is = ap (map linked_field_of) (kept_by true is ∙ append-nil (filter (λ g. not g.decl.is_static) (take row fields)))
 
 -- one element more
 pub taken_more : {X : Type 0} (xs : List X) (i : ℕ) (x : X) → slice_get xs i ≡ Some x → take (i + 1) xs ≡ take i xs ++ x ∷ []

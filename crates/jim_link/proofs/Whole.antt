@@ -63,14 +63,14 @@ module _ (w : World) (c : CodePart) (m : MemberPart) where
     classes = members.classes;
     rows = refl;
     keys = members.keys;
-    field_classes = members.field_classes;
+    fields = members.fields;
     static_count = members.static_count;
   }
 
 -- the parts of an accepted program
 pub are_parts : (w : World) (initialized : List ℕ) (p : Parts) → IsAccepted w → AreInitialized w initialized → AreCodes w initialized p.code → AreMembers w p.members → ArePartsOf w p
 are_parts w initialized p accepted are codes members = record {
-  parts = record { methods = codes.made.methods; classes = members.table };
+  parts = record { methods = codes.made.methods; classes = members.table; few_fields = members.few_fields };
   linked = is_link w p.code p.members initialized accepted are codes members;
 }
 

@@ -1,16 +1,12 @@
 -- The classes, the keys and the fields of a linked program.
-use Rattle.std.specs.Prelude.{◌≡◌, ℕ, List, count_by, filter, map, not}
+use Rattle.std.specs.Prelude.{◌≡◌, ◌<◌, ◌^◌, ℕ, List, count_by, length, map}
 use Rattle.link_program.specs.Classes.{AreClasses, classes_in}
-use Rattle.link_program.specs.Parts.{linked_key}
+use Rattle.link_program.specs.Parts.{linked_field, linked_key}
 use Rattle.link_program.specs.declared.parts.MemberPart.{MemberPart}
 use Rattle.link_rules.specs.Classes.{DeclaredField, fields_of, methods_of}
-use Rattle.link_rules.specs.Linked.{IsLinkedClass, key_of}
+use Rattle.link_rules.specs.Linked.{IsLinkedClass, instance_fields, key_of}
 use Rattle.link_rules.specs.Lists.{Each}
 use Rattle.link_rules.specs.World.{World}
-
--- the classes of the instance fields, in order
-abbrev pub classes_of_fields : List DeclaredField → List ℕ
-classes_of_fields fields = map (λ f. f.class) (filter (λ f. not f.decl.is_static) fields)
 
 -- how many fields are static
 abbrev pub static_fields : List DeclaredField → ℕ
@@ -21,5 +17,6 @@ pub record AreMembers (w : World) (m : MemberPart) : Type 0 where
   pub table : AreClasses m.classes
   pub classes : Each IsLinkedClass w.classes (classes_in m.classes)
   pub keys : map linked_key m.keys ≡ map key_of (methods_of w.classes)
-  pub field_classes : m.field_classes ≡ classes_of_fields (fields_of w.classes)
+  pub fields : map linked_field m.fields ≡ instance_fields (fields_of w.classes)
+  pub few_fields : length m.fields < 2 ^ 32
   pub static_count : m.static_count ≡ static_fields (fields_of w.classes)

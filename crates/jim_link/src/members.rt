@@ -1,16 +1,18 @@
 //! The classes, the keys and the fields of a linked program.
-ghost use Rattle.std.specs.Prelude.{◌≡◌, ◌<◌, Some, IfOk, length, map, slice_get};
+ghost use Rattle.std.specs.Prelude.{◌≡◌, ◌<◌, ◌^◌, Some, IfOk, length, map, slice_get};
 ghost use Rattle.link_program.specs.Classes.{AreClasses, classes_in, linked_class};
-ghost use Rattle.link_program.specs.Parts.{linked_key};
+ghost use Rattle.link_program.specs.Parts.{linked_field, linked_key};
+ghost use Rattle.link_classes.specs.Seen.{seen_field};
 ghost use Rattle.link_rules.specs.Classes.{DeclaredClass, fields_of, methods_of};
-ghost use Rattle.link_rules.specs.Linked.{IsLinkedClass, key_of};
+ghost use Rattle.link_rules.specs.Linked.{IsLinkedClass, instance_fields, key_of, linked_field_of};
+ghost use Rattle.link_rules.specs.Conditions.{AreWithin, field_names};
 ghost use Rattle.link_rules.specs.Lists.{Each};
-ghost use Rattle.jim_link.specs.Members.{AreMembers, classes_of_fields, static_fields};
+ghost use Rattle.jim_link.specs.Members.{AreMembers, static_fields};
 
 use super::texts::{name_text, owned};
 use jim_ast::{List, NoMemory};
-use link_classes::Classes;
-use link_program::{ClassEntry, ClassTable, KeyEntry, MemberPart};
+use link_classes::{Classes, FieldIn};
+use link_program::{ClassEntry, ClassTable, FieldEntry, KeyEntry, MemberPart};
 use std::alloc::Global;
 
 // A class as it is kept.
@@ -61,15 +63,28 @@ fn keys(alloc: Global, classes: &Classes) -> Result<List<KeyEntry>, NoMemory>
     Ok(List::from_vec(keys))
 }
 
-// The classes of the instance fields, in order.
-fn field_classes(alloc: Global, classes: &Classes) -> Result<List<u32>, NoMemory>
-    ensures { IfOk result (λ found. found ≡ classes_of_fields (fields_of classes.now.world.classes)) }
+// An instance field as it is kept.
+fn field_entry(alloc: Global, field: &FieldIn) -> Result<FieldEntry, NoMemory>
+    requires { AreWithin field.now.names.now (field_names field.now.decl.now) }
+    ensures { IfOk result (λ e. linked_field e ≡ linked_field_of (seen_field field.now)) }
+{
+    let name = owned(alloc, field.names.text(field.decl.name))?;
+    Ok(FieldEntry {
+        class: field.class,
+        name,
+    })
+}
+
+// The instance fields, in order.
+fn fields(alloc: Global, classes: &Classes) -> Result<List<FieldEntry>, NoMemory>
+    ensures fields { IfOk result (λ found. map linked_field found ≡ instance_fields (fields_of classes.now.world.classes)) }
+    ensures few { IfOk result (λ found. length found < 2 ^ 32) }
 {
     let mut found = Vec::new(alloc);
     for row in 0..classes.field_count() {
         let field = classes.field(row);
         if !field.decl.is_static {
-            found.push(field.class)?;
+            found.push(field_entry(alloc, &field)?)?;
         }
     }
     Ok(List::from_vec(found))
@@ -93,11 +108,11 @@ pub fn member_part(alloc: Global, classes: &Classes) -> Result<MemberPart, NoMem
     ensures { IfOk result (AreMembers classes.now.world) }
 {
     let keys = keys(alloc, classes)?;
-    let field_classes = field_classes(alloc, classes)?;
+    let fields = fields(alloc, classes)?;
     Ok(MemberPart {
         classes: class_table(alloc, classes)?,
         keys,
-        field_classes,
+        fields,
         static_count: static_count(classes),
     })
 }

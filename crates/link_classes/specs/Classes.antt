@@ -27,7 +27,5 @@ pub record IsKnown (texts : List (List ℕ)) (m : MethodIn) : Type 0 where
 
 -- the root that initializes these classes
 pub record IsRoot (t : ClassTable) (initialized : List ℕ) (root : Root) : Type 0 where
-  pub names : texts_at t.texts root.ids.items ≡ root_names t.world
-  pub numbers : All (λ (id : NameId). id.0 < length t.texts) root.ids.items
   pub decl : root.decl ≡ (root_of t.world initialized).decl
   pub classes : All (λ class. class < length t.world.classes) initialized

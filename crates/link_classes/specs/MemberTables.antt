@@ -7,7 +7,7 @@ use Rattle.link_classes.specs.declared.member_tables.FieldTable.{FieldTable}
 use Rattle.link_classes.specs.declared.member_tables.MethodTable.{MethodTable}
 use Rattle.link_classes.specs.declared.order.ClassOrder.{ClassOrder}
 use Rattle.link_classes.specs.Classes.{IsKnown}
-use Rattle.link_classes.specs.Seen.{seen_classes, seen_fields, seen_methods}
+use Rattle.link_classes.specs.Seen.{IsFieldSeen, seen_classes, seen_fields, seen_methods}
 use Rattle.link_classes.specs.Tables.{KnowsFields, KnowsMethods}
 
 -- the methods of these classes
@@ -22,5 +22,6 @@ pub record IsMethodTable (o : ClassOrder) (t : MethodTable) : Type 0 where
 pub record IsFieldTable (o : ClassOrder) (t : FieldTable) : Type 0 where
   pub fields : seen_fields t.fields.items ≡ fields_of (seen_classes o.classes.items)
   pub few : length t.fields.items < 2 ^ 32
+  pub known : All (IsFieldSeen o.all.now.texts) t.fields.items
   pub rows : Each (IsFieldRow (fields_of (seen_classes o.classes.items))) (fields_of (seen_classes o.classes.items)) t.rows.items
   pub keys : KnowsFields o.all.now.texts (fields_of (seen_classes o.classes.items)) t.keys

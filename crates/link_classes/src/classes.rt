@@ -10,12 +10,12 @@ ghost use Rattle.link_rules.specs.Keys.{IsFieldKeyNumber, IsMethodKeyNumber, acc
 ghost use Rattle.link_rules.specs.Names.{text_of};
 ghost use Rattle.link_rules.specs.Reach.{DeclaresBody};
 ghost use Rattle.link_rules.specs.Refusals.{IsEntry, IsFirst, IsPlaceOf, RefusesWhole, number_of, whole};
-ghost use Rattle.link_rules.specs.Root.{initializer_key, root_of};
+ghost use Rattle.link_rules.specs.Root.{initializer_key, root_names, root_of};
 ghost use Rattle.link_rules.specs.Targets.{IsInstantiableAt};
 ghost use Rattle.link_rules.specs.World.{AreRows, IsWorld, World};
 ghost use Rattle.link_classes.specs.Classes.{IsKnown, IsRoot, texts_at};
 ghost use Rattle.link_classes.specs.Numbered.{AreNumbers, fixed_names};
-ghost use Rattle.link_classes.specs.Seen.{seen_class, seen_field, seen_method};
+ghost use Rattle.link_classes.specs.Seen.{IsFieldSeen, seen_class, seen_field, seen_method};
 
 use super::bodies::{declared_body, field_number, initializer_number, main_number, method_number};
 use super::checks::checked_tree;
@@ -53,10 +53,9 @@ impl From<AllocError> for NoClasses {
     }
 }
 
-/// The root: its names by their numbers among all names, and what it declares.
+/// The root: what it declares. Its names are kept with the classes, since each root has the same.
 #[derive(Drop)]
 pub struct Root {
-    pub ids: Vec<NameId>,
     pub decl: MethodDecl,
 }
 
@@ -74,6 +73,8 @@ pub struct Classes<'a> {
     // The numbers of the keys of `main` and of initializers.
     main: u32,
     initializer: u32,
+    // The names of a root by their numbers among all names.
+    root: Vec<NameId>,
 }
 
 impl<'a> Model for Classes<'a> {
@@ -84,7 +85,7 @@ impl<'a> Model for Classes<'a> {
 
     ghost view = { λ c. record { texts = c.order.all.now.texts; world = world_of c.order c.tree c.entry.now } };
 
-    ghost invariant = { λ c. IsHeld c.order c.methods.items c.method_keys c.fields.items c.field_keys c.tree c.entry.now c.main c.initializer };
+    ghost invariant = { λ c. IsHeld c.order c.methods.items c.method_keys c.fields.items c.field_keys c.tree c.entry.now c.main c.initializer c.root.items };
 }
 
 impl<'a> Classes<'a> {
@@ -121,6 +122,7 @@ impl<'a> Classes<'a> {
         let root = all.root.as_slice();
         let main = main_number(alloc, root, &methods.keys, count)?;
         let initializer = initializer_number(alloc, root, &methods.keys, count)?;
+        let root_names = root_ids(alloc, &order)?;
         let MethodTable {
             methods,
             keys: method_keys,
@@ -141,6 +143,7 @@ impl<'a> Classes<'a> {
             entry,
             main,
             initializer,
+            root: root_names,
         })
     }
 
@@ -243,7 +246,8 @@ impl<'a> Classes<'a> {
     /// The field with this number.
     pub fn field(&self, row: u32) -> FieldIn<'a>
         requires { row < length (fields_of self.now.world.classes) }
-        ensures { slice_get (fields_of self.now.world.classes) row ≡ Some (seen_field result) }
+        ensures there { slice_get (fields_of self.now.world.classes) row ≡ Some (seen_field result) }
+        ensures known { IsFieldSeen self.now.texts result }
     {
         self.fields[row as usize]
     }
@@ -309,13 +313,20 @@ impl<'a> Classes<'a> {
         self.tree
     }
 
+    // The names of a root by their numbers among all names.
+    fn root_names(&self) -> &[NameId]
+        ensures names { texts_at self.now.texts result.now ≡ root_names self.now.world }
+        ensures numbers { All (λ (id : ANameId). id.0 < length self.now.texts) result.now }
+    {
+        self.root.as_slice()
+    }
+
     /// The root that initializes these classes.
     pub fn root(&self, alloc: Global, initialized: &[u32]) -> Result<Root, NoMemory>
         requires { All (λ class. class < length self.now.world.classes) initialized.now }
         ensures { IfOk result (IsRoot self.now initialized.now) }
     {
         Ok(Root {
-            ids: root_ids(alloc, &self.order)?,
             decl: root_decl(alloc, initialized)?,
         })
     }
@@ -338,7 +349,7 @@ pub fn root_method<'a>(classes: &'a Classes<'_>, root: &'a Root) -> MethodIn<'a>
         class: classes.class_count(),
         owner: "",
         all: classes.names(),
-        ids: root.ids.as_slice(),
+        ids: classes.root_names(),
         decl: &root.decl,
     }
 }

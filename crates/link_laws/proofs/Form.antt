@@ -5,7 +5,7 @@ use Rattle.jim_ast.proofs.Places.{slice_get-append_left, slice_get-below, slice_
 use Rattle.jim_ast.specs.declared.syntax.Program.{Program}
 use Rattle.link_rules.specs.Classes.{DeclaredClass, DeclaredField, IsCompleted, IsDeclared, class_name, comes, ends, fields_of, is_left_out}
 use Rattle.link_rules.specs.Conditions.{DeclaresNine}
-use Rattle.link_rules.specs.Linked.{IsLinkedClass, LinkedMethod, LinkedProgram}
+use Rattle.link_rules.specs.Linked.{IsLinkedClass, LinkedField, LinkedMethod, LinkedProgram, linked_field_of}
 use Rattle.link_rules.specs.Root.{root_of}
 use Rattle.link_rules.specs.Targets.{nine_names}
 use Rattle.link_rules.specs.WellLinked.{FitsMethod, HasClass, IsInForm, IsInstantiableWhereNamed, IsRoot, IsWellLinkedCode}
@@ -76,15 +76,15 @@ module _ (w : World) (p : LinkedProgram) (made : IsMade w p) where
   tree_same = ap (λ rows. length rows.classes) made.link.rows ∙ sym made.rows.class_rows.as_many ∙ made.link.classes.as_many
 
   -- the class of a field is one
-  field_below : (i class : ℕ) → slice_get p.field_classes i ≡ Some class → class < length p.classes
-  field_below i class e =
-      let e2 = subst (λ cs. slice_get cs i ≡ Some class) made.link.field_classes e in
-      let f = at_map (λ (f : DeclaredField). f.class) (filter (λ (f : DeclaredField). not f.decl.is_static) (fields_of w.classes)) i class e2 in
+  field_below : (i : ℕ) (field : LinkedField) → slice_get p.fields i ≡ Some field → field.class < length p.classes
+  field_below i field e =
+      let e2 = subst (λ fields. slice_get fields i ≡ Some field) made.link.fields e in
+      let f = at_map linked_field_of (filter (λ (f : DeclaredField). not f.decl.is_static) (fields_of w.classes)) i field e2 in
       let h = in_filter (λ (f : DeclaredField). not f.decl.is_static) (fields_of w.classes) i f.0 f.1 in
       let c = field_of w.classes f.0 h in
       let below = slice_get-below w.classes f.0.class c.0 c.1 in
       let same = made.link.classes.as_many in
-      let is = f.2 in
+      let is = ap (λ (f : LinkedField). f.class) f.2 in
       omega (arith, below, same, is)
 
   -- a declared class is one of the program
@@ -101,7 +101,7 @@ module _ (w : World) (p : LinkedProgram) (made : IsMade w p) where
         rows = methods_many w p made;
         ordered = made.link.methods.ordered;
         tree = tree_same;
-        fields = all_at (λ class. class < length p.classes) p.field_classes field_below;
+        fields = all_at (λ (f : LinkedField). f.class < length p.classes) p.fields field_below;
         texts = first_seen_apart made.link.constants.texts;
         class_texts = first_seen_apart made.link.constants.class_texts;
         number = length p.method_rows;

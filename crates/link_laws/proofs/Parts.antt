@@ -16,7 +16,7 @@ use Rattle.link_rules.specs.declared.refusal.LinkKind.TheVariants as rule
 use Rattle.link_rules.specs.Classes.{DeclaredClass, DeclaredField, DeclaredMethod, IsNamed, fields_of}
 use Rattle.link_rules.specs.Codes.{IsArg, IsField, IsLocal, IsStatic}
 use Rattle.link_rules.specs.Keys.{FieldKey, accessed_key}
-use Rattle.link_rules.specs.Linked.{IsLinkedClass, LinkedClass, LinkedMethod, LinkedProgram, scope_of}
+use Rattle.link_rules.specs.Linked.{IsLinkedClass, LinkedClass, LinkedField, LinkedMethod, LinkedProgram, linked_field_of, scope_of}
 use Rattle.link_rules.specs.Lists.{BothOrNone, Each}
 use Rattle.link_rules.specs.Names.{text_of}
 use Rattle.link_rules.specs.Statements.{StmtAt}
@@ -77,7 +77,7 @@ module _ (w : World) (p : LinkedProgram) (made : IsMade w p) (m : DeclaredMethod
   field_fits sig number h =
       let f = field_found w made.rows (accessed_key m.names false sig) h.1.class h.1.key h.0 h.1.finds h.1.is_key in
       let most = instance_number-le (fields_of w.classes) h.0 f.0 f.1 (ap (λ (k : FieldKey). k.is_static) f.2) in
-      let many = ap (length {A = ℕ}) made.link.field_classes ∙ length-map _ (λ (f : DeclaredField). f.class) ∙ length-filter (λ (f : DeclaredField). not f.decl.is_static) (fields_of w.classes) in
+      let many = ap (length {A = LinkedField}) made.link.fields ∙ length-map _ linked_field_of ∙ length-filter (λ (f : DeclaredField). not f.decl.is_static) (fields_of w.classes) in
       let is = h.2 in
       (omega (arith, is), omega (arith, is, most, many))
 

@@ -116,12 +116,12 @@ world_link_one w p q a b =
     let classes = each_one IsLinkedClass w.classes p.classes q.classes linked_class_one a.classes b.classes in
     let tree = a.rows ∙ sym b.rows in
     let keys = a.keys ∙ sym b.keys in
-    let field_classes = a.field_classes ∙ sym b.field_classes in
+    let fields = a.fields ∙ sym b.fields in
     let statics = a.static_count ∙ sym b.static_count in
     λ j. record {
       methods = methods j;
       classes = classes j;
-      field_classes = field_classes j;
+      fields = fields j;
       static_count = statics j;
       keys = keys j;
       texts = texts j;

@@ -1,5 +1,7 @@
 pub mod Arrays
+pub mod Coded
 pub mod Found
 pub mod Joined
+mod Naming
 pub mod Placing
 pub mod Pushed

@@ -2,7 +2,7 @@
 use Rattle.std.specs.Prelude.{◌≡◌, ℕ, zero, suc, ◌+◌, ◌<◌, List, Option, Some, None, length, map, slice_get}
 use Rattle.jim_ast.specs.Lists.{Has}
 use Rattle.link_rules.specs.declared.code.Code.{Code}
-use Rattle.link_rules.specs.Linked.{Element, LinkedMethod, LinkedProgram}
+use Rattle.link_rules.specs.Linked.{Element, LinkedField, LinkedMethod, LinkedProgram}
 use Rattle.link_rules.specs.WellLinked.{MakesArrays}
 
 -- the fact holds of what stands there
@@ -16,7 +16,16 @@ codes_in p = map (λ m. m.code) p.methods
 -- the class of an instance field; 0, which stands for the elements of arrays, has none
 abbrev pub field_class : LinkedProgram → ℕ → Option ℕ
 field_class p zero = None
-field_class p (suc field) = slice_get p.field_classes field
+field_class p (suc field) = slice_get (map (λ f. f.class) p.fields) field
+
+-- the field of this number among these, counted from 1 on, is of this class and this name; 0, which stands for the elements of arrays, is none
+abbrev pub IsEntryNamed : List LinkedField → ℕ → List ℕ → ℕ → Type 0
+IsEntryNamed fields class name zero = ⊥
+IsEntryNamed fields class name (suc at) = slice_get fields at ≡ Some (record { class = class; name = name })
+
+-- the class itself declares the instance field with this number, under this name
+abbrev pub IsFieldNamed : LinkedProgram → ℕ → List ℕ → ℕ → Type 0
+IsFieldNamed p class name field = IsEntryNamed p.fields class name field
 
 -- the statement of the method makes an array
 pub record MakesArray (p : LinkedProgram) (number index : ℕ) : Type 0 where

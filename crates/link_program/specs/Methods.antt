@@ -3,6 +3,7 @@ use Rattle.std.specs.Prelude.{◌≡◌, ℕ, ◌<◌, ◌^◌, List, [], ◌∷
 use Rattle.link_rules.specs.Linked.{LinkedMethod}
 use Rattle.link_codes.specs.Elements.{elements_in}
 use Rattle.link_indexes.specs.declared.method.MethodCode.{MethodCode}
+use Rattle.link_program.specs.declared.heads.Heads.{Heads}
 use Rattle.link_program.specs.declared.method.MethodHead.{MethodHead}
 use Rattle.link_program.specs.declared.methods.Methods.{Methods}
 use Rattle.link_program.specs.Places.{ArePlaces}
@@ -40,6 +41,22 @@ pub record AreMethods (m : Methods) : Type 0 where
   pub few : length m.heads.items < 2 ^ 32
   pub places : ArePlaces (texts_of (methods_in m)) m.places
   pub found : All IsHead m.heads.items
+
+-- the methods that have these heads and this code
+abbrev pub methods_with : Heads → List MethodCode → List LinkedMethod
+methods_with h bodies = joined h.heads.items bodies
+
+-- what is kept of them
+pub record AreMethodsWith (h : Heads) (bodies : List MethodCode) : Type 0 where
+  pub as_many : length h.heads.items ≡ length bodies
+  pub few : length h.heads.items < 2 ^ 32
+  pub places : ArePlaces (texts_of (methods_with h bodies)) h.places
+  pub found : All IsHead h.heads.items
+
+-- the methods with other code
+abbrev pub coded : List LinkedMethod → List MethodCode → List LinkedMethod
+coded (m ∷ ms) (b ∷ bs) = record m { code = b.code; catches = b.catches } ∷ coded ms bs
+coded _ _ = []
 
 -- the method has this besides its code, and its locals are found by their names
 pub record IsHeadOf (m : LinkedMethod) (h : MethodHead) : Type 0 where

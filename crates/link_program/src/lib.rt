@@ -3,6 +3,8 @@
 
 mod classes;
 mod elements;
+mod fields;
+mod heads;
 mod linked;
 mod method;
 mod methods;
@@ -10,8 +12,9 @@ mod parts;
 mod places;
 
 pub use classes::{ClassEntry, ClassTable};
+pub use heads::Heads;
 pub use linked::Linked;
 pub use method::{Locals, MethodHead};
 pub use methods::Methods;
-pub use parts::{CodePart, ConstantTexts, KeyEntry, MemberPart};
+pub use parts::{CodePart, ConstantTexts, FieldEntry, KeyEntry, MemberPart, Shared};
 pub use places::FirstPlaces;

@@ -6,28 +6,34 @@ ghost use Rattle.link_rules.specs.WellLinked.{IsInForm};
 ghost use Rattle.link_indexes.specs.Facts.{Calls, IsRaised, IsReturn, Stores, StoresStatic};
 ghost use Rattle.link_indexes.specs.Rows.{AreTheIndexes, AreThePlaces};
 ghost use Rattle.link_indexes.specs.Tables.{GoesOnIn, IsAt, IsInMethod};
-ghost use Rattle.link_program.specs.Accessed.{At, HasElementText, HasText, MakesArray, codes_in, field_class};
+ghost use Rattle.link_program.specs.Accessed.{At, HasElementText, HasText, IsFieldNamed, MakesArray, codes_in, field_class};
 ghost use Rattle.link_program.specs.Classes.{names_of};
-ghost use Rattle.link_program.specs.Parts.{AreParts, program_of};
+ghost use Rattle.link_program.specs.Methods.{IsBodyOf, IsHeadOf};
+ghost use Rattle.link_program.specs.Parts.{AreParts, program_of, with_code};
 ghost use Rattle.link_program.specs.Places.{IsFirstPlace};
 
 use super::elements::element_text;
-use super::parts::{CodePart, MemberPart};
+use super::fields::find_field;
+use super::heads::Heads;
+use super::method::MethodHead;
+use super::methods::Methods;
+use super::parts::{CodePart, MemberPart, Shared};
 use class_tree::Tree;
 use jim_ast::{Name, NoMemory};
-use link_indexes::{Indexes, Place};
+use link_indexes::{Indexes, MethodCode, Place};
 use link_rules::{Catch, Code};
 use std::alloc::Global;
 use std::marker::Model;
+use std::sync::Arc;
 
 /// A linked program: names are numbers. Its methods are numbered from 0 in class order and then in written order, the root being the last;
 /// classes in class order; instance fields from 1 and static fields from 0 in class order; texts and class constants in the order of first use.
-/// Contracts see all of it but its indexes. What is read of it takes no memory.
+/// Contracts see all of it but its indexes. What is read of it takes no memory. Programs that are made of one by `with_code` share all but their code with
+/// it.
 #[derive(Drop)]
 pub struct Linked {
-    code: CodePart,
-    members: MemberPart,
-    tree: Tree,
+    shared: Arc<Shared>,
+    bodies: Vec<MethodCode>,
     indexes: Indexes,
 }
 
@@ -36,11 +42,11 @@ impl Model for Linked {
 
     ghost Value = { LinkedProgram };
 
-    ghost use Rattle.link_program.specs.Parts.{IsKept, program_of};
+    ghost use Rattle.link_program.specs.Parts.{IsKept, program_with};
 
-    ghost view = { λ l. program_of l.code l.members l.tree };
+    ghost view = { λ l. program_with l.shared.value l.bodies.items };
 
-    ghost invariant = { λ l. IsKept l.code l.members l.tree l.indexes };
+    ghost invariant = { λ l. IsKept l.shared.value l.bodies.items l.indexes };
 }
 
 impl Linked {
@@ -55,13 +61,60 @@ impl Linked {
         requires form { IsInForm (program_of code members tree) }
         ensures { IfOk result (λ p. p ≡ program_of code members tree) }
     {
-        let indexes = Indexes::new(alloc, code.methods.bodies())?;
-        Ok(Linked {
-            code,
+        let CodePart {
+            methods,
+            rows,
+            constants,
+        } = code;
+        let Methods {
+            heads,
+            bodies,
+            places,
+        } = methods;
+        let indexes = Indexes::new(alloc, bodies.as_slice())?;
+        let shared = Shared {
+            heads: Heads { heads, places },
+            rows,
+            constants,
             members,
             tree,
+        };
+        Ok(Linked {
+            shared: Arc::new(alloc, shared)?,
+            bodies,
             indexes,
         })
+    }
+
+    /// The program with other code for its methods, in order. All else is the same, and is shared with this one. Its indexes take memory.
+    pub fn with_code(&self, alloc: Global, bodies: Vec<MethodCode>) -> Result<Self, NoMemory>
+        requires as_many { length bodies.items ≡ length self.now.methods }
+        requires form { IsInForm (with_code self.now bodies.items) }
+        ensures { IfOk result (λ p. p ≡ with_code self.now bodies.items) }
+    {
+        let indexes = Indexes::new(alloc, bodies.as_slice())?;
+        Ok(Linked {
+            shared: self.shared.clone()?,
+            bodies,
+            indexes,
+        })
+    }
+
+    // A method without its code.
+    fn head(&self, method: u32) -> &MethodHead
+        requires { method < length self.now.methods }
+        ensures head { At self.now.methods method (λ m. IsHeadOf m result.now) }
+        ensures form { IsInForm self.now }
+    {
+        self.shared.heads.head(method)
+    }
+
+    // The code of a method.
+    fn body(&self, method: u32) -> &MethodCode
+        requires { method < length self.now.methods }
+        ensures { At self.now.methods method (λ m. IsBodyOf m result.now) }
+    {
+        &self.bodies[method as usize]
     }
 
     /// Says of what form each linked program is: what its numbers name is there, each statement fits its method, and the root is the last method.
@@ -69,7 +122,7 @@ impl Linked {
     pub fn tell_form(&self)
         ensures { IsInForm self.now }
     {
-        let _inside = &self.tree;
+        let _inside = &self.indexes;
     }
 
     /// How many methods there are, the root included.
@@ -77,14 +130,14 @@ impl Linked {
         ensures count { result ≡ length self.now.methods }
         ensures form { IsInForm self.now }
     {
-        self.code.methods.len()
+        self.bodies.len() as u32
     }
 
     /// The number of the root, which is the last.
     pub fn root(&self) -> u32
         ensures { result + 1 ≡ length self.now.methods }
     {
-        self.code.methods.len() - 1
+        self.methods() - 1
     }
 
     /// The statements of a method.
@@ -92,7 +145,7 @@ impl Linked {
         requires { method < length self.now.methods }
         ensures { At self.now.methods method (λ m. result.now ≡ m.code) }
     {
-        self.code.methods.body(method).code.as_slice()
+        self.body(method).code.as_slice()
     }
 
     /// The handlers of a method.
@@ -100,7 +153,7 @@ impl Linked {
         requires { method < length self.now.methods }
         ensures { At self.now.methods method (λ m. result.now ≡ m.catches) }
     {
-        self.code.methods.body(method).catches.as_slice()
+        self.body(method).catches.as_slice()
     }
 
     /// The names of the locals of a method, in declared order.
@@ -108,7 +161,7 @@ impl Linked {
         requires { method < length self.now.methods }
         ensures { At self.now.methods method (λ m. result.now ≡ m.locals) }
     {
-        self.code.methods.head(method).locals.names.as_slice()
+        self.head(method).locals.names.as_slice()
     }
 
     /// How many parameters a method has.
@@ -116,7 +169,7 @@ impl Linked {
         requires { method < length self.now.methods }
         ensures { At self.now.methods method (λ m. result ≡ m.params) }
     {
-        self.code.methods.head(method).params
+        self.head(method).params
     }
 
     /// Whether a method has a receiver.
@@ -124,7 +177,7 @@ impl Linked {
         requires { method < length self.now.methods }
         ensures { At self.now.methods method (λ m. result ≡ m.has_this) }
     {
-        self.code.methods.head(method).has_this
+        self.head(method).has_this
     }
 
     /// The text of a method, `<C: R m(P1,P2)>`; that of the root is `root`.
@@ -132,7 +185,7 @@ impl Linked {
         requires { method < length self.now.methods }
         ensures { At self.now.methods method (λ m. result.now ≡ m.text) }
     {
-        self.code.methods.head(method).text.as_str()
+        self.head(method).text.as_str()
     }
 
     /// The text of the type of what the arrays hold that the statement at an index of a method makes, of the innermost level where it makes several.
@@ -140,7 +193,7 @@ impl Linked {
         requires { MakesArray self.now method index }
         ensures { At self.now.methods method (λ m. HasElementText m.elements index result.now) }
     {
-        element_text(self.code.methods.head(method).elements.as_slice(), index)
+        element_text(self.head(method).elements.as_slice(), index)
     }
 
     /// The least number of a method with this text. The root is never found.
@@ -148,7 +201,7 @@ impl Linked {
         ensures some { IfSome result (IsLeast (HasText self.now text.now)) }
         ensures none { IfNone result ((number : ℕ) → HasText self.now text.now number → ⊥) }
     {
-        let number = self.code.methods.find(text)?;
+        let number = self.shared.heads.find(text)?;
         if number < self.root() {
             return Some(number);
         }
@@ -161,21 +214,21 @@ impl Linked {
         ensures some { At self.now.methods method (λ m. IfSome result (IsFirstPlace m.locals name.now)) }
         ensures none { At self.now.methods method (λ m. IfNone result (Has m.locals name.now → ⊥)) }
     {
-        self.code.methods.head(method).locals.places.find(name)
+        self.head(method).locals.places.find(name)
     }
 
     /// The number of the method of a row of the hierarchy, where a run may reach it.
     pub fn method_of_row(&self, row: u32) -> Option<u32>
         ensures { (number : ℕ) → (result ≡ Some number) ↔ (slice_get self.now.method_rows number ≡ Some row) }
     {
-        self.code.rows.number(row)
+        self.shared.rows.number(row)
     }
 
     /// How many classes there are.
     pub fn classes(&self) -> u32
         ensures { result ≡ length self.now.classes }
     {
-        self.members.classes.len()
+        self.shared.members.classes.len()
     }
 
     /// The name of a class.
@@ -183,7 +236,7 @@ impl Linked {
         requires { class < length self.now.classes }
         ensures { At self.now.classes class (λ c. result.now ≡ c.name) }
     {
-        self.members.classes.entry(class).name.as_str()
+        self.shared.members.classes.entry(class).name.as_str()
     }
 
     /// Whether a class may have objects.
@@ -191,7 +244,7 @@ impl Linked {
         requires { class < length self.now.classes }
         ensures { At self.now.classes class (λ c. result ≡ c.instantiable) }
     {
-        self.members.classes.entry(class).instantiable
+        self.shared.members.classes.entry(class).instantiable
     }
 
     /// The number of the class with this name.
@@ -199,7 +252,7 @@ impl Linked {
         ensures some { IfSome result (IsFirstPlace (names_of self.now.classes) name.now) }
         ensures none { IfNone result (Has (names_of self.now.classes) name.now → ⊥) }
     {
-        self.members.classes.find(name)
+        self.shared.members.classes.find(name)
     }
 
     /// The class of an instance field. The number 0, which stands for the elements of arrays, has none, nor has one past the last field.
@@ -207,18 +260,24 @@ impl Linked {
         ensures { result ≡ field_class self.now field }
     {
         let at = field.checked_sub(1)?;
-        self.members
-            .field_classes
-            .as_slice()
-            .get(at as usize)
-            .copied()
+        let entry = self.shared.members.fields.as_slice().get(at as usize)?;
+        Some(entry.class)
+    }
+
+    /// The least number, from 1 on, of an instance field that the class itself declares under this name, whatever its type. A field of a parent or
+    /// of an interface isn't found.
+    pub fn find_field(&self, class: u32, name: &str) -> Option<u32>
+        ensures some { IfSome result (IsLeast (IsFieldNamed self.now class name.now)) }
+        ensures none { IfNone result ((field : ℕ) → IsFieldNamed self.now class name.now field → ⊥) }
+    {
+        find_field(self.shared.members.fields.as_slice(), class, name)
     }
 
     /// How many static fields there are.
     pub fn static_count(&self) -> u32
         ensures { result ≡ self.now.static_count }
     {
-        self.members.static_count
+        self.shared.members.static_count
     }
 
     /// The name of a key of methods.
@@ -226,28 +285,30 @@ impl Linked {
         requires { key < length self.now.keys }
         ensures { At self.now.keys key (λ k. result.now ≡ k.name) }
     {
-        self.members.keys.as_slice()[key as usize].name.as_str()
+        self.shared.members.keys.as_slice()[key as usize]
+            .name
+            .as_str()
     }
 
     /// The texts that the methods use.
     pub fn texts(&self) -> &[Name]
         ensures { result.now ≡ self.now.texts }
     {
-        self.code.constants.texts.as_slice()
+        self.shared.constants.texts.as_slice()
     }
 
     /// The class constants that the methods use.
     pub fn class_texts(&self) -> &[Name]
         ensures { result.now ≡ self.now.class_texts }
     {
-        self.code.constants.class_texts.as_slice()
+        self.shared.constants.class_texts.as_slice()
     }
 
     /// The hierarchy of the classes, with all methods and fields.
     pub fn tree(&self) -> &Tree
         ensures { result.now ≡ self.now.rows }
     {
-        &self.tree
+        &self.shared.tree
     }
 
     /// The places of the calls that have the method among their targets, in order.

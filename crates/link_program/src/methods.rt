@@ -1,10 +1,6 @@
-//! The methods of a linked program.
-ghost use Rattle.std.specs.Prelude.{◌≡◌, ◌<◌, ◌++◌, [], ◌∷◌, ℕ, Some, IfNone, IfSome, OnOk, length, map, slice_get};
-ghost use Rattle.jim_ast.specs.Lists.{Has};
-ghost use Rattle.link_rules.specs.Linked.{LinkedMethod};
-ghost use Rattle.link_indexes.specs.Tables.{codes_of};
-ghost use Rattle.link_program.specs.Methods.{AreMethods, IsBodyOf, IsHead, IsHeadOf, linked_method, methods_in, texts_of};
-ghost use Rattle.link_program.specs.Places.{IsFirstPlace};
+//! The methods of a linked program, as they are put together.
+ghost use Rattle.std.specs.Prelude.{◌≡◌, ◌++◌, [], ◌∷◌, OnOk};
+ghost use Rattle.link_program.specs.Methods.{AreMethods, IsHead, linked_method, methods_in};
 
 use super::method::MethodHead;
 use super::places::FirstPlaces;
@@ -15,9 +11,9 @@ use std::alloc::{AllocError, Global};
 /// The methods of a linked program in order, fewer than 4,294,967,296, and the first of each text.
 #[derive(Drop)]
 pub struct Methods {
-    heads: Vec<MethodHead>,
-    bodies: Vec<MethodCode>,
-    places: FirstPlaces,
+    pub(crate) heads: Vec<MethodHead>,
+    pub(crate) bodies: Vec<MethodCode>,
+    pub(crate) places: FirstPlaces,
 }
 
 impl Methods {
@@ -48,48 +44,5 @@ impl Methods {
         self.heads.push(head)?;
         self.bodies.push(body)?;
         Ok(())
-    }
-
-    /// How many methods there are.
-    pub fn len(&self) -> u32
-        requires { AreMethods self.now }
-        ensures { result ≡ length (methods_in self.now) }
-    {
-        self.heads.len() as u32
-    }
-
-    /// The method with this number, without its code.
-    pub fn head(&self, method: u32) -> &MethodHead
-        requires are { AreMethods self.now }
-        requires there { method < length (methods_in self.now) }
-        ensures { (m : LinkedMethod) → slice_get (methods_in self.now) method ≡ Some m → IsHeadOf m result.now }
-    {
-        &self.heads[method as usize]
-    }
-
-    /// The code of the method with this number.
-    pub fn body(&self, method: u32) -> &MethodCode
-        requires are { AreMethods self.now }
-        requires there { method < length (methods_in self.now) }
-        ensures { (m : LinkedMethod) → slice_get (methods_in self.now) method ≡ Some m → IsBodyOf m result.now }
-    {
-        &self.bodies[method as usize]
-    }
-
-    /// The code of all methods.
-    pub fn bodies(&self) -> &[MethodCode]
-        requires { AreMethods self.now }
-        ensures { codes_of result.now ≡ map (λ m. m.code) (methods_in self.now) }
-    {
-        self.bodies.as_slice()
-    }
-
-    /// The first method with this text.
-    pub fn find(&self, text: &str) -> Option<u32>
-        requires { AreMethods self.now }
-        ensures some { IfSome result (IsFirstPlace (texts_of (methods_in self.now)) text.now) }
-        ensures none { IfNone result (Has (texts_of (methods_in self.now)) text.now → ⊥) }
-    {
-        self.places.find(text)
     }
 }

@@ -1,6 +1,8 @@
 //! The parts of a linked program.
 use super::classes::ClassTable;
+use super::heads::Heads;
 use super::methods::Methods;
+use class_tree::Tree;
 use jim_ast::{List, Name};
 use link_codes::Numbering;
 
@@ -26,11 +28,28 @@ pub struct KeyEntry {
     pub is_static: bool,
 }
 
-/// The classes, the keys of methods, of each instance field its class, and how many static fields there are.
+/// An instance field: the number of the class that declares it, and its name.
+#[derive(Drop)]
+pub struct FieldEntry {
+    pub class: u32,
+    pub name: Name,
+}
+
+/// The classes, the keys of methods, the instance fields in order, fewer than 4,294,967,296, and how many static fields there are.
 #[derive(Drop)]
 pub struct MemberPart {
     pub classes: ClassTable,
     pub keys: List<KeyEntry>,
-    pub field_classes: List<u32>,
+    pub fields: List<FieldEntry>,
     pub static_count: u32,
+}
+
+/// All of a linked program but the code of its methods: what narrowed programs have in common.
+#[derive(Drop)]
+pub struct Shared {
+    pub heads: Heads,
+    pub rows: Numbering,
+    pub constants: ConstantTexts,
+    pub members: MemberPart,
+    pub tree: Tree,
 }

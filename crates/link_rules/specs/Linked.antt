@@ -14,7 +14,7 @@ use Rattle.jim_ast.specs.declared.syntax.Stmt.TheVariants as stmt
 use Rattle.link_rules.specs.declared.code.Catch.{Catch}
 use Rattle.link_rules.specs.declared.code.Code.{Code}
 use Rattle.link_rules.specs.declared.refusal.LinkKind.{LinkKind}
-use Rattle.link_rules.specs.Classes.{DeclaredClass, DeclaredMethod, class_name, fields_of, method_text, methods_of}
+use Rattle.link_rules.specs.Classes.{DeclaredClass, DeclaredField, DeclaredMethod, class_name, fields_of, method_text, methods_of}
 use Rattle.link_rules.specs.Codes.{IsCatch, IsCode, Scope}
 use Rattle.link_rules.specs.Lists.{AreIncreasing, Each, FirstSeen}
 use Rattle.link_rules.specs.Names.{text_of, type_text}
@@ -50,11 +50,16 @@ pub record LinkedClass : Type 0 where
   pub name : List ℕ
   pub instantiable : Bool
 
--- a program whose names are numbers. The last method is the root; the class of the instance field f, from 1 on, stands at f - 1
+-- an instance field: the class that declares it, and its name
+pub record LinkedField : Type 0 where
+  pub class : ℕ
+  pub name : List ℕ
+
+-- a program whose names are numbers. The last method is the root; the instance field f, from 1 on, stands at f - 1
 pub record LinkedProgram : Type 0 where
   pub methods : List LinkedMethod
   pub classes : List LinkedClass
-  pub field_classes : List ℕ
+  pub fields : List LinkedField
   pub static_count : ℕ
   pub keys : List LinkedKey
   pub texts : List (List ℕ)
@@ -135,6 +140,14 @@ pub record IsLinkedClass (c : DeclaredClass) (l : LinkedClass) : Type 0 where
 abbrev pub key_of : DeclaredMethod → LinkedKey
 key_of m = record { name = text_of m.names m.decl.name; is_static = m.decl.is_static }
 
+-- the instance field that a declared one becomes
+abbrev pub linked_field_of : DeclaredField → LinkedField
+linked_field_of f = record { class = f.class; name = text_of f.names f.decl.name }
+
+-- what the instance fields among the declared ones become, in order
+abbrev pub instance_fields : List DeclaredField → List LinkedField
+instance_fields fields = map linked_field_of (filter (λ f. not f.decl.is_static) fields)
+
 -- the linked program is that of an accepted one
 pub record IsLinkOf (w : World) (p : LinkedProgram) : Type 0 where
   pub accepted : IsAccepted w
@@ -145,7 +158,7 @@ pub record IsLinkOf (w : World) (p : LinkedProgram) : Type 0 where
   pub classes : Each IsLinkedClass w.classes p.classes
   pub rows : p.rows ≡ w.rows
   pub keys : p.keys ≡ map key_of (methods_of w.classes)
-  pub field_classes : p.field_classes ≡ map (λ f. f.class) (filter (λ f. not f.decl.is_static) (fields_of w.classes))
+  pub fields : p.fields ≡ instance_fields (fields_of w.classes)
   pub static_count : p.static_count ≡ count_by (λ f. f.decl.is_static) (fields_of w.classes)
 
 -- the input, with the prelude and from this class on, is accepted, and this is its linked program

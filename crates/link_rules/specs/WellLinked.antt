@@ -29,7 +29,7 @@ FitsArg p m (arg.Class i) = i < length p.class_texts
 
 -- the number of an instance field, which 0 isn't
 abbrev pub IsFieldOf : LinkedProgram → ℕ → Type 0
-IsFieldOf p f = (0 < f) × (f ≤ length p.field_classes)
+IsFieldOf p f = (0 < f) × (f ≤ length p.fields)
 
 -- a call on a receiver where its mode isn't static, of a key that is static where its mode is
 abbrev pub FitsMode : LinkedProgram → Mode → Option ℕ → ℕ → Type 0
@@ -121,7 +121,7 @@ pub record IsInForm (p : LinkedProgram) : Type 0 where
   pub rows : length p.method_rows + 1 ≡ length p.methods
   pub ordered : AreIncreasing p.method_rows
   pub tree : length p.rows.classes ≡ length p.classes
-  pub fields : All (λ class. class < length p.classes) p.field_classes
+  pub fields : All (λ f. f.class < length p.classes) p.fields
   pub texts : IsApart p.texts
   pub class_texts : IsApart p.class_texts
   pub number : ℕ

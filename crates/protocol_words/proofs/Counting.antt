@@ -7,12 +7,16 @@ use Rattle.jim_ast.specs.Lists.{Adds}
 use Rattle.jim_ast.proofs.Places.{slice_get-adds, slice_get-below, slice_get-pushed}
 use Rattle.link_indexes.proofs.Grown.{take-next}
 use Rattle.link_laws.proofs.Lists.{each_right, first_seen_apart, same_place}
+use Rattle.link_rules.specs.Linked.{LinkedProgram}
 use Rattle.link_rules.specs.Lists.{Each, FirstSeen, none, next}
 use Rattle.track_rules.specs.declared.row.ProtocolRow.{ProtocolRow}
 use Rattle.track_rules.specs.Protocols.{IsNumbered, IsProtocol, NamedProtocol, NamedRow, NamesTooMany, Spells, named_events, named_states}
 use Rattle.protocol_words.specs.declared.numbering.Numbered.{Numbered}
 use Rattle.protocol_words.specs.declared.words.RowNames.{RowNames}
-use Rattle.protocol_words.specs.Numberings.{IsNumbering, protocol_parts}
+use Rattle.protocol_words.specs.declared.error.ProtocolError.{ProtocolError}
+use Rattle.protocol_words.specs.declared.error.ProtocolError.TheVariants.{NoMemory, NotProtocol, TooManyStates, UnknownClass}
+use Rattle.protocol_words.specs.Numberings.{IsCrowded, IsNumbering, protocol_parts}
+use Rattle.protocol_words.specs.Refused.{IsRefusedFor}
 use Rattle.protocol_words.specs.Spellings.{named_row}
 use Rattle.protocol_words.proofs.Seen.{fewer, seen_has}
 
@@ -141,3 +145,10 @@ form_of word k class n spells is = record {
       let events = same_place n.events other.event one.0.event two.0.event (subst (λ e. slice_get n.events e ≡ Some one.0.event) event one.2.event) two.2.event in
       spells.apart i j one.0 two.0 one.1 two.1 froms events;
 }
+
+-- why the names aren't numbered is why the word is no protocol
+pub crowded_refused : (p : LinkedProgram) (word : List ℕ) (k : NamedProtocol) → Spells word k → (e : ProtocolError) → IsCrowded k e → IsRefusedFor p word e
+crowded_refused p word k spells (TooManyStates at) h = (k, spells, h)
+crowded_refused p word k spells NoMemory h = tt
+crowded_refused p word k spells (NotProtocol at) h = absurd h
+crowded_refused p word k spells UnknownClass h = absurd h

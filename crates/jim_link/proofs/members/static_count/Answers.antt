@@ -13,11 +13,11 @@ loop-row-preserved c =
     let f = seen_field c.field.result in
     elim c.if-field.branch [
       | then-field w ↦ (
-          let more = after_static fields c.loop-row.row f c.field.ensures w.if-field.true in
+          let more = after_static fields c.loop-row.row f c.field.ensures.there w.if-field.true in
           record { counted = omega (arith, more.1, w.count-is, c.loop-row.invariant.counted); few = omega (arith, w.count-is, c.loop-row.invariant.few) }
           )
       | else-field w ↦ (
-          let more = after_instance fields c.loop-row.row f c.field.ensures w.if-field.false in
+          let more = after_instance fields c.loop-row.row f c.field.ensures.there w.if-field.false in
           record { counted = omega (arith, more.1, w.count-is, c.loop-row.invariant.counted); few = omega (arith, w.count-is, c.loop-row.invariant.few) }
           )
     ]

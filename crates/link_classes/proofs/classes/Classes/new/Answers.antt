@@ -37,6 +37,7 @@ invariant_of-result c =
     let texts : order.all.now ≡ c.args.all.now = c.in_ok-order.ensures.names in
     let knows = subst (λ (a : AllNames). KnowsMethods a.texts methods c.in_ok-tables.tables.methods.keys) texts tables.methods.keys in
     let root = subst (λ ids. AreNumbers c.args.all.now.texts (fixed_names entry) ids) (sym c.as_slice-root.ensures.value) c.requires.of_root in
+    let own_root = subst (λ (a : AllNames). AreNumbers a.texts (fixed_names entry) a.root.items) (sym texts) c.requires.of_root in
     let count : c.len-count.result ≡ length methods =
     omega (arith, c.len-count.ensures, c.in_ok-tables.tables.methods.methods.ok.0, ap length tables.methods.methods, length-map c.in_ok-tables.tables.methods.methods.items seen_method, tables.methods.few) in
     record {
@@ -49,10 +50,12 @@ invariant_of-result c =
       method_keys = tables.methods.keys;
       fields = tables.fields.fields;
       few_fields = tables.fields.few;
+      known_fields = tables.fields.known;
       field_keys = tables.fields.keys;
-      root = subst (λ (a : AllNames). AreNumbers a.texts (fixed_names entry) a.root.items) (sym texts) c.requires.of_root;
+      root = own_root;
       main = c.in_ok-main.ensures c.args.all.now.texts entry methods root knows count;
       initializer = c.in_ok-initializer.ensures c.args.all.now.texts entry methods root knows count;
+      root_names = c.in_ok-root_names.ensures entry own_root;
     }
 
 pub returns-clause-passed : goal.returns-clause-passed

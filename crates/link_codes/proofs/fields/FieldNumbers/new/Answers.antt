@@ -12,13 +12,13 @@ loop-row-preserved c =
     let numbers = numbers_more fields c.loop-row.numbers.items c.push.new.self.items c.loop-row.row c.loop-row.instances c.loop-row.statics so_far.numbers c.in_ok-push.ensures.items
     so_far.instances so_far.statics in
     elim c.if-field.branch [
-      | then-field w ↦ (let counts = after_static fields c.loop-row.row (seen_field c.field.result) c.field.ensures w.if-field.true in
+      | then-field w ↦ (let counts = after_static fields c.loop-row.row (seen_field c.field.result) c.field.ensures.there w.if-field.true in
           record {
             numbers = numbers;
             instances = w.instances-is ∙ so_far.instances ∙ sym counts.0;
             statics = w.statics-is ∙ ap (λ n. n + 1) so_far.statics ∙ sym counts.1;
           })
-      | else-field w ↦ (let counts = after_instance fields c.loop-row.row (seen_field c.field.result) c.field.ensures w.if-field.false in
+      | else-field w ↦ (let counts = after_instance fields c.loop-row.row (seen_field c.field.result) c.field.ensures.there w.if-field.false in
           record {
             numbers = numbers;
             instances = w.instances-is ∙ ap (λ n. n + 1) so_far.instances ∙ sym counts.0;

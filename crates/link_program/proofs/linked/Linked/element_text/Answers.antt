@@ -7,14 +7,12 @@ use Rattle.link_program.proofs.linked.Linked.element_text.Goals as goal
 
 pub element_text-requires-clause-ordered : goal.element_text-requires-clause-ordered
 element_text-requires-clause-ordered c =
-    let makes = rw (← c.self.view_is) at c.requires in
-    let ordered = makes_ordered _ c.args.method c.args.index c.self.invariant.form makes in
-    let head = c.head.ensures makes.method makes.there in
+    let ordered = makes_ordered _ c.args.method c.args.index c.head.ensures.form c.requires in
+    let head = c.head.ensures.head c.requires.method c.requires.there in
     rw c.as_slice.ensures (ordered_pairs c.head.result.now.elements (subst (λ (es : List Element). AreIncreasing (map (λ (e : Element). e.index) es)) head.elements ordered))
 
 pub element_text-requires-clause-there : goal.element_text-requires-clause-there
 element_text-requires-clause-there c =
-    let makes = rw (← c.self.view_is) at c.requires in
-    let found = makes_found _ c.args.method c.args.index c.self.invariant.form makes in
-    let head = c.head.ensures makes.method makes.there in
+    let found = makes_found _ c.args.method c.args.index c.head.ensures.form c.requires in
+    let head = c.head.ensures.head c.requires.method c.requires.there in
     rw c.as_slice.ensures (found.0, subst (λ (es : List Element). HasElementText es c.args.index found.0) head.elements found.1)

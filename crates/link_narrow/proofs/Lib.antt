@@ -1,0 +1,5 @@
+pub mod Filled
+pub mod Grown
+pub mod Reached
+pub mod Stays
+pub mod Whole
