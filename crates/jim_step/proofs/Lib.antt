@@ -1,5 +1,6 @@
 pub mod Catching
 pub mod Constants
+mod Declared
 pub mod Founds
 pub mod Listed
 pub mod Moving

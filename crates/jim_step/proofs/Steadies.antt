@@ -28,8 +28,10 @@ use Rattle.step_rules.specs.Offers.{CallsWith, Offers, OffersBy, Row, UnwindsAt}
 use Rattle.step_rules.specs.Slots.{operands_of, slot_of}
 use Rattle.step_rules.specs.Shapes.{EachOf, FitsFrame, FitsPoint, FitsSlot, HasShape, HasShapeBy, IsCall, IsKnown, Waits}
 use Rattle.step_rules.specs.States.{Ending, Frame, HeapObject, Point, State, ended, ill_typed, running, state_of, uncaught, catches, gets, goes_on, goes_to, throws, under, written}
-use Rattle.step_rules.specs.Steps.{Becomes, Choices, Receives, ReceivesAt, made, nested, raised, with_object, with_static}
+use Rattle.step_rules.specs.Steps.{Becomes, Choices, HasChoice, Receives, ReceivesAt, made, nested, raised, with_object, with_static}
 use Rattle.step_rules.specs.declared.parts.Slot.{Slot}
+use Rattle.step_rules.proofs.Determined.{below_choices}
+use Rattle.step_rules.proofs.Going.{point_goes}
 use Rattle.step_rules.proofs.Shaping.{frames_fit}
 use Rattle.step_rules.proofs.Listing.{at_all, each_last, last_same, same_place}
 
@@ -201,6 +203,17 @@ module _ (p : LinkedProgram) (kept : Kept) (shape : HasShape p (state_in kept)) 
     | inl a ↦ let none : choice < 0 = below 0 (inl (a.0, refl)) in absurd (omega (arith, none))
     | inr b ↦ omega (arith, counted_frames kept.frames.items b.0 (ap (λ (s : State). s.frames) b.1))
   ]
+
+  -- a run that goes on has a first choice
+  pub goes_on_by : IsInForm p → (state_in kept).ending ≡ running → HasChoice p (state_in kept) 0
+  goes_on_by form is = elim (ended_or_on p (state_in kept) shape) [
+    | inl a ↦ absurd (a.0 is)
+    | inr b ↦ let steps = point_goes p b.0 form b.2 (state_in kept) b.1 in (steps.count, inr steps.choices, steps.not_none)
+  ]
+
+  -- where a step has a first choice, the run goes on
+  pub going_at : IsInForm p → HasChoice p (state_in kept) 0 → (at : Point) × (state_in kept ≡ state_of at) × FitsPoint p at
+  going_at form some = going (some_frames 0 (below_choices p (state_in kept) 0 form some))
 
 -- as many choices as the plan lists
 pub choices_of : (p : LinkedProgram) (s : State) (at : Point) (plan : Plan) (count : ℕ) → s ≡ state_of at → Offers p at (listed p at.top plan)

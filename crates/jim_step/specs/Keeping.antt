@@ -1,5 +1,5 @@
 -- The state that a machine keeps.
-use Rattle.std.specs.Prelude.{◌≡◌, ℕ, ◌+◌, ◌<◌, ◌^◌, Some, length, slice_get}
+use Rattle.std.specs.Prelude.{◌≡◌, ℕ, ◌+◌, ◌<◌, ◌^◌, List, Some, length, slice_get}
 use Rattle.jim_step.specs.declared.kept.Kept.{Kept}
 use Rattle.jim_step.specs.declared.plan.Effect.{Effect}
 use Rattle.jim_step.specs.declared.plan.Effect.TheVariants as effect
@@ -10,6 +10,8 @@ use Rattle.link_sites.specs.declared.site.Site.{Site}
 use Rattle.step_rules.specs.declared.parts.Moved.{Moved}
 use Rattle.step_rules.specs.declared.parts.Moved.TheVariants as moved
 use Rattle.step_rules.specs.declared.parts.Value.{Value}
+use Rattle.step_rules.specs.Effects.{Effect as Offered}
+use Rattle.step_rules.specs.Offers.{Offers}
 use Rattle.step_rules.specs.Shapes.{FitsEffect}
 use Rattle.step_rules.specs.States.{Ending, HeapObject, Point, State, ended, goes_on, ill_typed, running, state_of, uncaught, written}
 use Rattle.step_rules.specs.Steps.{Becomes, nested, with_object}
@@ -40,6 +42,11 @@ pub record IsAbout (p : LinkedProgram) (effect : Effect) (kept : Kept) : Type 0 
 -- the effect leads from the one state to the other
 abbrev pub Leads : LinkedProgram → Effect → Kept → Kept → Type 0
 Leads p effect old new = (at : Point) → state_in old ≡ state_of at → Becomes p at (meant p at.top effect) (state_in new)
+
+-- the choice of a state that goes on has the effect
+abbrev pub Chooses : LinkedProgram → Kept → ℕ → Effect → Type 0
+Chooses p kept choice effect = (at : Point) → state_in kept ≡ state_of at
+    → (offered : List Offered) × Offers p at offered × (slice_get offered choice ≡ Some (meant p at.top effect))
 
 -- the same state
 abbrev pub IsSameState : Kept → Kept → Type 0

@@ -43,13 +43,15 @@ pub fn apply(
         Effect::Handles(handler, object) => top_catches(&mut kept.frames, handler, object),
         Effect::Leaves(object) => leave(kept, object),
         Effect::Raises(kind) => {
-            return raise(alloc, kept, kind, classes.exceptions[kind as usize]);
+            return raise(kept, kind, classes.exceptions[kind as usize]);
         }
-        Effect::Makes(to, class) => return make(alloc, kept, to, class),
+        Effect::Makes(to, class) => return make(kept, to, class),
         Effect::Nests(to, array, inner, class) => {
             return nest(alloc, kept, to, array, inner, class);
         }
-        Effect::Writes(object, field, value) => return write(kept, object, field, value),
+        Effect::Writes(object, field, value) => {
+            return write(alloc, kept, object, field, value);
+        }
         Effect::Calls(number, this) => return enter(alloc, linked, kept, number, this),
     }
     Ok(())

@@ -23,3 +23,4 @@ mod starting;
 mod unwinds;
 
 pub use machine::{Machine, start};
+pub use running::Turned;

@@ -1,15 +1,15 @@
 //! The machine.
-ghost use Rattle.std.specs.Prelude.{◌≡◌, ◌<◌, IfOk, OnErr, length};
+ghost use Rattle.std.specs.Prelude.{◌≡◌, ◌-◌, ◌<◌, IfOk, OnErr, length, min};
 ghost use Rattle.link_program.specs.Accessed.{At};
 ghost use Rattle.step_rules.specs.Runs.{IsFirstState};
 ghost use Rattle.step_rules.specs.Shapes.{FitsSlot, IsKnown};
 ghost use Rattle.step_rules.specs.Slots.{slot_of};
-ghost use Rattle.step_rules.specs.States.{place_of};
+ghost use Rattle.step_rules.specs.States.{place_of, running};
 ghost use Rattle.step_rules.specs.Steps.{Choices, HasChoice, Step, told};
 
 use super::classes::{Classes, classes_of};
 use super::kept::Kept;
-use super::running::{advance, count};
+use super::running::{Turned, advance, count};
 use super::sizes::is_small;
 use super::starting::first;
 use jim_ast::NoMemory;
@@ -77,7 +77,22 @@ impl Machine<'_> {
         ensures known { IfOk result (IsKnown (length self.new.state.heap)) }
         ensures err { OnErr result (self.new ≡ self.old) }
     {
-        advance(alloc, self.linked, &self.classes, &mut self.kept, choice)
+        let turned = advance(alloc, self.linked, &self.classes, &mut self.kept, choice)?;
+        Ok(turned.moved)
+    }
+
+    /// Makes the step of the choice that is wanted, or of the last one where there are fewer, and tells besides how many there were. Otherwise it is as `step`,
+    /// and looks only once at what the step may do.
+    pub fn turn(&mut self, alloc: Global, wanted: u32) -> Result<Turned, NoMemory>
+        requires { self.old.state.ending ≡ running }
+        ensures program { self.new.program ≡ self.old.program }
+        ensures choices { IfOk result (λ turned. Choices self.old.program self.old.state turned.choices) }
+        ensures ok { IfOk result (λ turned. Step self.old.program self.old.state (min wanted (turned.choices - 1)) self.new.state) }
+        ensures moved { IfOk result (λ turned. turned.moved ≡ told self.new.state.ending) }
+        ensures known { IfOk result (λ turned. IsKnown (length self.new.state.heap) turned.moved) }
+        ensures err { OnErr result (self.new ≡ self.old) }
+    {
+        advance(alloc, self.linked, &self.classes, &mut self.kept, wanted)
     }
 
     /// How many frames there are: none once the run has ended.

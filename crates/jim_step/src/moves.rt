@@ -28,20 +28,20 @@ pub fn top_place(frames: &[Frame]) -> Place
 }
 
 /// A new exception of a kind is in flight. Where there is no memory for it, the state is as before.
-pub fn raise(alloc: Global, kept: &mut Kept, kind: u8, class: u32) -> Result<(), AllocError>
+pub fn raise(kept: &mut Kept, kind: u8, class: u32) -> Result<(), AllocError>
     requires some { 0 < length kept.old.frames.items }
     ensures ok { OnOk result (Moves (raised kind class) kept.old kept.new) }
     ensures err { OnErr result (IsSameState kept.old kept.new) }
 {
     let number = kept.heap.len();
     let place = top_place(kept.frames.as_slice());
-    kept.heap.push(alloc, Site::Raised(place, kind), class)?;
+    kept.heap.push(Site::Raised(place, kind), class)?;
     top_throws(&mut kept.frames, number);
     Ok(())
 }
 
 /// A local gets a new object. Where there is no memory for it, the state is as before.
-pub fn make(alloc: Global, kept: &mut Kept, to: u32, class: u32) -> Result<(), AllocError>
+pub fn make(kept: &mut Kept, to: u32, class: u32) -> Result<(), AllocError>
     requires some { 0 < length kept.old.frames.items }
     requires next { EachTop (λ f. f.index + 1 < 2 ^ 32) kept.old.frames.items }
     requires local { EachTop (λ f. to < length f.locals) kept.old.frames.items }
@@ -50,7 +50,7 @@ pub fn make(alloc: Global, kept: &mut Kept, to: u32, class: u32) -> Result<(), A
 {
     let number = kept.heap.len();
     let place = top_place(kept.frames.as_slice());
-    kept.heap.push(alloc, Site::New(place), class)?;
+    kept.heap.push(Site::New(place), class)?;
     top_gets(&mut kept.frames, to, Value::Object(number));
     Ok(())
 }
@@ -78,14 +78,20 @@ pub fn nest(
 }
 
 /// A value is written into an object. Where there is no memory for it, the state is as before.
-pub fn write(kept: &mut Kept, object: u32, field: u32, value: Value) -> Result<(), AllocError>
+pub fn write(
+    alloc: Global,
+    kept: &mut Kept,
+    object: u32,
+    field: u32,
+    value: Value,
+) -> Result<(), AllocError>
     requires some { 0 < length kept.old.frames.items }
     requires next { EachTop (λ f. f.index + 1 < 2 ^ 32) kept.old.frames.items }
     requires object { object < length kept.old.heap }
     ensures ok { OnOk result (MovesTo (Writes object field value) kept.old kept.new) }
     ensures err { OnErr result (IsSameState kept.old kept.new) }
 {
-    kept.heap.write(object, field, value)?;
+    kept.heap.write(alloc, object, field, value)?;
     top_goes_on(&mut kept.frames);
     Ok(())
 }

@@ -19,21 +19,21 @@ use step_heap::Heap;
 use step_rules::{Moved, Value};
 
 // Puts an object for each text last.
-fn add_texts(alloc: Global, heap: &mut Heap, count: u32, class: u32) -> Result<(), AllocError>
+fn add_texts(heap: &mut Heap, count: u32, class: u32) -> Result<(), AllocError>
     ensures { OnOk result (heap.new ≡ heap.old ++ constants (λ i. Site.Text i) class count) }
 {
     for number in 0..count {
-        heap.push(alloc, Site::Text(number), class)?;
+        heap.push(Site::Text(number), class)?;
     }
     Ok(())
 }
 
 // Puts an object for each class constant last.
-fn add_classes(alloc: Global, heap: &mut Heap, count: u32, class: u32) -> Result<(), AllocError>
+fn add_classes(heap: &mut Heap, count: u32, class: u32) -> Result<(), AllocError>
     ensures { OnOk result (heap.new ≡ heap.old ++ constants (λ i. Site.Class i) class count) }
 {
     for number in 0..count {
-        heap.push(alloc, Site::Class(number), class)?;
+        heap.push(Site::Class(number), class)?;
     }
     Ok(())
 }
@@ -44,18 +44,8 @@ fn first_heap(alloc: Global, linked: &Linked, classes: &Classes) -> Result<Heap,
     ensures { IfOk result (λ heap. heap ≡ constants (λ i. Site.Text i) classes.now.string (length linked.now.texts) ++ constants (λ i. Site.Class i) classes.now.class (length linked.now.class_texts)) }
 {
     let mut heap = Heap::new(alloc);
-    add_texts(
-        alloc,
-        &mut heap,
-        linked.texts().len() as u32,
-        classes.string,
-    )?;
-    add_classes(
-        alloc,
-        &mut heap,
-        linked.class_texts().len() as u32,
-        classes.class,
-    )?;
+    add_texts(&mut heap, linked.texts().len() as u32, classes.string)?;
+    add_classes(&mut heap, linked.class_texts().len() as u32, classes.class)?;
     Ok(heap)
 }
 

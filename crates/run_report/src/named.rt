@@ -1,5 +1,5 @@
 //! The run that digits name.
-ghost use Rattle.std.specs.Prelude.{◌≡◌, ◌-◌, ◌<◌, All, IfOk, min};
+ghost use Rattle.std.specs.Prelude.{◌≡◌, All, IfOk, drop, get_or};
 ghost use Rattle.std.specs.Char.{IsAsciiDigit};
 ghost use Rattle.link_rules.specs.WellLinked.{IsInForm};
 ghost use Rattle.run_report.specs.Named.{IsRunTo, NamedStep, digits_of};
@@ -26,16 +26,19 @@ pub(crate) struct Ran {
     pub moved: Moved,
 }
 
-// The choice that a digit names: one that is too large counts as the last.
-fn picked(count: u32, digit: u8) -> u32
-    requires count { 1 < count }
-    requires digit { IsAsciiDigit digit }
-    ensures { result ≡ min (digit - 48) (count - 1) }
+// The choice that the next digit names: the first one where no digit is left.
+fn wanted(digits: &[u8], used: usize) -> u32
+    requires { All IsAsciiDigit digits.now }
+    ensures { result ≡ get_or (drop used (digits_of digits.now)) 0 0 }
 {
-    u32::from(digit - b'0').min(count - 1)
+    match digits.get(used) {
+        Some(digit) => u32::from(*digit - b'0'),
+        None => 0,
+    }
 }
 
-// Makes a step of the run that digits name, of which so many are used.
+// Makes a step of the run that digits name, of which so many are used. A digit too large counts as the last choice, and where there is one choice alone
+// none is used.
 fn advance(
     alloc: Global,
     machine: &mut Machine<'_>,
@@ -49,15 +52,15 @@ fn advance(
     ensures step { IfOk result (λ a. NamedStep machine.old.program (digits_of digits.now) used machine.old.state a.used machine.new.state) }
     ensures moved { IfOk result (λ a. a.moved ≡ told machine.new.state.ending) }
 {
-    let count = machine.choices();
-    if count < 2 || used >= digits.len() {
-        let moved = machine.step(alloc, 0)?;
+    let turned = machine.turn(alloc, wanted(digits, used))?;
+    let moved = turned.moved;
+    if turned.choices < 2 || used >= digits.len() {
         return Ok(Advanced { moved, used });
     }
-    let choice = picked(count, digits[used]);
-    let moved = machine.step(alloc, choice)?;
-    let used = used + 1;
-    Ok(Advanced { moved, used })
+    Ok(Advanced {
+        moved,
+        used: used + 1,
+    })
 }
 
 /// Makes at most so many steps of the run that digits name, from its first state on.

@@ -8,7 +8,7 @@ use Rattle.std.proofs.lemmas.List.{append-nil, length-map, map-append}
 use Rattle.std.proofs.lemmas.List.Sums.{length-filter}
 use Rattle.std.proofs.lemmas.List.Elements.{filter-append}
 use Rattle.indexmap.specs.IndexMap.{IndexMap, IsUnchanged, get}
-use Rattle.step_heap.specs.declared.indexed.Written.{Written}
+use Rattle.step_heap.specs.declared.writes.Written.{Written}
 use Rattle.step_rules.specs.declared.parts.Value.{Value}
 use Rattle.step_heap.specs.Indexes.{Indexes, IsIndexed, values_in, write_of}
 

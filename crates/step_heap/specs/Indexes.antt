@@ -1,14 +1,19 @@
 -- The indexes of an object's writes.
-use Rattle.std.specs.Prelude.{◌≡◌, ◌≢◌, ◌≤◌, ◌==◌, ◌++◌, ℕ, List, [], ◌∷◌, Some, None, filter, length, map, nat_eq}
+use Rattle.std.specs.Prelude.{◌≡◌, ◌≢◌, ◌≤◌, ◌==◌, ◌++◌, ℕ, List, [], ◌∷◌, Option, Some, None, Box, filter, length, map, nat_eq}
 use Rattle.std.specs.List.{last_or}
 use Rattle.indexmap.specs.IndexMap.{IndexMap, Updates, IsUnchanged, get}
 use Rattle.link_sites.specs.declared.site.Site.{Site}
 use Rattle.step_rules.specs.declared.parts.Value.{Value}
 use Rattle.step_rules.specs.States.{HeapObject, Write}
-use Rattle.step_heap.specs.declared.indexed.Written.{Written}
+use Rattle.step_heap.specs.declared.writes.Written.{Written}
 
 abbrev pub write_of : Written → Write
 write_of w = record { field = w.field; value = w.value }
+
+-- what was written into an object, which has no list of writes before the first
+abbrev pub all_of : {A : Type 0} → Option (Box (List Written) A) → List Written
+all_of (Some writes) = writes.value
+all_of None = []
 
 -- the object of this site and this class with these writes
 abbrev pub object_of : Site → ℕ → List Written → HeapObject

@@ -52,14 +52,14 @@ impl Heap {
     }
 
     /// Puts an object last into which nothing was written. Where there is no memory for it, the heap is as before.
-    pub fn push(&mut self, alloc: Global, site: Site, class: u32) -> Result<(), AllocError>
+    pub fn push(&mut self, site: Site, class: u32) -> Result<(), AllocError>
         ensures ok { OnOk result (self.new ≡ self.old ++ new_object site class ∷ []) }
         ensures err { OnErr result (self.new ≡ self.old) }
     {
         if self.objects.len() >= u32::MAX as usize {
             return Err(AllocError);
         }
-        self.objects.push(Object::new(alloc, site, class))?;
+        self.objects.push(Object::new(site, class))?;
         Ok(())
     }
 
@@ -76,8 +76,8 @@ impl Heap {
         ensures err { OnErr result (self.new ≡ self.old) }
     {
         let number = self.len();
-        self.push(alloc, site, class)?;
-        if let Err(error) = self.write(array, 0, Value::Object(number)) {
+        self.push(site, class)?;
+        if let Err(error) = self.write(alloc, array, 0, Value::Object(number)) {
             self.objects.pop();
             return Err(error);
         }
@@ -85,12 +85,18 @@ impl Heap {
     }
 
     /// Writes a value into a field of an object, or for 0 into an element. Where there is no memory for it, the heap is as before.
-    pub fn write(&mut self, number: u32, field: u32, value: Value) -> Result<(), AllocError>
+    pub fn write(
+        &mut self,
+        alloc: Global,
+        number: u32,
+        field: u32,
+        value: Value,
+    ) -> Result<(), AllocError>
         requires { number < length self.old }
         ensures ok { OnOk result (IsWritten self.old number field value self.new) }
         ensures err { OnErr result (self.new ≡ self.old) }
     {
         let object = &mut self.objects[number as usize];
-        object.write(field, value)
+        object.write(alloc, field, value)
     }
 }

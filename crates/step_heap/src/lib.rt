@@ -3,8 +3,8 @@
 #![tactic(auto)]
 
 mod heap;
-mod indexed;
 mod object;
+mod writes;
 
 pub use heap::Heap;
 pub use object::Object;

@@ -3,8 +3,7 @@ ghost use Rattle.std.specs.Prelude.{◌≡◌, ◌≢◌, ◌≤◌, OnOk, OnErr
 ghost use Rattle.step_rules.specs.Slots.{cells, field_of};
 ghost use Rattle.step_rules.specs.States.{new_object, written};
 
-use super::indexed::{Written, add};
-use indexmap::IndexMap;
+use super::writes::{Writes, Written};
 use link_sites::Site;
 use std::alloc::{AllocError, Global};
 use std::marker::Model;
@@ -16,9 +15,8 @@ use step_rules::Value;
 pub struct Object {
     site: Site,
     class: u32,
-    writes: Vec<Written>,
-    latest: IndexMap<u32, Value>,
-    cells: Vec<Value>,
+    /// Made with the first write: most objects of a run are made and never written into.
+    writes: Option<Box<Writes>>,
 }
 
 impl Model for Object {
@@ -26,24 +24,20 @@ impl Model for Object {
 
     ghost Value = { HeapObject };
 
-    ghost use Rattle.step_heap.specs.Indexes.{IsIndexed, object_of};
+    ghost use Rattle.step_heap.specs.Indexes.{all_of, object_of};
 
-    ghost view = { λ o. object_of o.site o.class o.writes.items };
-
-    ghost invariant = { λ o. IsIndexed o.writes.items o.latest o.cells.items };
+    ghost view = { λ o. object_of o.site o.class (all_of o.writes) };
 }
 
 impl Object {
     /// An object of the site and the class, into which nothing was written. Takes no memory.
-    pub fn new(alloc: Global, site: Site, class: u32) -> Self
+    pub fn new(site: Site, class: u32) -> Self
         ensures { result ≡ new_object site class }
     {
         Object {
             site,
             class,
-            writes: Vec::new(alloc),
-            latest: IndexMap::new(alloc),
-            cells: Vec::new(alloc),
+            writes: None,
         }
     }
 
@@ -66,8 +60,8 @@ impl Object {
         requires { field ≢ 0 }
         ensures { result ≡ field_of self.now field }
     {
-        match self.latest.get(&field) {
-            Some(value) => *value,
+        match &self.writes {
+            Some(writes) => writes.field(field),
             None => Value::Null,
         }
     }
@@ -77,19 +71,24 @@ impl Object {
         ensures cells { result.now ≡ cells self.now }
         ensures few { length result.now ≤ 4294967290 }
     {
-        self.cells.as_slice()
+        match &self.writes {
+            Some(writes) => writes.cells(),
+            None => &[],
+        }
     }
 
     /// Writes a value into a field, or for 0 into an element. Where there is no memory for it, the object is as before.
-    pub fn write(&mut self, field: u32, value: Value) -> Result<(), AllocError>
+    pub fn write(&mut self, alloc: Global, field: u32, value: Value) -> Result<(), AllocError>
         ensures ok { OnOk result (self.new ≡ written self.old field value) }
         ensures err { OnErr result (self.new ≡ self.old) }
     {
-        add(
-            &mut self.writes,
-            &mut self.latest,
-            &mut self.cells,
-            Written { field, value },
-        )
+        let written = Written { field, value };
+        if let Some(writes) = &mut self.writes {
+            return writes.add(written);
+        }
+        let mut writes = Writes::new(alloc);
+        writes.add(written)?;
+        self.writes = Some(Box::new(alloc, writes)?);
+        Ok(())
     }
 }

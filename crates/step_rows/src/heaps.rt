@@ -9,11 +9,11 @@ use step_rules::Value;
 fn keeps_writes(rt: HostRuntime) -> Result<(), Fail> {
     let alloc = rt.alloc();
     let mut heap = Heap::new(alloc);
-    heap.push(alloc, Site::Text(4), 9)?;
-    heap.write(0, 3, Value::Number)?;
-    heap.write(0, 3, Value::Object(0))?;
-    heap.write(0, 0, Value::Number)?;
-    heap.write(0, 0, Value::Null)?;
+    heap.push(Site::Text(4), 9)?;
+    heap.write(alloc, 0, 3, Value::Number)?;
+    heap.write(alloc, 0, 3, Value::Object(0))?;
+    heap.write(alloc, 0, 0, Value::Number)?;
+    heap.write(alloc, 0, 0, Value::Null)?;
     assert_eq!(rt; heap.len(), 1);
     let object = heap.object(0);
     assert!(rt; object.site() == Site::Text(4));

@@ -4,7 +4,6 @@ use Rattle.link_rules.specs.declared.code.Code.TheVariants.{NewMulti}
 use Rattle.link_rules.specs.Linked.{LinkedMethod, LinkedProgram}
 use Rattle.link_rules.specs.WellLinked.{FitsCode, FitsMethod, IsInForm}
 use Rattle.link_sites.specs.declared.place.Place.{Place}
-use Rattle.link_sites.specs.Places.{CodeAt}
 use Rattle.link_sites.specs.Sites.{HasLevel, IsUnraised}
 use Rattle.jim_step.proofs.Readies.{at_all}
 use Rattle.jim_step.proofs.fields.level_within.Goals as goal

@@ -1,4 +1,4 @@
-use Rattle.std.proofs.Common.{◌≡◌, [], ◌∷◌, map, refl, inl, inr}
+use Rattle.std.proofs.Common.{refl, inl}
 use Rattle.jim_step.proofs.fields.load_element.Goals as goal
 
 pub returns-in-Some-clause-row : goal.returns-in-Some-clause-row
