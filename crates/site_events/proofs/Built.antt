@@ -1,5 +1,6 @@
 -- The events of a site, event by event.
-use Rattle.std.proofs.Common.{◌≡◌, ℕ, ◌+◌, ◌<◌, ◌⊎◌, ◌↔◌, List, Some, length, slice_get, slice_index, inl, inr, refl, sym, subst, arith}
+use Rattle.std.proofs.Common.{◌≡◌, ℕ, ◌+◌, ◌<◌, ◌⊎◌, ◌↔◌, List, [], Some, length, slice_get, slice_index, inl, inr, refl, sym, subst, arith}
+use Rattle.std.specs.Global.{Vec}
 use Rattle.std.specs.Int.{bit_at}
 use Rattle.std.proofs.lemmas.Bool.{cases_lt}
 use Rattle.std.proofs.lemmas.Nat.Bits.{bit_at_above}
@@ -21,6 +22,7 @@ use Rattle.track_runs.specs.Events.{IsEventCall}
 use Rattle.track_events.specs.Leading.{Leads}
 use Rattle.track_events.specs.Leading as leading
 use Rattle.track_systems.specs.Events.{Goes, IsEventOn}
+use Rattle.track_systems.specs.Laws.{IsAmongSixteen}
 use Rattle.track_systems.specs.Values.{IsWeight}
 use Rattle.track_systems.specs.Weights.{Anywhere, IsInside, May, Sends, Within}
 use Rattle.track_systems.specs.Weights as weights
@@ -28,12 +30,14 @@ use Rattle.track_systems.proofs.Meaning.{meaning}
 use Rattle.weight_laws.specs.declared.rel.Rel.{Rel}
 use Rattle.weight_laws.specs.Rel.{Relates, rel_domain}
 use Rattle.weight_laws.specs.RelLaws.{rel_lawful}
+use Rattle.site_events.specs.declared.inner.Inner.{Inner}
 use Rattle.site_events.specs.declared.site.SiteEvents.{SiteEvents}
 use Rattle.site_events.specs.declared.statement.Statement.{Statement}
 use Rattle.site_events.specs.Events.{MayBe}
-use Rattle.site_events.specs.Sites.{AreEventsOf, AreRisen, Enters}
+use Rattle.site_events.specs.Inner.{HasTargetAmong}
+use Rattle.site_events.specs.Sites.{AreEventsOf, AreRisen, Enters, IsInnerOf, LeadsInside}
 use Rattle.site_events.specs.Statements.{before_it, statement_at}
-use Rattle.site_events.specs.Tables.{AreClosed, AreMeant, AreRaised, HasOne, IsTold, Tabled}
+use Rattle.site_events.specs.Tables.{AreMeant, AreRaised, HasOne, IsTold, Tabled}
 use Rattle.site_events.proofs.Used.{place_before}
 
 -- a relation leads among sixteen states
@@ -104,26 +108,35 @@ module _ (k : ProtocolParts) where
 
 module _ (p : LinkedProgram) (k : ProtocolParts) (q : Asked) (a : Site) where
   -- a run of the call may come to a statement that may be the event
-  abbrev pub MayEnter : ℕ → Statement → Type 0
-  MayEnter event s = (x : Statement) × MayBe p k q a event x × IsInside p (before_it s) x.method
+  abbrev pub MayEnter : ℕ → Place → Type 0
+  MayEnter event c = (x : Statement) × MayBe p k q a event x × IsInside p c x.method
+
+  -- what the event does, with methods among which a call has a target exactly where a run of it may come to the event
+  pub record IsInnerFor (event : ℕ) (x : Inner) : Type 0 where
+    pub does : (i j : ℕ) → i < 16 → Relates x.does i j ↔ HasRow k i event j
+    pub enters : (c : Place) → HasTargetAmong p x.loud.keys c ↔ MayEnter event c
+
+  -- those of the first events
+  pub record AreInner (done : ℕ) (inner : List Inner) : Type 0 where
+    pub each : (x : Inner) → Has inner x → (event : ℕ) × (event < done) × IsInnerFor event x
+    pub all : (event : ℕ) (s : Statement) → event < done → MayBe p k q a event s → (x : Inner) × Has inner x × IsInnerFor event x
 
   -- what the first events do
   pub record IsBuilt (done : ℕ) (e : SiteEvents) : Type 0 where
     pub own : IsTableOf k (λ s event. (event < done) × MayBe p k q a event s) e.own
-    pub inside : IsTableOf k (λ s event. (event < done) × MayEnter event s) e.inside
+    pub inner : AreInner done e.inner.items
     pub anywhere : IsSum k (λ event. (event < done) × ((s : Statement) × MayBe p k q a event s)) e.anywhere
 
-  pub built_none : (e : SiteEvents) → ((s : Statement) → HasOne e.own s → ⊥) → ((s : Statement) → HasOne e.inside s → ⊥) → e.anywhere ≡ rel_domain.zero → IsBuilt 0 e
-  built_none e own inside anywhere = record {
+  pub built_none : (e : SiteEvents) → ((s : Statement) → HasOne e.own s → ⊥) → e.inner.items ≡ [] → e.anywhere ≡ rel_domain.zero → IsBuilt 0 e
+  built_none e own inner anywhere = record {
     own = record {
       meant = λ s w told. absurd (own s (w, told));
       one = λ s. ((λ h. absurd (own s h)), (λ h. let low = h.1.0 in absurd (omega arith)));
       each = λ s w told. absurd (own s (w, told));
     };
-    inside = record {
-      meant = λ s w told. absurd (inside s (w, told));
-      one = λ s. ((λ h. absurd (inside s h)), (λ h. let low = h.1.0 in absurd (omega arith)));
-      each = λ s w told. absurd (inside s (w, told));
+    inner = record {
+      each = λ x h. let none = subst (λ (xs : List Inner). Has xs x) inner h in absurd (let no = none.1 in cc);
+      all = λ event s low may. absurd (omega arith);
     };
     anywhere = λ i j h. (
       (λ r. absurd (meaning.zero i j h (subst (λ (x : Rel). Relates x i j) anywhere r))),
@@ -150,45 +163,55 @@ module _ (p : LinkedProgram) (k : ProtocolParts) (q : Asked) (a : Site) where
     (λ h. (next_event done event Fact).1 (elim h [ inl l ↦ inl l | inr r ↦ inr (r.0, same.0 r.1) ])),
   )
 
-  -- what the calls of methods with these statements may come to
-  enters_may : (event : ℕ) (statements : List Statement) → ((s : Statement) → Has statements s ↔ MayBe p k q a event s) → (s : Statement) → Enters p statements s ↔ MayEnter event s
-  enters_may event statements are s = (
+  -- what a call that may enter methods with these statements may come to
+  enters_may : (event : ℕ) (statements : List Statement) → ((s : Statement) → Has statements s ↔ MayBe p k q a event s) → (c : Place) → Enters p statements c ↔ MayEnter event c
+  enters_may event statements are c = (
     (λ h.
         let x = from_map (λ (t : Statement). t.method) statements h.2.0 h.0 h.2.1 in
-        (x.0, (are x.0).0 (h.2.0, x.1), subst (λ (m : ℕ). IsInside p (before_it s) m) (sym x.2) h.1)),
+        (x.0, (are x.0).0 (h.2.0, x.1), subst (λ (m : ℕ). IsInside p c m) (sym x.2) h.1)),
     (λ h.
         let has = (are h.0).1 h.1 in
         (h.0.method, h.2, (has.0, at_map (λ (t : Statement). t.method) statements has.0 h.0 has.1))),
   )
 
-  pub built_more : (done : ℕ) (does : Rel) (statements : List Statement) (old new : SiteEvents) → IsProtocol k → IsWeight does (λ i j. HasRow k i done j)
-      → ((s : Statement) → Has statements s ↔ MayBe p k q a done s) → IsBuilt done old → AreRisen p statements does old new → IsBuilt (done + 1) new
-  built_more done does statements old new form is are built risen = record {
-    own = table_more k form done does is _ _ (λ s. Has statements s) old.own new.own built.own risen.own (λ s e. with_fact done e (λ n. MayBe p k q a n s) (Has statements s) (are s));
-    inside = table_more k form done does is _ _ (Enters p statements) old.inside new.inside built.inside risen.inside
-        (λ s e. with_fact done e (λ n. MayEnter n s) (Enters p statements s) (enters_may done statements are s));
-    anywhere = sum_more k form done does is _ _ ((s : Statement) × Has statements s) old.anywhere new.anywhere built.anywhere risen.anywhere
-        (λ e. with_fact done e (λ n. (s : Statement) × MayBe p k q a n s) ((s : Statement) × Has statements s)
-        ((λ h. (h.0, (are h.0).0 h.1)), (λ h. (h.0, (are h.0).1 h.1))));
-  }
+  module _ (done : ℕ) (does : Rel) (statements : List Statement) (form : IsProtocol k) (is : IsWeight does (λ i j. HasRow k i done j))
+      (are : (s : Statement) → Has statements s ↔ MayBe p k q a done s) where
+    -- what stands for the statements stands for the event
+    inner_for : (x : Inner) → IsInnerOf p statements does x → IsInnerFor done x
+    inner_for x of = record {
+      does = λ i j h. (
+        (λ r. does_row k form done does is i j h (subst (λ (w : Rel). Relates w i j) of.does_is r)),
+        (λ row. subst (λ (w : Rel). Relates w i j) (sym of.does_is) (row_does k form done does is i j h row)),
+      );
+      enters = λ c. (
+        (λ h. (enters_may done statements are c).0 ((of.enters c).0 h)),
+        (λ h. (of.enters c).1 ((enters_may done statements are c).1 h)),
+      );
+    }
 
-  -- what a call may enter doesn't hang on an exception in flight
-  inside_moved : (c d : Place) → c.method ≡ d.method → c.index ≡ d.index → (m : ℕ) → IsInside p c m → IsInside p d m
-  inside_moved c d a b m (weights.target has) = weights.target (subst (λ (i : ℕ). HasTarget p d.method i m) b (subst (λ (n : ℕ). HasTarget p n c.index m) a has))
-  inside_moved c d a b m (weights.called inside has) = weights.called (inside_moved c d a b _ inside) has
+    inner_more : (old new : SiteEvents) → AreInner done old.inner.items → AreRisen p statements does old new → AreInner (done + 1) new.inner.items
+    inner_more old new built risen = record {
+      each = λ x h. elim (risen.each x h) [
+        | inl was ↦ let e = built.each x was in let low = e.1 in (e.0, omega (arith, low), e.2)
+        | inr of ↦ (done, omega arith, inner_for x of)
+      ];
+      all = λ event s low may. elim (cases_lt event done) [
+        | inl before ↦ let x = built.all event s before may in (x.0, risen.kept x.0 x.1, x.2)
+        | inr high ↦
+            let same : event ≡ done = omega (arith, low, high) in
+            let x = risen.inner s ((are s).1 (subst (λ (n : ℕ). MayBe p k q a n s) same may)) in
+            (x.0, x.1, subst (λ (n : ℕ). IsInnerFor n x.0) (sym same) (inner_for x.0 x.2))
+      ];
+    }
 
-  sends_moved : (c d : Place) → c.method ≡ d.method → c.index ≡ d.index → (i j : ℕ) → Sends p k q a (Within p c) i j → Sends p k q a (Within p d) i j
-  sends_moved c d a b i j weights.none = weights.none
-  sends_moved c d a b i j (weights.more {c = e} way there may goes) = weights.more (sends_moved c d a b i _ way) (inside_moved c d a b e.method there) may goes
-
-  pub weight_moved : (c : Place) (w : Rel) → IsWeight w (Sends p k q a (Within p (before_it (statement_at c)))) → IsWeight w (Sends p k q a (Within p c))
-  weight_moved c w is = record {
-    meant = is.meant;
-    each = λ i j h g. (
-      (λ r. sends_moved (before_it (statement_at c)) c refl refl i j ((is.each i j h g).0 r)),
-      (λ s. (is.each i j h g).1 (sends_moved c (before_it (statement_at c)) refl refl i j s)),
-    );
-  }
+    pub built_more : (old new : SiteEvents) → IsBuilt done old → AreRisen p statements does old new → IsBuilt (done + 1) new
+    built_more old new built risen = record {
+      own = table_more k form done does is _ _ (λ s. Has statements s) old.own new.own built.own risen.own (λ s e. with_fact done e (λ n. MayBe p k q a n s) (Has statements s) (are s));
+      inner = inner_more old new built.inner risen;
+      anywhere = sum_more k form done does is _ _ ((s : Statement) × Has statements s) old.anywhere new.anywhere built.anywhere risen.anywhere
+          (λ e. with_fact done e (λ n. (s : Statement) × MayBe p k q a n s) ((s : Statement) × Has statements s)
+          ((λ h. (h.0, (are h.0).0 h.1)), (λ h. (h.0, (are h.0).1 h.1))));
+    }
 
   -- the code of an event statement is a call of its event, on its receiver
   one_call : (c : Code) (event other : ℕ) → IsProtocol k → IsEventCall p k event c → IsEventCall p k other c → other ≡ event
@@ -233,12 +256,12 @@ module _ (p : LinkedProgram) (k : ProtocolParts) (q : Asked) (a : Site) where
   on_below c event v on = event_below on.statement.code event on.statement.is_so
 
   -- what events at some places do, as a closure
-  module _ (form : IsProtocol k) (Where : Place → Type 0) (u : Rel) where
+  module _ (sixteen : IsAmongSixteen k) (Where : Place → Type 0) (u : Rel) where
     abbrev pub IsStep : Type 0
     IsStep = (i j : ℕ) → i < 16 → Relates u i j ↔ ((c : Place) × Where c × May p k q a c × Goes p k c i j)
 
     goes_low : (c : Place) (i j : ℕ) → Goes p k c i j → j < 16
-    goes_low c i j goes = row_below k form i goes.0 j goes.3
+    goes_low c i j goes = let row = sixteen (record { from = i; event = goes.0; to = j }) goes.3 in row.1
 
     sends_low : (i j : ℕ) → i < 16 → Sends p k q a Where i j → j < 16
     sends_low i j h weights.none = h
@@ -265,23 +288,18 @@ module _ (p : LinkedProgram) (k : ProtocolParts) (q : Asked) (a : Site) where
       each = λ i j h g. ((λ r. lead_sends step i j h ((is.each i j h g).0 r)), (λ s. (is.each i j h g).1 (sends_lead step i j h s)));
     }
 
-  pub built_all : (count : ℕ) (before e : SiteEvents) → IsProtocol k → count ≡ length k.events → IsBuilt count before → e.own ≡ before.own → AreClosed before.inside e.inside
+  -- the rows of a protocol lead among sixteen states
+  among_sixteen : IsProtocol k → IsAmongSixteen k
+  among_sixteen form row has = let r = form.rows row has in (let from = r.from in let few = form.few in omega arith, let to = r.to in let few = form.few in omega arith)
+
+  pub built_all : (count : ℕ) (before e : SiteEvents) → IsProtocol k → count ≡ length k.events → IsBuilt count before → e.own ≡ before.own → e.inner ≡ before.inner
       → IsWeight e.anywhere (Leads (Relates before.anywhere)) → AreEventsOf p k q a e
-  built_all count before e form all built same closed anywhere = record {
-    sixteen = λ row has. let r = form.rows row has in (let from = r.from in let few = form.few in omega arith, let to = r.to in let few = form.few in omega arith);
+  built_all count before e form all built same inner anywhere = record {
+    sixteen = among_sixteen form;
     may = λ c may. subst (λ (t : Tabled). HasOne t (statement_at c)) (sym same) ((built.own.one (statement_at c)).1 (may.event, (low c may.event may.receiver may.is_event, be c may)));
     own = λ s w told. own_at s w (subst (λ (t : Tabled). IsTold t s w) same told);
-    inside = λ s w told.
-        let u = closed.each s w told in
-        closed_sends form (Within p (before_it s)) u.0 (inside_step s u.0 u.1) w u.2;
-    quiet = λ s none. record {
-      meant = rel_lawful.one_meant;
-      each = λ i j h g. (
-        (λ r. subst (λ (l : ℕ). Sends p k q a (Within p (before_it s)) i l) (sym ((meaning.one i j h).0 r)) weights.none),
-        (λ sends. (meaning.one i j h).1 (still s none i j sends)),
-      );
-    };
-    anywhere = closed_sends form Anywhere before.anywhere any_step e.anywhere anywhere;
+    inside = λ c i j h. subst (λ (xs : Vec Inner). LeadsInside p xs.items c i j ↔ ((d : Place) × Within p c d × May p k q a d × Goes p k d i j)) (sym inner) (inside_at c i j h);
+    anywhere = closed_sends (among_sixteen form) Anywhere before.anywhere any_step e.anywhere anywhere;
   }
     where
       low : (c : Place) (event : ℕ) (v : Var) → IsEventOn p k c event v → event < count
@@ -309,24 +327,21 @@ module _ (p : LinkedProgram) (k : ProtocolParts) (q : Asked) (a : Site) where
             },
           )
 
-      inside_step : (s : Statement) (u : Rel) → IsTold before.inside s u → IsStep form (Within p (before_it s)) u
-      inside_step s u told i j h = (
+      inside_at : (c : Place) (i j : ℕ) → i < 16 → LeadsInside p before.inner.items c i j ↔ ((d : Place) × Within p c d × May p k q a d × Goes p k d i j)
+      inside_at c i j h = (
         (λ r.
-            let x = (built.inside.each s u told i j h).0 r in
-            let m = x.1.1 in
-            (before_it m.0, m.2, be_may x.0 m.0 m.1, (x.0, m.1.0, m.1.1, x.2))),
+            let x = built.inner.each r.0 r.1 in
+            let m = (x.2.enters c).0 r.2 in
+            (before_it m.0, m.2, be_may x.0 m.0 m.1, (x.0, m.1.0, m.1.1, (x.2.does i j h).0 r.3))),
         (λ g.
             let goes = g.3 in
-            (built.inside.each s u told i j h).1 (goes.0, (low g.0 goes.0 goes.1 goes.2, (statement_at g.0, may_each g.0 i j form g.2 goes, g.1)), goes.3)),
+            let may = may_each g.0 i j form g.2 goes in
+            let x = built.inner.all goes.0 (statement_at g.0) (low g.0 goes.0 goes.1 goes.2) may in
+            (x.0, x.1, (x.2.enters c).1 (statement_at g.0, may, g.1), (x.2.does i j h).1 goes.3)),
       )
 
-      any_step : IsStep form Anywhere before.anywhere
+      any_step : IsStep (among_sixteen form) Anywhere before.anywhere
       any_step i j h = (
         (λ r. let x = (built.anywhere i j h).0 r in let m = x.1.1 in (before_it m.0, tt, be_may x.0 m.0 m.1, (x.0, m.1.0, m.1.1, x.2))),
         (λ g. let goes = g.3 in (built.anywhere i j h).1 (goes.0, (low g.0 goes.0 goes.1 goes.2, (statement_at g.0, may_each g.0 i j form g.2 goes)), goes.3)),
       )
-
-      still : (s : Statement) → (HasOne e.inside s → ⊥) → (i j : ℕ) → Sends p k q a (Within p (before_it s)) i j → j ≡ i
-      still s none i j weights.none = refl
-      still s none i j (weights.more {c} {j = from} way there may goes) =
-          absurd (none (closed.one s ((built.inside.one s).1 (goes.0, (low c goes.0 goes.1 goes.2, (statement_at c, may_each c from j form may goes, there))))))

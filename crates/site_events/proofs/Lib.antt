@@ -1,3 +1,4 @@
 pub mod Told
 pub mod Used
 pub mod Built
+pub mod Led

@@ -4,13 +4,11 @@ use Rattle.std.proofs.lemmas.Bool.{cases_eq}
 use Rattle.class_tree.specs.Paths.{IsLeast}
 use Rattle.jim_ast.proofs.Places.{slice_get-append_left, slice_get-below, slice_get-push, slice_get-pushed, slice_get-set_other, slice_get-set_same, slice_get-there}
 use Rattle.step_rules.proofs.Determined.{least_one}
-use Rattle.track_events.specs.Leading.{Leads}
-use Rattle.track_systems.specs.Values.{IsWeight}
 use Rattle.track_systems.proofs.Meaning.{meaning}
 use Rattle.weight_laws.specs.declared.rel.Rel.{Rel}
 use Rattle.weight_laws.specs.Rel.{Relates, rel_domain}
 use Rattle.site_events.specs.declared.statement.Statement.{Statement}
-use Rattle.site_events.specs.Tables.{AreClosed, AreRaised, HasOne, IsTold, Tabled}
+use Rattle.site_events.specs.Tables.{AreRaised, HasOne, IsTold, Tabled}
 
 -- a statement has one relation
 pub told_one : (t : Tabled) (s : Statement) (u w : Rel) → IsTold t s u → IsTold t s w → u ≡ w
@@ -251,15 +249,3 @@ module _ (statements : List Statement) (relations : List Rel) (as_many : length 
               let same : w.1.0 ≡ i = least_one (λ n. slice_get statements n ≡ Some x) w.1.0 i w.1.1 least in
               (w.0, (i, least, slice_get-set_other relations number i both ne ∙ subst (λ (n : ℕ). slice_get relations n ≡ Some w.0) same w.1.2))
         ]
-
-  -- each relation is closed
-  pub closed_all : (new : List Rel) → length new ≡ length relations
-      → ((i : ℕ) (w : Rel) → slice_get new i ≡ Some w → (u : Rel) × (slice_get relations i ≡ Some u) × IsWeight w (Leads (Relates u)))
-      → AreClosed (record { statements = statements; relations = relations }) (record { statements = statements; relations = new })
-  closed_all new long each = record {
-    one = λ s h.
-        let below = slice_get-below relations h.1.0 h.0 h.1.2 in
-        let w = slice_get-there new h.1.0 (omega (arith, below, long)) in
-        (w.0, (h.1.0, h.1.1, w.1));
-    each = λ s w told. let u = each told.0 w told.2 in (u.0, (told.0, told.1, u.1), u.2);
-  }

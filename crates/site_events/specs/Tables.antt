@@ -1,8 +1,6 @@
 -- Relations by statement.
 use Rattle.std.specs.Prelude.{◌≡◌, ◌<◌, ◌⊎◌, ◌↔◌, ℕ, List, Some, slice_get}
 use Rattle.class_tree.specs.Paths.{IsLeast}
-use Rattle.track_events.specs.Leading.{Leads}
-use Rattle.track_systems.specs.Values.{IsWeight}
 use Rattle.weight_laws.specs.declared.rel.Rel.{Rel}
 use Rattle.weight_laws.specs.Rel.{Relates, rel_domain}
 use Rattle.site_events.specs.declared.statement.Statement.{Statement}
@@ -29,8 +27,3 @@ pub record AreRaised (old : Tabled) (Which : Statement → Type 0) (v : Rel) (ne
   pub one : (s : Statement) → HasOne new s ↔ (HasOne old s ⊎ Which s)
   pub each : (s : Statement) (w : Rel) → IsTold new s w → (i j : ℕ) → i < 16
       → Relates w i j ↔ (((u : Rel) × IsTold old s u × Relates u i j) ⊎ (Which s × Relates v i j))
-
--- each relation leads wherever it did in any number of steps
-pub record AreClosed (old new : Tabled) : Type 0 where
-  pub one : (s : Statement) → HasOne old s → HasOne new s
-  pub each : (s : Statement) (w : Rel) → IsTold new s w → (u : Rel) × IsTold old s u × IsWeight w (Leads (Relates u))

@@ -1,39 +1,25 @@
 //! What all sites share.
-ghost use Rattle.std.specs.Prelude.{◌≡◌, ◌<◌, ◌↔◌, ℕ, IfOk, Some, length, slice_get};
+ghost use Rattle.std.specs.Prelude.{◌≡◌, ◌<◌, ◌↔◌, ℕ, IfOk, Some, eqb, length, map, slice_get};
 ghost use Rattle.jim_ast.specs.Lists.{Has};
-ghost use Rattle.demand_set.specs.Demands.{DemandParts};
+ghost use Rattle.lists.specs.Groups.{found_at};
 ghost use Rattle.link_rules.specs.Linked.{LinkedProgram};
-ghost use Rattle.link_sites.specs.declared.site.Site.{Site as ASite};
-ghost use Rattle.spds_rules.specs.Demand.{Asked};
-ghost use Rattle.track_rules.specs.Protocols.{ProtocolParts};
-ghost use Rattle.track_events.specs.Statements.{AreEventStatements, receiver_node};
-ghost use Rattle.track_events.specs.declared.statement.EventStatement.{EventStatement as AnEventStatement};
+ghost use Rattle.track_events.specs.Statements.{AreEventStatements};
 ghost use Rattle.site_events.specs.declared.statement.Statement.{Statement as AStatement};
-ghost use Rattle.site_events.specs.Events.{AreEventsIn, AreRelations, AreUses, IsKeyed, IsPosed, MayBe};
+ghost use Rattle.site_events.specs.Events.{AreAtPlaces, AreEventsIn, AreRelations, use_of};
 
 use super::statement::{Statement, statement_at};
-use demand_set::Demand;
 use jim_ast::NoMemory;
 use lists::{Groups, Keyed};
 use protocol_words::Protocol;
-use spds_rules::{Node, Var};
-use spds_solve::Solved;
 use std::alloc::{AllocError, Global};
 use track_events::{EventStatement, event_relation};
 use weight_laws::Rel;
 
-/// A statement that is an event, and the number of its receiver's node in the demand.
-#[derive(Clone, Copy, Debug, PartialEq, Eq)]
-pub struct Use {
-    pub statement: Statement,
-    pub receiver: u32,
-}
-
-/// The events of a protocol, by their numbers: what each does, and the statements that are it.
+/// The events of a protocol, by their numbers: what each does, and all statements that are events, each with the number of its event, in order.
 #[derive(Drop)]
 pub struct Events {
     relations: Vec<Rel>,
-    uses: Groups<u32, Use>,
+    uses: Vec<Keyed<u32, Statement>>,
 }
 
 // What each event does.
@@ -48,53 +34,41 @@ fn relations_of(alloc: Global, protocol: &Protocol) -> Result<Vec<Rel>, NoMemory
     Ok(relations)
 }
 
-// The node of the receiver.
-fn receiver_of(statement: EventStatement) -> Node
-    ensures { result ≡ receiver_node statement }
-{
-    Node {
-        place: statement.place,
-        var: Var::Local(statement.receiver),
-    }
-}
-
-// The statements by their events, with the numbers of their receivers' nodes.
+// The statements with their events.
 fn uses_of(
     alloc: Global,
     statements: &[EventStatement],
-    demand: &Demand,
-) -> Result<Vec<Keyed<u32, Use>>, NoMemory>
-    requires { (s : AnEventStatement) → Has statements.now s → Has demand.now.nodes (receiver_node s) }
-    ensures { IfOk result (λ uses. IsKeyed demand.now.nodes statements.now uses.items) }
+) -> Result<Vec<Keyed<u32, Statement>>, NoMemory>
+    ensures { IfOk result (λ uses. uses.items ≡ map use_of statements.now) }
 {
     let mut uses = Vec::with_capacity(alloc, statements.len())?;
     for statement in statements {
-        let receiver = demand.number_of(receiver_of(*statement)).unwrap();
         uses.push(Keyed {
             key: statement.event,
-            item: Use {
-                statement: statement_at(statement.place),
-                receiver,
-            },
+            item: statement_at(statement.place),
         })?;
     }
     Ok(uses)
 }
 
-/// The events of a protocol with the event statements of a program, whose receivers a demand has.
+// The one at the place in the list.
+fn use_at(uses: &[Keyed<u32, Statement>], place: u32) -> Option<Keyed<u32, Statement>>
+    ensures { result ≡ slice_get uses.now place }
+{
+    uses.get(place as usize).copied()
+}
+
+/// The events of a protocol with the event statements of a program.
 pub fn events_of(
     alloc: Global,
     protocol: &Protocol,
     statements: &[EventStatement],
-    demand: &Demand,
 ) -> Result<Events, NoMemory>
-    requires { (s : AnEventStatement) → Has statements.now s → Has demand.now.nodes (receiver_node s) }
-    ensures { IfOk result (λ e. (p : LinkedProgram) → AreEventStatements p protocol.now statements.now → AreEventsIn p protocol.now demand.now.nodes e) }
+    ensures { IfOk result (λ e. (p : LinkedProgram) → AreEventStatements p protocol.now statements.now → AreEventsIn p protocol.now statements.now e) }
 {
     protocol.tell_form();
     let relations = relations_of(alloc, protocol)?;
-    let keyed = uses_of(alloc, statements, demand)?;
-    let uses = Groups::of(alloc, &keyed)?;
+    let uses = uses_of(alloc, statements)?;
     Ok(Events { relations, uses })
 }
 
@@ -117,31 +91,29 @@ impl Events {
         self.relations[event as usize]
     }
 
-    /// The statements that may be the event on objects of the site.
-    pub(crate) fn may_be(
+    // The statements at these places of the list.
+    fn at_all(&self, alloc: Global, places: &[u32]) -> Result<Vec<Keyed<u32, Statement>>, NoMemory>
+        ensures { IfOk result (λ found. AreAtPlaces self.now.uses.items places.now found.items) }
+    {
+        let mut found = Vec::with_capacity(alloc, places.len())?;
+        for place in places {
+            if let Some(each) = use_at(&self.uses, *place) {
+                found.push(each)?;
+            }
+        }
+        Ok(found)
+    }
+
+    /// The statements at these places of the list, by their events.
+    pub(crate) fn by_event(
         &self,
         alloc: Global,
-        event: u32,
-        solved: &Solved,
-        site: u32,
-    ) -> Result<Vec<Statement>, NoMemory>
-        ensures { IfOk result (λ may. (p : LinkedProgram) (k : ProtocolParts) (q : Asked) (d : DemandParts) (a : ASite) → AreEventsIn p k d.nodes self.now
-            → IsPosed p q d a solved.now site → (s : AStatement) → Has may.items s ↔ MayBe p k q a event s) }
+        places: &[u32],
+    ) -> Result<Groups<u32, Statement>, NoMemory>
+        ensures { IfOk result (λ found. (event : ℕ) (s : AStatement) → Has (found_at eqb found event) s
+            ↔ ((i : ℕ) × Has places.now i × (slice_get self.now.uses.items i ≡ Some (record { key = event; item = s })))) }
     {
-        held(alloc, self.uses.at(event), solved, site)
+        let found = self.at_all(alloc, places)?;
+        Groups::of(alloc, &found)
     }
-}
-
-// The statements of the uses at which the site is answered.
-fn held(alloc: Global, uses: &[Use], solved: &Solved, site: u32) -> Result<Vec<Statement>, NoMemory>
-    ensures { IfOk result (λ may. (p : LinkedProgram) (k : ProtocolParts) (q : Asked) (d : DemandParts) (a : ASite) (event : ℕ) → AreUses p k d.nodes event uses.now
-        → IsPosed p q d a solved.now site → (s : AStatement) → Has may.items s ↔ MayBe p k q a event s) }
-{
-    let mut may = Vec::new(alloc);
-    for each in uses {
-        if solved.holds(site, each.receiver) {
-            may.push(each.statement)?;
-        }
-    }
-    Ok(may)
 }

@@ -1,21 +1,14 @@
 //! Relations by statement.
-ghost use Rattle.std.specs.Prelude.{◌≡◌, ◌<◌, ◌↔◌, ◌⊎◌, [], ℕ, IfNone, IfSome, OnOk, Some, length, slice_get};
+ghost use Rattle.std.specs.Prelude.{◌≡◌, IfNone, IfSome, OnOk};
 ghost use Rattle.jim_ast.specs.Lists.{Has};
-ghost use Rattle.link_rules.specs.WellLinked.{HasTarget};
-ghost use Rattle.track_events.specs.Leading.{Leads};
-ghost use Rattle.track_systems.specs.Values.{IsWeight};
-ghost use Rattle.weight_laws.specs.declared.rel.Rel.{Rel as ARel};
-ghost use Rattle.weight_laws.specs.Rel.{Relates};
 ghost use Rattle.site_events.specs.declared.statement.Statement.{Statement as AStatement};
-ghost use Rattle.site_events.specs.Tables.{AreClosed, AreRaised, HasOne, IsTold};
+ghost use Rattle.site_events.specs.Tables.{AreRaised, HasOne, IsTold};
 
 use super::statement::Statement;
 use jim_ast::NoMemory;
-use link_program::Linked;
 use lists::Numbered;
 use std::alloc::Global;
 use std::marker::Model;
-use track_events::closure;
 use weight_laws::{Rel, Weight};
 
 /// Statements, each once, and the relation of each.
@@ -86,52 +79,5 @@ impl Relations {
             self.raise(*statement, relation)?;
         }
         Ok(())
-    }
-
-    // Raises the relation of each call of a method.
-    fn raise_callers(&mut self, linked: &Linked, target: u32, relation: Rel) -> Result<(), NoMemory>
-        ensures { OnOk result (AreRaised self.old (λ s. HasTarget linked.now s.method s.index target) relation self.new) }
-    {
-        for caller in linked.callers(target) {
-            let call = Statement {
-                method: caller.method,
-                index: caller.index,
-            };
-            self.raise(call, relation)?;
-        }
-        Ok(())
-    }
-
-    /// Raises the relation of each call that has one of some targets.
-    pub(crate) fn raise_calls(
-        &mut self,
-        linked: &Linked,
-        targets: &[u32],
-        relation: Rel,
-    ) -> Result<(), NoMemory>
-        ensures { OnOk result (AreRaised self.old (λ s. (target : ℕ) × HasTarget linked.now s.method s.index target × Has targets.now target) relation self.new) }
-    {
-        for target in targets {
-            self.raise_callers(linked, *target, relation)?;
-        }
-        Ok(())
-    }
-
-    /// Each relation leads wherever it did in any number of steps. Takes no memory.
-    pub(crate) fn close(&mut self)
-        ensures { AreClosed self.old self.new }
-    {
-        close_all(&mut self.relations);
-    }
-}
-
-// Closes each relation.
-fn close_all(relations: &mut Vec<Rel>)
-    ensures long { length relations.new.items ≡ length relations.old.items }
-    ensures each { (i : ℕ) (w : ARel) → slice_get relations.new.items i ≡ Some w
-        → (u : ARel) × (slice_get relations.old.items i ≡ Some u) × IsWeight w (Leads (Relates u)) }
-{
-    for at in 0..relations.len() {
-        relations[at] = closure(relations[at]);
     }
 }

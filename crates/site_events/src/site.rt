@@ -1,10 +1,10 @@
 //! The events on the objects of one site.
-ghost use Rattle.std.specs.Prelude.{◌≡◌, ◌<◌, IfNone, IfOk, IfSome, OnOk, length, map};
-ghost use Rattle.demand_set.specs.Demands.{DemandParts};
+ghost use Rattle.std.specs.Prelude.{◌≡◌, ◌<◌, List, [], IfNone, IfOk, IfSome, OnOk, length, map};
 ghost use Rattle.jim_ast.specs.Lists.{Has};
 ghost use Rattle.link_rules.specs.Linked.{LinkedProgram};
 ghost use Rattle.link_sites.specs.declared.site.Site.{Site};
 ghost use Rattle.spds_rules.specs.Demand.{Asked};
+ghost use Rattle.track_events.specs.declared.statement.EventStatement.{EventStatement as AnEvent};
 ghost use Rattle.track_events.specs.Leading.{Leads};
 ghost use Rattle.track_rules.specs.Protocols.{ProtocolParts};
 ghost use Rattle.track_systems.specs.Events.{Goes};
@@ -12,17 +12,18 @@ ghost use Rattle.track_systems.specs.Values.{IsWeight};
 ghost use Rattle.track_systems.specs.Weights.{Anywhere, May, Sends, Within};
 ghost use Rattle.weight_laws.specs.Rel.{Relates, rel_domain};
 ghost use Rattle.site_events.specs.declared.statement.Statement.{Statement as AStatement};
-ghost use Rattle.site_events.specs.Events.{AreEventsIn, IsPosed};
+ghost use Rattle.site_events.specs.Events.{AreEventsIn, AreHeldAmong};
 ghost use Rattle.site_events.specs.Sites.{AreEventsOf, AreRisen};
-ghost use Rattle.site_events.specs.Tables.{AreClosed, HasOne};
+ghost use Rattle.site_events.specs.Tables.{HasOne};
 
 use super::events::Events;
+use super::inner::{Inner, inside_of};
+use super::places::targets_at;
 use super::relations::Relations;
 use super::statement::{Statement, statement_at};
 use jim_ast::NoMemory;
 use link_program::Linked;
 use link_sites::Place;
-use spds_solve::Solved;
 use std::alloc::Global;
 use track_events::{closure, loud_methods};
 use weight_laws::{Rel, Weight};
@@ -31,7 +32,8 @@ use weight_laws::{Rel, Weight};
 #[derive(Drop)]
 pub struct SiteEvents {
     own: Relations,
-    inside: Relations,
+    // Of each event that may come.
+    inner: Vec<Inner>,
     anywhere: Rel,
 }
 
@@ -49,15 +51,13 @@ impl SiteEvents {
         self.own.find(statement_at(place))
     }
 
-    /// What events in the methods that the call at the place may enter do, in any order and each any number of times. One look-up.
-    pub fn inside(&self, call: Place) -> Rel
-        ensures { (p : LinkedProgram) (k : ProtocolParts) (q : Asked) (a : Site) → AreEventsOf p k q a self.now
-            → IsWeight result (Sends p k q a (Within p call)) }
+    /// What events in the methods that the call at the place may enter do, in any order and each any number of times. The time goes by the events that may
+    /// come, and by the targets of the call. Takes no memory.
+    pub fn inside(&self, linked: &Linked, call: Place) -> Rel
+        ensures { (k : ProtocolParts) (q : Asked) (a : Site) → AreEventsOf linked.now k q a self.now
+            → IsWeight result (Sends linked.now k q a (Within linked.now call)) }
     {
-        match self.inside.find(statement_at(call)) {
-            Some(relation) => relation,
-            None => Rel::one(),
-        }
+        closure(inside_of(&self.inner, targets_at(linked, call)))
     }
 
     /// What events anywhere do, in any order and each any number of times.
@@ -84,12 +84,12 @@ impl SiteEvents {
     // No event may come.
     fn none(alloc: Global) -> Self
         ensures own { (s : AStatement) → HasOne result.own s → ⊥ }
-        ensures inside { (s : AStatement) → HasOne result.inside s → ⊥ }
+        ensures inner { result.inner.items ≡ [] }
         ensures anywhere { result.anywhere ≡ rel_domain.zero }
     {
         SiteEvents {
             own: Relations::new(alloc),
-            inside: Relations::new(alloc),
+            inner: Vec::new(alloc),
             anywhere: Rel::zero(),
         }
     }
@@ -111,7 +111,7 @@ impl SiteEvents {
         self.own.raise_all(statements, does)?;
         let methods = methods_of(alloc, statements)?;
         let loud = loud_methods(alloc, linked, &methods)?;
-        self.inside.raise_calls(linked, loud.keys(), does)?;
+        self.inner.push(Inner { does, loud })?;
         self.anywhere = self.anywhere.combine(does);
         Ok(())
     }
@@ -119,32 +119,30 @@ impl SiteEvents {
     // Events may come in any order and each any number of times.
     fn close(&mut self)
         ensures own { self.new.own ≡ self.old.own }
-        ensures inside { AreClosed self.old.inside self.new.inside }
+        ensures inner { self.new.inner ≡ self.old.inner }
         ensures anywhere { IsWeight self.new.anywhere (Leads (Relates self.old.anywhere)) }
     {
-        self.inside.close();
         self.anywhere = closure(self.anywhere);
     }
 }
 
-/// The events on the objects of the site with this number in the demand. The time is linear in the event statements, and in the calls of methods from
-/// which a run may come to those of the site.
+/// The events on the objects of a site, of which those statements may be events on them that stand at these places of the list of event statements. The time is
+/// linear in these, in the events of the protocol, and for each event that may come in the methods from which a run may come to it, and their callers.
 pub fn site_events(
     alloc: Global,
     linked: &Linked,
     events: &Events,
-    solved: &Solved,
-    site: u32,
+    places: &[u32],
 ) -> Result<SiteEvents, NoMemory>
-    requires { (k : ProtocolParts) × (q : Asked) × (d : DemandParts) × (a : Site) × AreEventsIn linked.now k d.nodes events.now
-        × IsPosed linked.now q d a solved.now site }
-    ensures { IfOk result (λ e. (k : ProtocolParts) (q : Asked) (d : DemandParts) (a : Site) → AreEventsIn linked.now k d.nodes events.now
-        → IsPosed linked.now q d a solved.now site → AreEventsOf linked.now k q a e) }
+    requires { (k : ProtocolParts) × (q : Asked) × (a : Site) × (statements : List AnEvent) × AreEventsIn linked.now k statements events.now
+        × AreHeldAmong linked.now q a statements places.now }
+    ensures { IfOk result (λ e. (k : ProtocolParts) (q : Asked) (a : Site) (statements : List AnEvent) → AreEventsIn linked.now k statements events.now
+        → AreHeldAmong linked.now q a statements places.now → AreEventsOf linked.now k q a e) }
 {
+    let statements = events.by_event(alloc, places)?;
     let mut found = SiteEvents::none(alloc);
     for event in 0..events.count()? {
-        let statements = events.may_be(alloc, event, solved, site)?;
-        found.add(alloc, linked, &statements, events.relation(event))?;
+        found.add(alloc, linked, statements.at(event), events.relation(event))?;
     }
     found.close();
     Ok(found)

@@ -21,12 +21,14 @@ use std::test::Fail;
 // A query of each program. A row has its target and what is found, behind ` | `:
 // - `meets`: all that meets: the object, what it is stored into, and the calls of the string, the innermost first;
 // - `shares`: another node, and the one site that it and the target may both hold under one call string, `-` if there is none;
+// - `lists`: the one site that the target may hold, by the index of sites by cells;
 // - `holds`: so many nodes are demanded, and the tables of all sites hold so many facts. No contract says how many.
 
 // Behind the last call of `main`. `x` came out of the first box, into which `o` was put. `p` was put into the second box.
 const OF_TWO_BOXES: &str = "2.8.l4 | meets 2.2.new 2.0.new 2.4,3.3; 2.3.new 2.1.new 2.5,3.3
 2.8.l4 | shares 2.4.l2 2.2.new
-2.8.l4 | shares 2.5.l3 -";
+2.8.l4 | shares 2.5.l3 -
+2.8.l4 | lists 2.2.new";
 
 // The first cell meets the third as well, since it is wherever the second is.
 const OF_THREE_CELLS: &str =
@@ -44,7 +46,8 @@ const OF_COPIES: &str = "0.4.l3 | holds 5 2";
 // of calls alone, and none of a common mark.
 const OF_CROWDED: &str = "2.8.l5 | meets 2.2.new 2.0.new 1.2,2.4,3.3; 2.3.new 2.1.new 1.2,2.5,3.3
 2.8.l5 | shares 2.5.l3 2.3.new
-2.8.l5 | shares 2.4.l2 -";
+2.8.l5 | shares 2.4.l2 -
+2.8.l5 | lists 2.3.new";
 
 // Whether the meet is this one.
 fn is_meeting(sites: &[Site], met: &Met, text: &str) -> bool {
@@ -129,6 +132,30 @@ fn shares(
     }
 }
 
+// Whether the target may hold objects of this site alone, as the list of its sites tells.
+fn lists(
+    alloc: Global,
+    found: &Demand,
+    solved: &Solved,
+    target: Node,
+    wanted: &str,
+) -> Result<bool, NoMemory> {
+    let Some(number) = found.number_of(target) else {
+        return Ok(false);
+    };
+    let holders = solved.holders(alloc)?;
+    let held = solved.holding(alloc, &holders, number)?;
+    let wanted = site(wanted);
+    let sites = found.sites();
+    Ok(
+        held.keys().len() == 1
+            && held
+                .keys()
+                .iter()
+                .all(|key| wanted.as_ref() == sites.get(*key as usize)),
+    )
+}
+
 // Whether so many nodes are demanded, and there are so many facts.
 fn holds(alloc: Global, found: &Demand, solved: &Solved, wanted: &str) -> Result<bool, NoMemory> {
     let told = format!(in alloc; "{} {}", found.nodes().len(), solved.size().facts)?;
@@ -145,6 +172,7 @@ fn is_found(
     match wanted.split_once(' ') {
         Some(("meets", wanted)) => Ok(are_these(found.sites(), solved, wanted)),
         Some(("shares", wanted)) => shares(alloc, found, solved, target, wanted),
+        Some(("lists", wanted)) => lists(alloc, found, solved, target, wanted),
         Some(("holds", wanted)) => holds(alloc, found, solved, wanted),
         _ => Ok(false),
     }

@@ -13,18 +13,18 @@ use Rattle.spds_solve.specs.Solved.{SolvedParts, SpellsCalls}
 use Rattle.spds_tables.specs.Systems.{Reaches}
 use Rattle.weight_laws.specs.declared.reach.Reach.{Reach}
 
--- it gives one word at two cells exactly where their nodes have a common string
-pub strings_shared : (p : LinkedProgram) (q : Asked) (d : DemandParts) (s : SolvedParts) (o : Site) (job : Job Reach) → SpellsCalls p q d s o job → (a b : ℕ) (n m : Node)
-    → slice_get d.nodes a ≡ Some n → slice_get d.nodes b ≡ Some m
-    → ((word : List ℕ) × Reaches job (number_in s.call_cells a) word × Reaches job (number_in s.call_cells b) word)
-    ↔ ((string : List Place) × Calls p q o n string × Calls p q o m string)
-strings_shared p q d s o job words a b n m at_a at_b = (
+-- two sites' systems give one word at two cells exactly where the sites have a common string at the nodes of these
+pub strings_shared : (p : LinkedProgram) (q : Asked) (d : DemandParts) (s : SolvedParts) (o x : Site) (job other : Job Reach) → SpellsCalls p q d s o job
+    → SpellsCalls p q d s x other → (a b : ℕ) (n m : Node) → slice_get d.nodes a ≡ Some n → slice_get d.nodes b ≡ Some m
+    → ((word : List ℕ) × Reaches job (number_in s.call_cells a) word × Reaches other (number_in s.call_cells b) word)
+    ↔ ((string : List Place) × Calls p q o n string × Calls p q x m string)
+strings_shared p q d s o x job other words others a b n m at_a at_b = (
   (λ h.
       let string = words.spelt a h.0 h.1 in
-      (string.0, (words.strings a n h.0 string.0 at_a string.1).0 h.1, (words.strings b m h.0 string.0 at_b string.1).0 h.2)),
+      (string.0, (words.strings a n h.0 string.0 at_a string.1).0 h.1, (others.strings b m h.0 string.0 at_b string.1).0 h.2)),
   (λ h.
       let word = words.marked n h.0 h.1 in
-      (word.0, (words.strings a n word.0 h.0 at_a word.1).1 h.1, (words.strings b m word.0 h.0 at_b word.1).1 h.2)),
+      (word.0, (words.strings a n word.0 h.0 at_a word.1).1 h.1, (others.strings b m word.0 h.0 at_b word.1).1 h.2)),
 )
 
 -- an answer is both there and reached

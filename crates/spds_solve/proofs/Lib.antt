@@ -13,3 +13,4 @@ pub mod Noting
 pub mod Looking
 pub mod Turns
 pub mod Arriving
+mod Holding

@@ -7,3 +7,5 @@ pub mod Heads
 pub mod Posts
 pub mod Known
 pub mod Looks
+pub mod Holders
+pub mod Holding

@@ -54,4 +54,11 @@ impl Arrivals {
     {
         self.keys.contains(&arrival)
     }
+
+    /// All of them.
+    pub fn as_slice(&self) -> &[Arrival]
+        ensures { result.now ≡ self.now }
+    {
+        self.keys.as_slice()
+    }
 }

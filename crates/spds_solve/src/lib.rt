@@ -5,6 +5,7 @@ mod arrivals;
 mod compose;
 mod ends;
 mod heads;
+mod holders;
 mod known;
 mod looks;
 mod met;
@@ -15,6 +16,7 @@ mod scan;
 mod solved;
 mod solver;
 
+pub use holders::Holders;
 pub use met::Met;
 pub use piece_join::{Gate, Open};
 pub use solved::Solved;

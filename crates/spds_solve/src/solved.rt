@@ -1,5 +1,5 @@
 //! What was solved, and what is read of it.
-ghost use Rattle.std.specs.Prelude.{◌≡◌, ◌↔◌, ℕ, List, Some, map, slice_get, IfOk, IsTrue};
+ghost use Rattle.std.specs.Prelude.{◌≡◌, ◌↔◌, ℕ, List, Some, map, slice_get, IfOk, IsTrue, OnOk};
 ghost use Rattle.demand_set.specs.Demands.{DemandParts};
 ghost use Rattle.link_rules.specs.Linked.{LinkedProgram};
 ghost use Rattle.link_sites.specs.declared.place.Place.{Place};
@@ -9,12 +9,16 @@ ghost use Rattle.spds_rules.specs.declared.store.StoreAt.{StoreAt};
 ghost use Rattle.spds_rules.specs.Answers.{IsAnswered};
 ghost use Rattle.spds_rules.specs.Demand.{Asked};
 ghost use Rattle.spds_rules.specs.Systems.{Calls, Meets};
+ghost use Rattle.spds_solve.specs.Holders.{AreHolders};
+ghost use Rattle.spds_solve.specs.Holding.{AreHolding, IsAskedAt};
 ghost use Rattle.spds_solve.specs.Solved.{AreMeets, AreOfBases, IsSolved};
 
 use super::arrivals::{Arrival, Arrivals};
+use super::holders::{Holders, by_cell};
 use super::met::Met;
 use super::mets::Mets;
 use auto_table::NoMemory;
+use lists::Numbered;
 use spds_tables::{Met as Numbers, Parts, SiteTables, Size, share};
 use std::alloc::Global;
 use std::marker::Model;
@@ -86,6 +90,40 @@ impl Solved {
         }
     }
 
+    /// The sites by the cells to which they come, for `holding`. Made once, it costs time and memory for each site and cell to which it comes.
+    pub fn holders(&self, alloc: Global) -> Result<Holders, NoMemory>
+        ensures { IfOk result (λ h. AreHolders self.now h) }
+    {
+        by_cell(alloc, self.arrivals.as_slice())
+    }
+
+    /// The sites of which the node may hold objects. The time goes by those that come to its cell by call strings.
+    pub fn holding(
+        &self,
+        alloc: Global,
+        holders: &Holders,
+        node: u32,
+    ) -> Result<Numbered<u32>, NoMemory>
+        requires { AreHolders self.now holders.now }
+        ensures { IfOk result (λ found. AreHolding self.now node found.keys) }
+    {
+        let mut found = Numbered::new(alloc);
+        for site in holders.sites.at(self.parts.call_cell(node)) {
+            self.put_holding(*site, node, &mut found)?;
+        }
+        Ok(found)
+    }
+
+    // Puts the site in, if the node may hold an object of it.
+    fn put_holding(&self, site: u32, node: u32, found: &mut Numbered<u32>) -> Result<(), NoMemory>
+        ensures { OnOk result (IsAskedAt self.now node site found.old.keys found.new.keys) }
+    {
+        if self.holds(site, node) {
+            found.add(site)?;
+        }
+        Ok(())
+    }
+
     /// Whether an object of the one site may be stored into one of the other by the store. Takes no memory.
     pub fn meet(&self, object: u32, base: u32, store: u32) -> bool
         ensures { (p : LinkedProgram) (q : Asked) (d : DemandParts) (o b : Site) (s : StoreAt) → IsSolved p q d self.now
@@ -110,19 +148,36 @@ impl Solved {
         self.size
     }
 
+    /// Whether an object of the one site may be at the first node, and one of the other at the second, under one call string.
+    pub fn one_string(
+        &self,
+        alloc: Global,
+        object: u32,
+        a: u32,
+        base: u32,
+        b: u32,
+    ) -> Result<bool, NoMemory>
+        ensures { IfOk result (λ yes. (p : LinkedProgram) (q : Asked) (d : DemandParts) (o x : Site) (n m : Node) → IsSolved p q d self.now
+            → slice_get d.sites object ≡ Some o → slice_get d.sites base ≡ Some x → slice_get d.nodes a ≡ Some n → slice_get d.nodes b ≡ Some m
+            → IsTrue yes ↔ ((string : List Place) × Calls p q o n string × Calls p q x m string)) }
+    {
+        let Some(first) = self.tables.get(object as usize) else {
+            return Ok(false);
+        };
+        let Some(second) = self.tables.get(base as usize) else {
+            return Ok(false);
+        };
+        let (a, b) = (self.parts.call_cell(a), self.parts.call_cell(b));
+        let shared = share(alloc, &self.parts.bases, first, a, second, b)?;
+        Ok(shared)
+    }
+
     /// Whether an object of the site may be at both nodes under one call string.
     pub fn together(&self, alloc: Global, site: u32, a: u32, b: u32) -> Result<bool, NoMemory>
         ensures { IfOk result (λ yes. (p : LinkedProgram) (q : Asked) (d : DemandParts) (o : Site) (n m : Node) → IsSolved p q d self.now
             → slice_get d.sites site ≡ Some o → slice_get d.nodes a ≡ Some n → slice_get d.nodes b ≡ Some m
             → IsTrue yes ↔ ((string : List Place) × Calls p q o n string × Calls p q o m string)) }
     {
-        match self.tables.get(site as usize) {
-            Some(tables) => {
-                let (a, b) = (self.parts.call_cell(a), self.parts.call_cell(b));
-                let shared = share(alloc, &self.parts.bases, tables, a, tables, b)?;
-                Ok(shared)
-            }
-            None => Ok(false),
-        }
+        self.one_string(alloc, site, a, site, b)
     }
 }

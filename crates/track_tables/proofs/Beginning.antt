@@ -3,6 +3,7 @@ use Rattle.std.proofs.Common.{◌≡◌, ◌↔◌, ◌⊎◌, ℕ, ◌+◌, ◌
 use Rattle.call_side.specs.Bases.{AreLed, IsLast}
 use Rattle.call_side.specs.Trails.{AreKept}
 use Rattle.demand_set.specs.Demands.{DemandParts}
+use Rattle.held_places.specs.Held.{AreHeldAt}
 use Rattle.jim_ast.specs.Lists.{Has}
 use Rattle.jim_ast.proofs.Places.{slice_get-below}
 use Rattle.link_indexes.proofs.Grown.{Has-push}
@@ -14,8 +15,8 @@ use Rattle.post_star.specs.Derivations.{Leads}
 use Rattle.spds_rules.specs.declared.node.Node.{Node}
 use Rattle.spds_rules.specs.Answers.{IsAnswered}
 use Rattle.spds_rules.specs.Demand.{Asked}
+use Rattle.site_events.specs.Events.{AreAtPlaces}
 use Rattle.spds_rules.specs.Nodes.{IsNode}
-use Rattle.spds_solve.specs.Solved.{IsSolved, SolvedParts}
 use Rattle.call_work.proofs.Lists.{Has-take_more}
 use Rattle.track_tables.specs.declared.growth.Growth.{Growth}
 use Rattle.track_tables.specs.Making.{AreAnswering, HasBegun}
@@ -135,50 +136,20 @@ module _ (p : LinkedProgram) (nodes : List Node) (weight : Rel) where
     ];
   }
 
-module _ (solved : SolvedParts) (site : ℕ) where
-  -- one more node was asked for
-  abbrev pub IsAsked : ℕ → List ℕ → List ℕ → Type 0
-  IsAsked number old new = (p : LinkedProgram) (q : Asked) (d : DemandParts) (a : Site) → IsSolved p q d solved → slice_get d.sites site ≡ Some a
-      → (x : ℕ) (n : Node) → slice_get d.nodes x ≡ Some n → Has new x ↔ (Has old x ⊎ ((x ≡ number) × IsAnswered p q n a))
-
-  pub answering_none : (numbers : List ℕ) → AreAnswering solved site (take 0 numbers) []
-  answering_none numbers p q d a is_solved site_is x n there = ((λ has. cc has.1), (λ h. cc h.0.1))
-
-  pub answering_more : (numbers : List ℕ) (index : ℕ) → index < length numbers → (old new : List ℕ) → AreAnswering solved site (take index numbers) old
-      → IsAsked (get_or numbers index 0) old new → AreAnswering solved site (take (index + 1) numbers) new
-  answering_more numbers index below old new was now p q d a is_solved site_is x n there =
-      let before = was p q d a is_solved site_is x n there in
-      let here = now p q d a is_solved site_is x n there in
-      let more = Has-take_more numbers index 0 x below in (
-        (λ has. elim (here.0 has) [
-          | inl earlier ↦ let h = before.0 earlier in (more.1 (inl h.0), h.1)
-          | inr last ↦ (more.1 (inr last.0), last.1)
-        ]),
-        (λ h. elim (more.0 h.0) [
-          | inl earlier ↦ here.1 (inl (before.1 (earlier, h.1)))
-          | inr last ↦ here.1 (inr (last, h.1))
-        ]),
-      )
-
-  -- it is answered, or it isn't
-  pub asked_yes : (number : ℕ) (old new : List ℕ) → new ≡ old ++ number ∷ []
-      → ((p : LinkedProgram) (q : Asked) (d : DemandParts) (a : Site) (n : Node) → IsSolved p q d solved → slice_get d.sites site ≡ Some a
-      → slice_get d.nodes number ≡ Some n → IsAnswered p q n a) → IsAsked number old new
-  asked_yes number old new grown answers p q d a is_solved site_is x n there = (
-    (λ has. elim ((Has-push old number x).0 (subst (λ (xs : List ℕ). Has xs x) grown has)) [
-      | inl was ↦ inl was
-      | inr same ↦ inr (same, answers p q d a n is_solved site_is (subst (λ (y : ℕ). slice_get d.nodes y ≡ Some n) same there))
-    ]),
-    (λ h. subst (λ (xs : List ℕ). Has xs x) (sym grown) ((Has-push old number x).1 (elim h [ inl was ↦ inl was | inr last ↦ inr last.0 ]))),
-  )
-
-  pub asked_no : (number : ℕ) (old : List ℕ)
-      → ((p : LinkedProgram) (q : Asked) (d : DemandParts) (a : Site) (n : Node) → IsSolved p q d solved → slice_get d.sites site ≡ Some a
-      → slice_get d.nodes number ≡ Some n → IsAnswered p q n a → ⊥) → IsAsked number old old
-  asked_no number old never p q d a is_solved site_is x n there = (
-    (λ has. inl has),
-    (λ h. elim h [
-      | inl was ↦ was
-      | inr last ↦ absurd (never p q d a n is_solved site_is (subst (λ (y : ℕ). slice_get d.nodes y ≡ Some n) last.0 there) last.1)
-    ]),
-  )
+-- the nodes at the places where a site is held are those that may hold objects of it
+pub answering_held : (p : LinkedProgram) (q : Asked) (d : DemandParts) (a : Site) (numbers places found : List ℕ) → AreHeldAt p q d a numbers places
+    → AreAtPlaces numbers places found → AreAnswering p q d.nodes a numbers found
+answering_held p q d a numbers places found held at number n there = (
+  (λ has.
+      let i = (at number).0 has in
+      let is = (held.each i.0).0 i.1 in
+      let here = is.here in
+      let read = i.2 in
+      let same : is.number ≡ number = cc in
+      let node = subst (λ (x : ℕ). slice_get d.nodes x ≡ Some is.node) same is.there in
+      let one : is.node ≡ n = cc in
+      ((i.0, i.2), subst (λ (m : Node). IsAnswered p q m a) one is.answered)),
+  (λ h.
+      let i = h.0 in
+      (at number).1 (i.0, (held.each i.0).1 (record { number = number; here = i.1; node = n; there = there; answered = h.1 }), i.1)),
+)

@@ -26,7 +26,6 @@ use Rattle.spds_rules.specs.declared.node.Node.{Node}
 use Rattle.spds_rules.specs.Answers.{IsAnswered}
 use Rattle.spds_rules.specs.Nodes.{site_of}
 use Rattle.spds_rules.specs.Demand.{AreAll, Asked, Demanded, EdgeIn, StartIn}
-use Rattle.spds_solve.specs.Solved.{IsSolved, SolvedParts}
 use Rattle.track_rules.specs.Protocols.{ProtocolParts}
 use Rattle.track_systems.specs.Track.{IsLoaded, IsMade}
 use Rattle.track_systems.specs.Values.{IsWeight}
@@ -120,9 +119,9 @@ made_or (site.Text number) = inr (λ h. h)
 made_or (site.Class number) = inr (λ h. h)
 
 module _ (p : LinkedProgram) (k : ProtocolParts) (q : Asked) (a : Site) (d : DemandParts) (demand : IsDemandOf p q d) (parts : TrackParts) (of : AreTrackParts p d parts) where
-  module _ (solved : SolvedParts) (is_solved : IsSolved p q d solved) (at : ℕ) (site_is : slice_get d.sites at ≡ Some a) (first anywhere : Rel)
+  module _ (first anywhere : Rel)
       (first_is : IsFirstWeight p k q a first) (anywhere_is : IsWeight anywhere (Sends p k q a Anywhere)) (numbers found : List ℕ)
-      (are_starts : AreAll (StartsAt d.nodes a) numbers) (answering : AreAnswering solved at parts.loaded.keys found) (zero one two : Growth)
+      (are_starts : AreAll (StartsAt d.nodes a) numbers) (answering : AreAnswering p q d.nodes a parts.loaded.keys found) (zero one two : Growth)
       (no_starts : zero.work.starts ≡ []) (begun : HasBegun p d.nodes numbers first zero one) (more : HasBegun p d.nodes found anywhere one two) where
     started : (node : Node) (i : ℕ) → i < 16 → StartIn p q a node → Relates first 0 i → Begins p k q a node i
     started node i low start h = elim (made_or a) [
@@ -152,7 +151,7 @@ module _ (p : LinkedProgram) (k : ProtocolParts) (q : Asked) (a : Site) (d : Dem
       | inr load ↦
           let is = load.2.start_is in
           let there = load.2.there in
-          let known = (answering p q d a is_solved site_is load.0 load.2.node there).0 load.1 in
+          let known = (answering load.0 load.2.node there).0 load.1 in
           let came = (of.loaded load.0).0 known.0 in
           let source = source_at p q d demand of.edges of.numbered came.0 came.1 in
           let to_is : slice_get d.nodes came.0.to ≡ Some load.2.node = subst (λ (x : ℕ). slice_get d.nodes x ≡ Some load.2.node) (sym came.3) there in
@@ -180,7 +179,7 @@ module _ (p : LinkedProgram) (k : ProtocolParts) (q : Asked) (a : Site) (d : Dem
         let from = demand.nodes.all b (Demanded.source known.0 known.1) in
         let has = at_edge p q d demand of.edges of.numbered b node kind from.0 number known from.1 there in
         let load = (of.loaded number).1 (record { from = from.0; to = number; kind = kind }, has, is_loaded, refl) in
-        let among = (answering p q d a is_solved site_is number node there).1 (load, answered) in (
+        let among = (answering number node there).1 (load, answered) in (
           anywhere,
           (more.starts s).1 (inr (number, among, record { node = node; there = there; is_node = known.0.to; start_is = refl })),
           (anywhere_is.each 0 i (omega arith) low).1 sends,

@@ -9,7 +9,9 @@ use Rattle.call_side.specs.Trails.{AreKept}
 use Rattle.demand_set.specs.Demands.{DemandParts}
 use Rattle.demand_walk.specs.declared.numbered.EdgeAt.{EdgeAt}
 use Rattle.demand_walk.specs.Numbers.{AreEdgesAt}
+use Rattle.held_places.specs.Held.{AreHeldIn}
 use Rattle.jim_ast.specs.Lists.{Has}
+use Rattle.lists.specs.Groups.{Grouped}
 use Rattle.link_rules.specs.Linked.{LinkedProgram}
 use Rattle.link_sites.specs.declared.place.Place.{Place}
 use Rattle.link_sites.specs.declared.site.Site.{Site}
@@ -25,7 +27,6 @@ use Rattle.spds_rules.specs.declared.node.Node.{Node}
 use Rattle.spds_rules.specs.Answers.{IsAnswered}
 use Rattle.spds_rules.specs.Demand.{Asked}
 use Rattle.spds_rules.specs.Nodes.{IsNode}
-use Rattle.spds_solve.specs.Solved.{IsSolved, SolvedParts}
 use Rattle.call_work.specs.Gathered.{AreGathered}
 use Rattle.track_rules.specs.Protocols.{ProtocolParts}
 use Rattle.track_systems.specs.Track.{IsLoaded}
@@ -118,10 +119,9 @@ pub record HasBegun (p : LinkedProgram) (nodes : List Node) (numbers : List ℕ)
   pub reached : AreKept old.reached.keys new.reached.keys
   pub within : (s : Start Rel) → Has new.work.starts s → Has old.work.starts s ⊎ Has new.reached.keys s.node
 
--- those of the nodes with these numbers that may hold an object of the site with the number
-abbrev pub AreAnswering : SolvedParts → ℕ → List ℕ → List ℕ → Type 0
-AreAnswering solved site numbers found = (p : LinkedProgram) (q : Asked) (d : DemandParts) (a : Site) → IsSolved p q d solved → slice_get d.sites site ≡ Some a
-    → (number : ℕ) (n : Node) → slice_get d.nodes number ≡ Some n → Has found number ↔ (Has numbers number × IsAnswered p q n a)
+-- those of the nodes with these numbers that may hold an object of the site
+abbrev pub AreAnswering : LinkedProgram → Asked → List Node → Site → List ℕ → List ℕ → Type 0
+AreAnswering p q nodes a numbers found = (number : ℕ) (n : Node) → slice_get nodes number ≡ Some n → Has found number ↔ (Has numbers number × IsAnswered p q n a)
 
 -- an edge of this kind doesn't come back from a call
 abbrev pub IsOnward : EdgeKind → Type 0
@@ -164,3 +164,7 @@ pub record AreTrackParts (p : LinkedProgram) (d : DemandParts) (parts : TrackPar
   pub last : IsLast p parts.strings.value.last
   pub led : AreLed p parts.strings.value.steps
   pub steps : IsFiledBy base_key parts.strings.value.steps parts.steps
+
+-- for each site, the places in the list of loaded nodes at which there may be objects of it
+abbrev pub AreLoadedIn : LinkedProgram → Asked → DemandParts → TrackParts → Grouped ℕ ℕ → Type 0
+AreLoadedIn p q d parts loaded = AreHeldIn p q d parts.loaded.keys loaded

@@ -5,16 +5,17 @@ use super::parts::TrackParts;
 use demand_set::Demand;
 use link_program::Linked;
 use link_sites::Site;
+use lists::Groups;
 use spds_rules::Node;
-use spds_solve::Solved;
 
-/// A program, what is demanded of it, what was solved, and what the systems of all sites share.
+/// A program, what is demanded of it, what the systems of all sites share, and where objects of each site come out of the heap or of static fields.
 #[derive(Clone, Copy)]
 pub struct SolvedDemand<'a> {
     pub linked: &'a Linked,
     pub demand: &'a Demand,
-    pub solved: &'a Solved,
     pub parts: &'a TrackParts,
+    /// For each site the places in the list of loaded nodes at which there may be objects of it.
+    pub loaded: &'a Groups<u32, u32>,
 }
 
 /// The node with the number.

@@ -1,16 +1,10 @@
 //! Where the objects of a site begin.
-ghost use Rattle.std.specs.Prelude.{◌≡◌, ◌↔◌, ◌⊎◌, [], ◌∷◌, ℕ, Some, slice_get, IfOk, IsTrue, OnOk};
+ghost use Rattle.std.specs.Prelude.{◌≡◌, ◌↔◌, [], ◌∷◌, Some, slice_get, IfOk, IsTrue, OnOk};
 ghost use Rattle.call_side.specs.Bases.{AreLed, IsLast};
-ghost use Rattle.demand_set.specs.Demands.{DemandParts};
-ghost use Rattle.jim_ast.specs.Lists.{Has};
-ghost use Rattle.link_rules.specs.Linked.{LinkedProgram};
 ghost use Rattle.link_sites.specs.declared.site.Site.{Site as ASite};
-ghost use Rattle.spds_rules.specs.declared.node.Node.{Node as ANode};
-ghost use Rattle.spds_rules.specs.Answers.{IsAnswered};
-ghost use Rattle.spds_rules.specs.Demand.{Asked};
-ghost use Rattle.spds_solve.specs.Solved.{IsSolved};
+ghost use Rattle.site_events.specs.Events.{AreAtPlaces};
 ghost use Rattle.track_systems.specs.Track.{IsMade};
-ghost use Rattle.track_tables.specs.Making.{AreAnswering, HasBegun};
+ghost use Rattle.track_tables.specs.Making.{HasBegun};
 
 use super::given::{node_at, site_at};
 use super::growth::Growth;
@@ -20,7 +14,6 @@ use link_sites::Site;
 use post_star::Start;
 use spds_nodes::is_node;
 use spds_rules::Node;
-use spds_solve::Solved;
 use std::alloc::Global;
 use weight_laws::Rel;
 
@@ -87,34 +80,22 @@ pub fn begin_all(
     Ok(())
 }
 
-/// Puts the node in, if it may hold an object of the site.
-fn add_answering(
-    solved: &Solved,
-    site: u32,
-    number: u32,
-    found: &mut Vec<u32>,
-) -> Result<(), NoMemory>
-    ensures { OnOk result ((p : LinkedProgram) (q : Asked) (d : DemandParts) (a : ASite) → IsSolved p q d solved.now → slice_get d.sites site ≡ Some a
-        → (x : ℕ) (n : ANode) → slice_get d.nodes x ≡ Some n → Has found.new.items x ↔ (Has found.old.items x ⊎ ((x ≡ number) × IsAnswered p q n a))) }
+// The number at the place in the list.
+fn number_at(numbers: &[u32], place: u32) -> Option<u32>
+    ensures { result ≡ slice_get numbers.now place }
 {
-    if solved.holds(site, number) {
-        found.push(number)?;
-    }
-    Ok(())
+    numbers.get(place as usize).copied()
 }
 
-/// Those of the nodes that may hold an object of the site.
-pub fn answering(
-    alloc: Global,
-    solved: &Solved,
-    site: u32,
-    numbers: &[u32],
-) -> Result<Vec<u32>, NoMemory>
-    ensures { IfOk result (λ found. AreAnswering solved.now site numbers.now found.items) }
+/// The numbers at these places in the list.
+pub fn at_places(alloc: Global, numbers: &[u32], places: &[u32]) -> Result<Vec<u32>, NoMemory>
+    ensures { IfOk result (λ found. AreAtPlaces numbers.now places.now found.items) }
 {
-    let mut found = Vec::new(alloc);
-    for number in numbers {
-        add_answering(solved, site, *number, &mut found)?;
+    let mut found = Vec::with_capacity(alloc, places.len())?;
+    for place in places {
+        if let Some(number) = number_at(numbers, *place) {
+            found.push(number)?;
+        }
     }
     Ok(found)
 }

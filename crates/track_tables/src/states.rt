@@ -7,12 +7,11 @@ ghost use Rattle.link_sites.specs.declared.site.Site.{Site as ASite};
 ghost use Rattle.site_events.specs.Sites.{AreEventsOf};
 ghost use Rattle.spds_rules.specs.declared.node.Node.{Node};
 ghost use Rattle.spds_rules.specs.Demand.{Asked};
-ghost use Rattle.spds_solve.specs.Solved.{IsSolved};
 ghost use Rattle.track_rules.specs.Protocols.{ProtocolParts};
 ghost use Rattle.track_systems.specs.Laws.{IsAmongSixteen};
 ghost use Rattle.track_systems.specs.Track.{Tracks};
 ghost use Rattle.track_tables.specs.Begun.{IsBegun, IsFirstWeight};
-ghost use Rattle.track_tables.specs.Making.{AreTrackParts};
+ghost use Rattle.track_tables.specs.Making.{AreLoadedIn, AreTrackParts};
 ghost use Rattle.track_tables.specs.Systems.{IsTrackSystem};
 ghost use Rattle.weight_laws.specs.Rel.{Relates};
 
@@ -21,7 +20,7 @@ use super::growth::Growth;
 use super::opening::open_strings;
 use super::parts::TrackParts;
 use super::rules::spread;
-use super::starts::{answering, begin_all, is_made_at};
+use super::starts::{at_places, begin_all, is_made_at};
 use auto_table::NoMemory;
 use link_sites::Site;
 use lists::Numbered;
@@ -65,14 +64,14 @@ fn begun(
     requires site { site < length given.now.demand.now.sites }
     requires parts { AreTrackParts given.now.linked.now given.now.demand.now given.now.parts.now }
     ensures { IfOk result (λ growth. (k : ProtocolParts) (q : Asked) (a : ASite) → IsDemandOf given.now.linked.now q given.now.demand.now
-        → IsSolved given.now.linked.now q given.now.demand.now given.now.solved.now → slice_get given.now.demand.now.sites site ≡ Some a → AreEventsOf given.now.linked.now k q a events.now
+        → AreLoadedIn given.now.linked.now q given.now.demand.now given.now.parts.now given.now.loaded.now → slice_get given.now.demand.now.sites site ≡ Some a → AreEventsOf given.now.linked.now k q a events.now
         → IsBegun given.now.linked.now k q a given.now.demand.now given.now.parts.now growth) }
 {
     let (linked, nodes) = (given.linked, given.demand.nodes());
     let mut growth = blank(alloc, given.parts)?;
     let first = first_weight(events, given.demand.sites(), site);
     begin_all(linked, nodes, given.demand.starts(site), first, &mut growth)?;
-    let loaded = answering(alloc, given.solved, site, given.parts.loaded())?;
+    let loaded = at_places(alloc, given.parts.loaded(), given.loaded.at(site))?;
     begin_all(linked, nodes, &loaded, events.anywhere(), &mut growth)?;
     open_strings(alloc, given, &mut growth)?;
     Ok(growth)
@@ -107,7 +106,7 @@ impl SiteStates {
         requires site { site < length given.now.demand.now.sites }
         requires parts { AreTrackParts given.now.linked.now given.now.demand.now given.now.parts.now }
         ensures { IfOk result (λ states. (k : ProtocolParts) (q : Asked) (a : ASite) → IsDemandOf given.now.linked.now q given.now.demand.now
-            → IsSolved given.now.linked.now q given.now.demand.now given.now.solved.now → slice_get given.now.demand.now.sites site ≡ Some a
+            → AreLoadedIn given.now.linked.now q given.now.demand.now given.now.parts.now given.now.loaded.now → slice_get given.now.demand.now.sites site ≡ Some a
             → AreEventsOf given.now.linked.now k q a events.now → IsTrackSystem given.now.linked.now k q a given.now.demand.now states) }
     {
         let mut growth = begun(alloc, given, events, site)?;

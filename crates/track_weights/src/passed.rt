@@ -7,11 +7,11 @@ ghost use Rattle.track_systems.specs.Settled.{CallAt};
 ghost use Rattle.track_weights.specs.Passed.{IsPassing, IsPassingAt, IsPassedLocal, joined, var_of};
 
 use super::identities::Position;
-use super::places::code_at;
 use super::settled::are_settled;
 use link_program::Linked;
 use link_rules::{Arg, Code};
 use link_sites::Place;
+use site_events::code_at;
 use spds_rules::Var;
 
 /// What a call does with a variable.

@@ -1,7 +1,5 @@
 //! Statements by their places.
-ghost use Rattle.std.specs.Prelude.{◌≡◌, ◌↔◌, IfNone, IfSome, IsTrue, Some};
-ghost use Rattle.link_rules.specs.declared.code.Code.{Code as Statement};
-ghost use Rattle.link_sites.specs.Places.{CodeAt};
+ghost use Rattle.std.specs.Prelude.{◌≡◌, ◌↔◌, IsTrue, Some};
 ghost use Rattle.spds_rules.specs.declared.node.Var.{Var as Variable};
 ghost use Rattle.track_systems.specs.Events.{IsReceiver};
 ghost use Rattle.track_systems.specs.Weights.{InFlight};
@@ -10,18 +8,8 @@ ghost use Rattle.track_weights.specs.Passed.{HasOtherReceiver};
 use link_program::Linked;
 use link_rules::Code;
 use link_sites::Place;
+use site_events::code_at;
 use spds_rules::{Node, Var};
-
-/// The statement behind a place, or at one with an exception in flight, where there is one.
-pub(crate) fn code_at(linked: &Linked, place: Place) -> Option<&Code>
-    ensures some { IfSome result (λ code. CodeAt linked.now place.method place.index code.now) }
-    ensures none { IfNone result ((code : Statement) → CodeAt linked.now place.method place.index code → ⊥) }
-{
-    if place.method < linked.methods() {
-        return linked.code(place.method).get(place.index as usize);
-    }
-    None
-}
 
 // The local on which the statement calls, if it is a call with a receiver.
 fn receiver_at(linked: &Linked, place: Place) -> Option<Var>

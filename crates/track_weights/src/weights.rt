@@ -36,13 +36,12 @@ fn across(linked: &Linked, events: &SiteEvents, node: Node) -> Rel
     ensures { (k : ProtocolParts) (q : Asked) (a : Site) → AreEventsOf linked.now k q a events.now → IsWeight result (Across linked.now k q a node.place node.var) }
 {
     let own = own_weight(linked, events, node.place, node.var);
-    let inside = events.inside(node.place);
+    let inside = events.inside(linked, node.place);
     own.extend(inside)
 }
 
 /// How the states of the site's objects change along the flow from one node to another. Where nothing goes along it, as over a call that passes a local
-/// whose formals are all settled, this is the empty relation. Asks the events a constant number of times, and goes over the call's targets where it
-/// passes the variable. Takes no memory.
+/// whose formals are all settled, this is the empty relation. Asks the events a constant number of times, and goes over the call's targets. Takes no memory.
 pub fn flow_weight(linked: &Linked, events: &SiteEvents, from: Node, to: Node) -> Rel
     ensures { (k : ProtocolParts) (q : Asked) (a : Site) → AreEventsOf linked.now k q a events.now → IsWeight result (Changes linked.now k q a from to) }
 {

@@ -1,7 +1,10 @@
 -- What is asked under a protocol: nodes of the program, and one query.
 use Rattle.std.proofs.Common.{◌≡◌, ℕ, ◌<◌, List, Some, None, false, Bool, length, refl, sym, subst, ◌∙◌, inl, inr, arith}
 use Rattle.demand_set.specs.Demands.{DemandParts, IsDemandOf}
+use Rattle.demand_walk.specs.Numbers.{IsEdgeAt}
+use Rattle.held_places.specs.Held.{AreOfDemand}
 use Rattle.jim_ast.specs.Lists.{Has}
+use Rattle.jim_ast.proofs.Places.{slice_get-below}
 use Rattle.link_program.proofs.Found.{at_map}
 use Rattle.link_rules.specs.declared.code.Code.{Code}
 use Rattle.link_rules.specs.declared.code.Code.TheVariants as code
@@ -9,6 +12,7 @@ use Rattle.link_rules.specs.Linked.{LinkedMethod, LinkedProgram}
 use Rattle.link_rules.specs.WellLinked.{FitsCode, IsInForm}
 use Rattle.link_sites.specs.declared.place.Place.{Place}
 use Rattle.link_sites.specs.Places.{ComesBefore}
+use Rattle.link_laws.proofs.Lists.{each_right}
 use Rattle.query_core.proofs.Ordered.{ordered_one}
 use Rattle.spds_nodes.proofs.Named.{FitsCode-at}
 use Rattle.spds_rules.specs.declared.node.Node.{Node}
@@ -21,6 +25,8 @@ use Rattle.track_events.specs.declared.statement.EventStatement.{EventStatement}
 use Rattle.track_events.specs.Statements.{AreEventStatements, IsQuery, receiver_node}
 use Rattle.track_rules.specs.Protocols.{ProtocolParts}
 use Rattle.track_systems.specs.Events.{IsEventNode, receiver_of}
+use Rattle.track_tables.specs.declared.parts.TrackParts.{TrackParts}
+use Rattle.track_tables.specs.Making.{AreTrackParts}
 use Rattle.type_track.specs.Receivers.{asked_for}
 
 -- the local on which a statement calls is one of the method
@@ -77,3 +83,10 @@ pub query_for : (p : LinkedProgram) (k : ProtocolParts) (all statements : List E
     → IsQuery p k (record { targets = targets; reach = Tracked })
 query_for p k all statements nodes targets are same asked is =
     subst (λ (ns : List Node). IsQuery p k (record { targets = ns; reach = Tracked })) (sym is) (asked (subst (AreEventStatements p k) (sym same) are))
+
+-- what is loaded is among the nodes of the demand
+pub loaded_demanded : (p : LinkedProgram) (q : Asked) (d : DemandParts) → IsDemandOf p q d → (parts : TrackParts) → AreTrackParts p d parts → AreOfDemand d parts.loaded.keys
+loaded_demanded p q d demand parts of number has =
+    let edge = (of.loaded number).0 has in
+    let x = each_right (IsEdgeAt d.nodes) d.edges of.edges edge.1.0 edge.0 of.numbered edge.1.1 in
+    subst (λ (n : ℕ). n < length d.nodes) edge.3 (slice_get-below d.nodes edge.0.to x.0.to x.2.to_is)

@@ -144,12 +144,12 @@ module _ (p : LinkedProgram) (k : ProtocolParts) where
                   event = h.event;
                 }
 
-      -- where the receiver may hold no object of the site there is none
-      pub none_at : (IsAnswered p q (receiver_node s) a → ⊥) → (f : Finding) → IsFindingAt p k q a s f → ⊥
-      none_at none f h =
+      -- the receiver may hold an object of the site
+      pub answered_at : (f : Finding) → IsFindingAt p k q a s f → IsAnswered p q (receiver_node s) a
+      answered_at f h =
           let is = moved f.site a f.place s.place f.event s.event f.state h.site h.place h.event h.is_one in
           let same : is.receiver ≡ Local s.receiver = receiver_one s.place is.receiver (Local s.receiver) is.is_event.receiver is_event.receiver in
-          none (subst (λ (v : Var). IsAnswered p q (at s.place v) a) same is.answered)
+          subst (λ (v : Var). IsAnswered p q (at s.place v) a) same is.answered
 
     -- each finding of a site is at some event statement
     pub found_at : (statements : List EventStatement) → AreEventStatements p k statements → (a : Site) (f : Finding) → IsOneFinding p k q f → f.site ≡ a

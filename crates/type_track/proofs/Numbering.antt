@@ -1,11 +1,15 @@
 -- Event statements with the numbers of their receivers.
-use Rattle.std.proofs.Common.{false, List, [], ◌∷◌, ◌++◌, inl, inr, refl, sym, ap, ◌∙◌, subst}
+use Rattle.std.proofs.Common.{◌≡◌, ◌<◌, ℕ, false, List, [], ◌∷◌, ◌++◌, Some, length, slice_get, inl, inr, refl, sym, ap, ◌∙◌, subst}
 use Rattle.std.proofs.lemmas.List.{map-append}
+use Rattle.jim_ast.specs.Lists.{Has}
+use Rattle.jim_ast.proofs.Places.{slice_get-below}
 use Rattle.link_indexes.proofs.Grown.{Has-push}
+use Rattle.link_program.proofs.Found.{from_map}
 use Rattle.spds_rules.specs.declared.node.Node.{Node}
 use Rattle.track_events.specs.declared.statement.EventStatement.{EventStatement}
+use Rattle.track_events.specs.Statements.{receiver_node}
 use Rattle.type_track.specs.declared.receivers.Receiver.{Receiver}
-use Rattle.type_track.specs.Receivers.{AreReceivers, IsNumbered}
+use Rattle.type_track.specs.Receivers.{AreReceivers, IsNumbered, numbers_of}
 
 module _ (nodes : List Node) where
   pub receivers_none : AreReceivers nodes [] []
@@ -18,6 +22,13 @@ module _ (nodes : List Node) where
     in_order = map-append (λ (x : Receiver). x.statement) receivers (r ∷ []) ∙ ap (λ (ss : List EventStatement). ss ++ r.statement ∷ []) are.in_order;
     numbered = λ x has. elim ((Has-push receivers r x).0 has) [ inl was ↦ are.numbered x was | inr e ↦ subst (IsNumbered nodes) (sym e) is ];
   }
+
+  -- their numbers are those of nodes
+  pub receivers_below : (statements : List EventStatement) (receivers : List Receiver) → AreReceivers nodes statements receivers → (number : ℕ) → Has (numbers_of receivers) number
+      → number < length nodes
+  receivers_below statements receivers are number has =
+      let r = from_map (λ (x : Receiver). x.node) receivers has.0 number has.1 in
+      slice_get-below nodes number (receiver_node r.0.statement) (subst (λ (n : ℕ). slice_get nodes n ≡ Some (receiver_node r.0.statement)) r.2 (are.numbered r.0 (has.0, r.1)))
 
 -- what is read where no receiver is
 abbrev pub no_receiver : Receiver

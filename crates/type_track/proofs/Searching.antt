@@ -17,9 +17,10 @@ use Rattle.link_sites.specs.Sites.{Precedes}
 use Rattle.query_core.proofs.OneWay.{sites_one_way}
 use Rattle.query_core.proofs.Ordered.{AllPairs-at}
 use Rattle.spds_laws.proofs.Found.{slice_get-taken}
+use Rattle.spds_rules.specs.Answers.{IsAnswered}
 use Rattle.spds_rules.specs.Demand.{Asked}
 use Rattle.track_events.specs.declared.statement.EventStatement.{EventStatement}
-use Rattle.track_events.specs.Statements.{AreEventStatements, StandsBefore}
+use Rattle.track_events.specs.Statements.{AreEventStatements, StandsBefore, receiver_node}
 use Rattle.track_rules.specs.Protocols.{ProtocolParts}
 use Rattle.track_systems.specs.Findings.{AreFindings, IsFound}
 use Rattle.track_verdicts.specs.declared.verdict.Finding.{Finding}
@@ -28,73 +29,81 @@ use Rattle.type_track.specs.declared.receivers.Receiver.{Receiver}
 use Rattle.type_track.specs.Growing.{GrowsBy}
 use Rattle.type_track.specs.Findings.{IsKeptBefore, IsOneFinding, IsFindingAt, IsFindingOf}
 use Rattle.type_track.proofs.Asking.{one_way}
-use Rattle.type_track.proofs.Findings.{found_at}
+use Rattle.type_track.proofs.Findings.{answered_at, found_at}
 use Rattle.type_track.proofs.Growing.{grows_more, grows_none, grows_same, grown_exactly}
 
--- the statement of a receiver
-abbrev of : Receiver → EventStatement
-of r = r.statement
-
 -- what stands earlier among receivers, its statement does
-earlier : (receivers : List Receiver) (statements : List EventStatement) → map of receivers ≡ statements → AllPairs StandsBefore statements
-    → (i : ℕ) (x : Receiver) → slice_get receivers i ≡ Some x → (r : Receiver) → Has (take i receivers) r → StandsBefore r.statement x.statement
-earlier receivers statements in_order ordered i x here r has =
-    let there = slice_get-taken i receivers has.0 r has.1 in
-    let first : slice_get statements has.0 ≡ Some r.statement = subst (λ (ss : List EventStatement). slice_get ss has.0 ≡ Some r.statement) in_order (at_map of receivers has.0 r there.1) in
-    let second : slice_get statements i ≡ Some x.statement = subst (λ (ss : List EventStatement). slice_get ss i ≡ Some x.statement) in_order (at_map of receivers i x here) in
-    AllPairs-at StandsBefore (λ a b. one_way a.place b.place) statements has.0 i r.statement x.statement ordered there.0 first second
+earlier : (receivers : List Receiver) (statements : List EventStatement) → map (λ r. r.statement) receivers ≡ statements → AllPairs StandsBefore statements
+    → (i j : ℕ) (r x : Receiver) → i < j → slice_get receivers i ≡ Some r → slice_get receivers j ≡ Some x → StandsBefore r.statement x.statement
+earlier receivers statements in_order ordered i j r x less there here =
+    let first : slice_get statements i ≡ Some r.statement = subst (λ (ss : List EventStatement). slice_get ss i ≡ Some r.statement) in_order (at_map (λ (y : Receiver). y.statement) receivers i r there) in
+    let second : slice_get statements j ≡ Some x.statement = subst (λ (ss : List EventStatement). slice_get ss j ≡ Some x.statement) in_order (at_map (λ (y : Receiver). y.statement) receivers j x here) in
+    AllPairs-at StandsBefore (λ a b. one_way a.place b.place) statements i j r.statement x.statement ordered less first second
 
-module _ (p : LinkedProgram) (k : ProtocolParts) (q : Asked) (a : Site) where
-  -- a finding of the site at one of these event statements
-  pub record IsFindingAmong (receivers : List Receiver) (f : Finding) : Type 0 where
+module _ (p : LinkedProgram) (k : ProtocolParts) (q : Asked) (a : Site) (receivers : List Receiver) where
+  -- a finding of the site at one of the event statements at these places
+  pub record IsFindingAmong (places : List ℕ) (f : Finding) : Type 0 where
+    pub place : ℕ
+    pub has : Has places place
     pub receiver : Receiver
-    pub has : Has receivers receiver
+    pub there : slice_get receivers place ≡ Some receiver
     pub is_at : IsFindingAt p k q a receiver.statement f
 
-  -- at one statement more
-  among_more : (receivers : List Receiver) (x : Receiver) (f : Finding)
-      → IsFindingAmong (receivers ++ x ∷ []) f ↔ (IsFindingAmong receivers f ⊎ IsFindingAt p k q a x.statement f)
-  among_more receivers x f = (
-    (λ h. elim ((Has-push receivers x h.receiver).0 h.has) [
-      | inl was ↦ inl (record { receiver = h.receiver; has = was; is_at = h.is_at })
-      | inr e ↦ inr (subst (λ (r : Receiver). IsFindingAt p k q a r.statement f) e h.is_at)
+  -- at one place more
+  among_more : (places : List ℕ) (i : ℕ) (x : Receiver) (f : Finding) → slice_get receivers i ≡ Some x
+      → IsFindingAmong (places ++ i ∷ []) f ↔ (IsFindingAmong places f ⊎ IsFindingAt p k q a x.statement f)
+  among_more places i x f here = (
+    (λ h. elim ((Has-push places i h.place).0 h.has) [
+      | inl was ↦ inl (record { place = h.place; has = was; receiver = h.receiver; there = h.there; is_at = h.is_at })
+      | inr e ↦
+          let read = subst (λ (n : ℕ). slice_get receivers n ≡ Some h.receiver) e h.there in
+          let same : h.receiver ≡ x = cc in
+          inr (subst (λ (r : Receiver). IsFindingAt p k q a r.statement f) same h.is_at)
     ]),
     (λ h. elim h [
-      | inl was ↦ record { receiver = was.receiver; has = (Has-push receivers x was.receiver).1 (inl was.has); is_at = was.is_at }
-      | inr new ↦ record { receiver = x; has = (Has-push receivers x x).1 (inr refl); is_at = new }
+      | inl was ↦ record { place = was.place; has = (Has-push places i was.place).1 (inl was.has); receiver = was.receiver; there = was.there; is_at = was.is_at }
+      | inr new ↦ record { place = i; has = (Has-push places i i).1 (inr refl); receiver = x; there = here; is_at = new }
     ]),
   )
 
-  module _ (receivers : List Receiver) (old : List Finding) where
-    pub among_none : GrowsBy (IsKeptBefore p) (IsFindingAmong (take 0 receivers)) old old
+  module _ (places : List ℕ) (old : List Finding) where
+    pub among_none : GrowsBy (IsKeptBefore p) (IsFindingAmong (take 0 places)) old old
     among_none = grows_none (IsKeptBefore p) old (λ f h. let has = h.has in cc has.1)
 
-    module _ (statements : List EventStatement) (in_order : map of receivers ≡ statements) (are : AreEventStatements p k statements) where
-      pub among_next : (i : ℕ) (x : Receiver) (mid new : List Finding) → slice_get receivers i ≡ Some x
-          → GrowsBy (IsKeptBefore p) (IsFindingAmong (take i receivers)) old mid → GrowsBy (IsKeptBefore p) (IsFindingAt p k q a x.statement) mid new
-          → GrowsBy (IsKeptBefore p) (IsFindingAmong (take (i + 1) receivers)) old new
-      among_next i x mid new here one two =
+    module _ (statements : List EventStatement) (in_order : map (λ r. r.statement) receivers ≡ statements) (are : AreEventStatements p k statements)
+        (increasing : AllPairs (λ i j. i < j) places) where
+      pub among_next : (index i : ℕ) (x : Receiver) (mid new : List Finding) → slice_get places index ≡ Some i → slice_get receivers i ≡ Some x
+          → GrowsBy (IsKeptBefore p) (IsFindingAmong (take index places)) old mid → GrowsBy (IsKeptBefore p) (IsFindingAt p k q a x.statement) mid new
+          → GrowsBy (IsKeptBefore p) (IsFindingAmong (take (index + 1) places)) old new
+      among_next index i x mid new at here one two =
           grows_more (IsKeptBefore p) one two before
-          (λ f. subst (λ (rs : List Receiver). IsFindingAmong rs f ↔ (IsFindingAmong (take i receivers) f ⊎ IsFindingAt p k q a x.statement f)) (sym (take-next receivers i x here))
-          (among_more (take i receivers) x f))
+          (λ f. subst (λ (is : List ℕ). IsFindingAmong is f ↔ (IsFindingAmong (take index places) f ⊎ IsFindingAt p k q a x.statement f)) (sym (take-next places index i at))
+          (among_more (take index places) i x f here))
         where
-          before : (f g : Finding) → IsFindingAmong (take i receivers) f → IsFindingAt p k q a x.statement g → IsKeptBefore p f g
+          before : (f g : Finding) → IsFindingAmong (take index places) f → IsFindingAt p k q a x.statement g → IsKeptBefore p f g
           before f g h h' =
-              let stands = earlier receivers statements in_order are.ordered i x here h.receiver h.has in
+              let was = slice_get-taken index places h.has.0 h.place h.has.1 in
+              let less = AllPairs-at (λ i j. i < j) (λ i j u v. omega (arith, u, v)) places h.has.0 index h.place i increasing was.0 was.1 at in
+              let stands = earlier receivers statements in_order are.ordered h.place i h.receiver x less h.there here in
               let first : ComesBefore f.place x.statement.place = subst (λ (c : Place). ComesBefore c x.statement.place) (sym h.is_at.place) stands in
               inr (h.is_at.site ∙ sym h'.site, inl (subst (λ (c : Place). ComesBefore f.place c) (sym h'.place) first))
 
-      pub among_all : (i : ℕ) (new : List Finding) → length receivers ≤ i → GrowsBy (IsKeptBefore p) (IsFindingAmong (take i receivers)) old new
-          → GrowsBy (IsKeptBefore p) (IsFindingOf p k q a) old new
-      among_all i new past grown = grows_same (IsKeptBefore p) grown (λ f. (
+      pub among_all : (index : ℕ) (new : List Finding) → length places ≤ index
+          → ((i : ℕ) (r : Receiver) → slice_get receivers i ≡ Some r → IsAnswered p q (receiver_node r.statement) a → Has places i)
+          → GrowsBy (IsKeptBefore p) (IsFindingAmong (take index places)) old new → GrowsBy (IsKeptBefore p) (IsFindingOf p k q a) old new
+      among_all index new past held grown = grows_same (IsKeptBefore p) grown (λ f. (
         (λ h.
             let s = found_at p k q statements are a f h.0 h.1 in
-            let there : slice_get (map of receivers) s.1.0 ≡ Some s.0 = subst (λ (ss : List EventStatement). slice_get ss s.1.0 ≡ Some s.0) (sym in_order) s.1.1 in
-            let r = from_map of receivers s.1.0 s.0 there in
+            let there : slice_get (map (λ (y : Receiver). y.statement) receivers) s.1.0 ≡ Some s.0 = subst (λ (ss : List EventStatement). slice_get ss s.1.0 ≡ Some s.0) (sym in_order) s.1.1 in
+            let r = from_map (λ (y : Receiver). y.statement) receivers s.1.0 s.0 there in
+            let is_at = subst (λ (x : EventStatement). IsFindingAt p k q a x f) (sym r.2) s.2 in
             record {
+              place = s.1.0;
+              has = subst (λ (is : List ℕ). Has is s.1.0) (sym (take_all index places past))
+                  (held s.1.0 r.0 r.1 (answered_at p k q a r.0.statement ((are.each r.0.statement).0 (s.1.0, subst (λ (x : EventStatement). slice_get statements s.1.0 ≡ Some x) (sym r.2) s.1.1)) f is_at));
               receiver = r.0;
-              has = subst (λ (rs : List Receiver). Has rs r.0) (sym (take_all i receivers past)) (s.1.0, r.1);
-              is_at = subst (λ (x : EventStatement). IsFindingAt p k q a x f) (sym r.2) s.2;
+              there = r.1;
+              is_at = is_at;
             }),
         (λ h. (h.is_at.is_one, h.is_at.site)),
       ))

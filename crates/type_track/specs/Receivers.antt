@@ -1,5 +1,5 @@
 -- The receivers of event statements in a demand.
-use Rattle.std.specs.Prelude.{◌≡◌, List, Some, map, slice_get}
+use Rattle.std.specs.Prelude.{◌≡◌, ℕ, List, Some, map, slice_get}
 use Rattle.jim_ast.specs.Lists.{Has}
 use Rattle.spds_rules.specs.declared.node.Node.{Node}
 use Rattle.spds_rules.specs.declared.reach.Reach.TheVariants.{Tracked}
@@ -20,3 +20,7 @@ IsNumbered nodes r = slice_get nodes r.node ≡ Some (receiver_node r.statement)
 pub record AreReceivers (nodes : List Node) (statements : List EventStatement) (receivers : List Receiver) : Type 0 where
   pub in_order : map (λ r. r.statement) receivers ≡ statements
   pub numbered : (r : Receiver) → Has receivers r → IsNumbered nodes r
+
+-- the numbers of the receivers' nodes
+abbrev pub numbers_of : List Receiver → List ℕ
+numbers_of receivers = map (λ r. r.node) receivers

@@ -2,26 +2,26 @@
 use Rattle.std.specs.Prelude.{◌≡◌, ℕ, ◌<◌, ◌^◌, List, [], Some, length, slice_get}
 use Rattle.std.specs.Global.{Vec}
 use Rattle.demand_set.specs.Demands.{IsDemandOf}
+use Rattle.held_places.specs.Held.{AreHeldIn}
 use Rattle.link_rules.specs.WellLinked.{IsWellLinked}
 use Rattle.link_sites.specs.declared.site.Site.{Site}
 use Rattle.piece_join.specs.Brought.{AllBecome}
 use Rattle.post_star.specs.Jobs.{Job}
 use Rattle.site_events.specs.Events.{AreEventsIn}
 use Rattle.spds_rules.specs.Demand.{Asked}
-use Rattle.spds_solve.specs.Solved.{IsSolved}
 use Rattle.track_events.specs.declared.statement.EventStatement.{EventStatement}
 use Rattle.track_events.specs.Statements.{AreEventStatements}
 use Rattle.track_rules.specs.Protocols.{ProtocolParts}
 use Rattle.track_systems.specs.Events.{IsTrackedSite}
 use Rattle.track_tables.specs.declared.given.SolvedDemand.{SolvedDemand}
-use Rattle.track_tables.specs.Making.{AreTrackParts}
+use Rattle.track_tables.specs.Making.{AreLoadedIn, AreTrackParts}
 use Rattle.track_tables.specs.Systems.{IsTrackSystem}
 use Rattle.weight_laws.specs.declared.rel.Rel.{Rel}
 use Rattle.type_track.specs.declared.search.Search.{Search}
 use Rattle.track_verdicts.specs.declared.verdict.Finding.{Finding}
 use Rattle.type_track.specs.Findings.{IsFindingOf, IsKeptBefore}
 use Rattle.type_track.specs.Growing.{GrowsBy}
-use Rattle.type_track.specs.Receivers.{AreReceivers}
+use Rattle.type_track.specs.Receivers.{AreReceivers, numbers_of}
 
 -- what the query demands is solved, and the protocol's class is one of the program
 pub record IsGiven (k : ProtocolParts) (q : Asked) (g : SolvedDemand) : Type 0 where
@@ -29,16 +29,17 @@ pub record IsGiven (k : ProtocolParts) (q : Asked) (g : SolvedDemand) : Type 0 w
   pub class : k.class < length g.linked.now.classes
   pub demand : IsDemandOf g.linked.now q g.demand.now
   pub few : length g.demand.now.sites < 2 ^ 32
-  pub solved : IsSolved g.linked.now q g.demand.now g.solved.now
   pub parts : AreTrackParts g.linked.now g.demand.now g.parts.now
+  pub loaded : AreLoadedIn g.linked.now q g.demand.now g.parts.now g.loaded.now
 
 -- the search is over a solved demand, with all event statements of the protocol
 pub record IsPosed (q : Asked) (s : Search) : Type 0 where
   pub given : IsGiven s.protocol.now q s.given
-  pub events : AreEventsIn s.given.linked.now s.protocol.now s.given.demand.now.nodes s.events.now
   pub statements : List EventStatement
+  pub events : AreEventsIn s.given.linked.now s.protocol.now statements s.events.now
   pub are_events : AreEventStatements s.given.linked.now s.protocol.now statements
   pub receivers : AreReceivers s.given.demand.now.nodes statements s.receivers.now
+  pub held : AreHeldIn s.given.linked.now q s.given.demand.now (numbers_of s.receivers.now) s.held.now
 
 -- the site has this number
 abbrev pub IsSiteAt : Search → ℕ → Site → Type 0

@@ -1,9 +1,9 @@
 //! The receivers of event statements in a demand.
-ghost use Rattle.std.specs.Prelude.{IfOk};
+ghost use Rattle.std.specs.Prelude.{◌≡◌, IfOk};
 ghost use Rattle.jim_ast.specs.Lists.{Has};
 ghost use Rattle.track_events.specs.declared.statement.EventStatement.{EventStatement as AnEventStatement};
 ghost use Rattle.track_events.specs.Statements.{receiver_node};
-ghost use Rattle.type_track.specs.Receivers.{AreReceivers};
+ghost use Rattle.type_track.specs.Receivers.{AreReceivers, numbers_of};
 
 use demand_set::Demand;
 use jim_ast::NoMemory;
@@ -39,4 +39,15 @@ pub(crate) fn receivers_in(
         })?;
     }
     Ok(receivers)
+}
+
+/// The numbers of the receivers' nodes.
+pub(crate) fn nodes_of(alloc: Global, receivers: &[Receiver]) -> Result<Vec<u32>, NoMemory>
+    ensures { IfOk result (λ nodes. nodes.items ≡ numbers_of receivers.now) }
+{
+    let mut nodes = Vec::with_capacity(alloc, receivers.len())?;
+    for receiver in receivers {
+        nodes.push(receiver.node)?;
+    }
+    Ok(nodes)
 }

@@ -17,6 +17,7 @@ use super::barred::add_barred;
 use super::receivers::Receiver;
 use super::tracked::is_tracked;
 use jim_ast::NoMemory;
+use lists::Groups;
 use piece_join::{Bring, bring_all};
 use protocol_words::Protocol;
 use query_core::Hands;
@@ -35,6 +36,8 @@ pub(crate) struct Search<'a> {
     pub(crate) given: SolvedDemand<'a>,
     pub(crate) events: &'a Events,
     pub(crate) receivers: &'a [Receiver],
+    /// For each site the places in this list of those that may hold objects of it.
+    pub(crate) held: &'a Groups<u32, u32>,
 }
 
 /// Whether some event may come on objects of the site with the number.
@@ -42,15 +45,10 @@ fn may_come(search: &Search<'_>, site: u32) -> bool
     ensures { (q : Asked) (a : ASite) → IsPosed q search.now → IsSiteAt search.now site a
         → IsTrue result ↔ ((r : AReceiver) × Has search.now.receivers.now r × IsAnswered search.now.given.linked.now q (receiver_node r.statement) a) }
 {
-    for receiver in search.receivers {
-        if search.given.solved.holds(site, receiver.node) {
-            return true;
-        }
-    }
-    false
+    !search.held.at(site).is_empty()
 }
 
-/// Puts in the findings on objects of the site with the number at one event statement. Where its receiver may hold none of them, there is none.
+/// Puts in the findings on objects of the site with the number at one event statement, of which the receiver may hold some.
 fn add_at(
     alloc: Global,
     search: &Search<'_>,
@@ -61,12 +59,10 @@ fn add_at(
 ) -> Result<(), NoMemory>
     requires { number < length search.now.given.demand.now.sites }
     ensures { OnOk result ((q : Asked) (a : ASite) → IsTrackedIn q a search.now number states.now → Has search.now.receivers.now receiver
+        → IsAnswered search.now.given.linked.now q (receiver_node receiver.statement) a
         → GrowsBy (IsKeptBefore search.now.given.linked.now) (IsFindingAt search.now.given.linked.now search.now.protocol.now q a receiver.statement)
         findings.old.items findings.new.items) }
 {
-    if !search.given.solved.holds(number, receiver.node) {
-        return Ok(());
-    }
     let relation = states.value(alloc, receiver.node)?;
     let site = search.given.demand.sites()[number as usize];
     add_barred(
@@ -78,7 +74,15 @@ fn add_at(
     )
 }
 
-/// Puts in the findings on objects of the site with the number, whose system this is, by event statement.
+// The receiver at the place in the list.
+fn receiver_at(receivers: &[Receiver], place: u32) -> Option<Receiver>
+    ensures { result ≡ slice_get receivers.now place }
+{
+    receivers.get(place as usize).copied()
+}
+
+/// Puts in the findings on objects of the site with the number, whose system this is, by event statement. Only those are gone over of which the receiver
+/// may hold such an object.
 fn add_all_at(
     alloc: Global,
     search: &Search<'_>,
@@ -90,8 +94,10 @@ fn add_all_at(
     ensures { OnOk result ((q : Asked) (a : ASite) → IsTrackedIn q a search.now number states.now
         → GrowsBy (IsKeptBefore search.now.given.linked.now) (IsFindingOf search.now.given.linked.now search.now.protocol.now q a) findings.old.items findings.new.items) }
 {
-    for receiver in search.receivers {
-        add_at(alloc, search, states, number, *receiver, findings)?;
+    for place in search.held.at(number) {
+        if let Some(receiver) = receiver_at(search.receivers, *place) {
+            add_at(alloc, search, states, number, receiver, findings)?;
+        }
     }
     Ok(())
 }
@@ -110,7 +116,7 @@ fn add_tracked(
         → GrowsBy (IsKeptBefore search.now.given.linked.now) (IsFindingOf search.now.given.linked.now search.now.protocol.now q a) findings.old.items findings.new.items) }
 {
     let given = &search.given;
-    let events = site_events(alloc, given.linked, search.events, given.solved, number)?;
+    let events = site_events(alloc, given.linked, search.events, search.held.at(number))?;
     let states = SiteStates::of(alloc, given, &events, number)?;
     add_all_at(alloc, search, &states, number, findings)
 }

@@ -12,9 +12,10 @@ ghost use Rattle.track_verdicts.specs.Verdicts.{IsBeyond, IsTellable, IsVerdict,
 ghost use Rattle.type_track.specs.Receivers.{asked_for};
 ghost use Rattle.type_track.specs.Searches.{IsGiven};
 
-use super::receivers::receivers_in;
+use super::receivers::{nodes_of, receivers_in};
 use super::search::{Search, find_all};
 use demand_set::{Demand, DemandError, Reach, demand};
+use held_places::held_in;
 use jim_ast::{List, NoMemory};
 use link_program::Linked;
 use protocol_words::Protocol;
@@ -33,18 +34,23 @@ fn findings_in<R: Threads + Sync, G: Gate>(
     protocol: &Protocol,
     statements: &[EventStatement],
     given: &SolvedDemand<'_>,
+    solved: &Solved,
 ) -> Result<Vec<Finding>, NoMemory>
     requires given { IsGiven protocol.now (asked_for statements.now) given.now }
     requires statements { AreEventStatements given.now.linked.now protocol.now statements.now }
+    requires solved { IsSolved given.now.linked.now (asked_for statements.now) given.now.demand.now solved.now }
     ensures { IfOk result (λ findings. AreFindings given.now.linked.now protocol.now (asked_for statements.now) (map found_of findings.items)) }
 {
-    let events = events_of(hands.alloc, protocol, statements, given.demand)?;
+    let events = events_of(hands.alloc, protocol, statements)?;
     let receivers = receivers_in(hands.alloc, statements, given.demand)?;
+    let nodes = nodes_of(hands.alloc, &receivers)?;
+    let held = held_in(hands.alloc, solved, &nodes)?;
     let search = Search {
         protocol,
         given: *given,
         events: &events,
         receivers: &receivers,
+        held: &held,
     };
     find_all(hands, &search)
 }
@@ -67,13 +73,14 @@ fn findings_by<R: Threads + Sync, G: Gate>(
     ensures { IfOk result (λ findings. AreFindings linked.now protocol.now (asked_for statements.now) (map found_of findings.items)) }
 {
     let parts = TrackParts::new(hands.alloc, linked, demand)?;
+    let loaded = held_in(hands.alloc, solved, parts.loaded())?;
     let given = SolvedDemand {
         linked,
         demand,
-        solved,
         parts: &parts,
+        loaded: &loaded,
     };
-    findings_in(hands, protocol, statements, &given)
+    findings_in(hands, protocol, statements, &given, solved)
 }
 
 /// The same over a demand that isn't solved yet.

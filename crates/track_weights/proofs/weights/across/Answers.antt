@@ -10,4 +10,4 @@ returns c k q a events =
     let p = c.args.linked.now in
     let n = c.args.node in
     subst (λ (w : Rel). IsWeight w (Across p k q a n.place n.var)) (sym c.extend.ensures)
-    (across_weight p k q a n.place n.var events.sixteen (c.own_weight-own.ensures k q a events) (c.inside-inside.ensures p k q a events))
+    (across_weight p k q a n.place n.var events.sixteen (c.own_weight-own.ensures k q a events) (c.inside-inside.ensures k q a events))

@@ -1,34 +1,29 @@
-use Rattle.std.proofs.Common.{slice_index_or, inl, inr, refl, subst}
-use Rattle.std.proofs.lemmas.Option.{slice_get-get_or}
-use Rattle.link_indexes.proofs.Grown.{Has-push, take-next}
-use Rattle.spds_rules.specs.Answers.{IsAnswered}
-use Rattle.track_events.specs.Statements.{receiver_node}
-use Rattle.type_track.specs.declared.receivers.Receiver.{Receiver}
-use Rattle.type_track.proofs.Numbering.{no_receiver}
+use Rattle.std.proofs.Common.{◌≡◌, ℕ, List, [], ◌∷◌, Bool, true, false, not, IsTrue, length, refl, sym, ap, subst, true≢false}
+use Rattle.std.specs.Bool.{◌==◌}
+use Rattle.std.proofs.Math.Dec.{eqb-suc-zero}
+use Rattle.jim_ast.specs.Lists.{Has}
+use Rattle.type_track.proofs.Posing.{at_held, held_at}
 use Rattle.type_track.proofs.search.may_come.Goals as goal
 
-pub returns-then-holds : goal.returns-then-holds
-returns-then-holds c = λ q a posed there.
-    let s = c.args.search.now in
-    let i = c.loop-receiver.receiver-index in
-    let r = slice_index_or s.receivers.now i no_receiver in
-    let at = slice_get-get_or s.receivers.now i no_receiver c.loop-receiver-test.true in
-    let node = posed.receivers.numbered r (i, at) in
-    ((λ t. (r, (i, at), (c.holds.ensures s.given.linked.now q s.given.demand.now a (receiver_node r.statement) posed.given.solved there node).0 c.if-holds.true)), (λ h. refl))
+-- a list that isn't empty has an element, and one that has one isn't empty
+some_first : (xs : List ℕ) → IsTrue (not (length xs == 0)) → (i : ℕ) × Has xs i
+some_first [] h = absurd (true≢false (sym h))
+some_first (x ∷ xs) h = (x, (0, refl))
 
-pub loop-receiver-preserved : goal.loop-receiver-preserved
-loop-receiver-preserved c = λ q a posed there r has answered.
+first_some : (xs : List ℕ) (i : ℕ) → Has xs i → IsTrue (not (length xs == 0))
+first_some [] i has = absurd (let no = has.1 in cc)
+first_some (x ∷ xs) i has = ap not (eqb-suc-zero (length xs))
+
+pub returns : goal.returns
+returns c = λ q a posed there.
     let s = c.args.search.now in
-    let i = c.loop-receiver.receiver-index in
-    let x = slice_index_or s.receivers.now i no_receiver in
-    let at = slice_get-get_or s.receivers.now i no_receiver c.loop-receiver-test.true in
-    let more = rw (take-next s.receivers.now i x at) at has in
-    elim ((Has-push _ x r).0 more) [
-      | inl was ↦ c.loop-receiver.invariant q a posed there r was answered
-      | inr e ↦
-          let node = posed.receivers.numbered x (i, at) in
-          let here = subst (λ (y : Receiver). IsAnswered s.given.linked.now q (receiver_node y.statement) a) e answered in
-          let yes = (c.holds.ensures s.given.linked.now q s.given.demand.now a (receiver_node x.statement) posed.given.solved there node).1 here in
-          let no = c.if-holds.false in
-          cc
-    ]
+    let site = c.args.site in (
+      (λ yes.
+          let i = some_first c.at.result.now (subst (λ (b : Bool). IsTrue (not b)) c.is_empty.ensures yes) in
+          let r = held_at q s posed site a there i.0 (subst (λ (xs : List ℕ). Has xs i.0) c.at.ensures i.1) in
+          (r.0, (i.0, r.1), r.2)),
+      (λ h.
+          let at = h.1 in
+          let has = at_held q s posed site a there at.0 h.0 at.1 h.2 in
+          subst (λ (b : Bool). IsTrue (not b)) (sym c.is_empty.ensures) (first_some c.at.result.now at.0 (subst (λ (xs : List ℕ). Has xs at.0) (sym c.at.ensures) has))),
+    )

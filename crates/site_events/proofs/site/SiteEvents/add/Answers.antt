@@ -1,14 +1,18 @@
-use Rattle.std.proofs.Common.{◌≡◌, ◌<◌, ℕ, List, [], ◌∷◌, false, length, inl, inr, refl, sym, subst, ◌∙◌}
+use Rattle.std.proofs.Common.{◌≡◌, ◌<◌, ◌⊎◌, ◌↔◌, ℕ, List, [], ◌∷◌, ◌++◌, false, length, map, inl, inr, refl, sym, subst, ◌∙◌}
 use Rattle.std.specs.Bool.{◌==◌}
 use Rattle.jim_ast.specs.Lists.{Has}
+use Rattle.link_indexes.proofs.Grown.{Has-push}
 use Rattle.link_program.proofs.Found.{from_map}
+use Rattle.link_rules.specs.Linked.{LinkedProgram}
+use Rattle.spds_rules.specs.Demand.{AreAll}
+use Rattle.track_events.specs.Loud.{IsLoud}
 use Rattle.track_events.proofs.Entering.{loud_calls_enter}
 use Rattle.track_systems.proofs.Meaning.{meaning}
 use Rattle.weight_laws.specs.declared.rel.Rel.{Rel}
 use Rattle.weight_laws.specs.Rel.{Relates}
 use Rattle.site_events.specs.declared.statement.Statement.{Statement}
-use Rattle.site_events.specs.Statements.{before_it}
-use Rattle.site_events.proofs.Told.{raised_same}
+use Rattle.site_events.specs.declared.inner.Inner.{Inner}
+use Rattle.site_events.specs.Sites.{IsInnerOf}
 use Rattle.site_events.proofs.site.SiteEvents.add.Goals as goal
 
 -- a list that isn't empty has a statement
@@ -22,26 +26,42 @@ loud_methods-requires c = λ m has.
     let x = from_map (λ (s : Statement). s.method) c.args.statements.now listed.0 m listed.1 in
     subst (λ (n : ℕ). n < length c.args.linked.now.methods) x.2 (c.requires x.0 (listed.0, x.1))
 
+-- the methods from which a run may come to one of the statements are entered exactly where it may
+inner_is : (p : LinkedProgram) (statements : List Statement) (told loud : List ℕ) (does : Rel) (x : Inner) → told ≡ map (λ (s : Statement). s.method) statements → x.does ≡ does
+    → x.loud.keys ≡ loud → AreAll (IsLoud p told) loud → IsInnerOf p statements does x
+inner_is p statements told loud does x is same keys are = record {
+  does_is = same;
+  enters = λ c.
+      let law = loud_calls_enter p told c in (
+        (λ h.
+            let among = subst (λ (xs : List ℕ). Has xs h.0) keys h.2 in
+            let y = law.0 (h.0, h.1, are.each h.0 among) in
+            (y.0, y.1, subst (λ (xs : List ℕ). Has xs y.0) is y.2)),
+        (λ h.
+            let y = law.1 (h.0, h.1, subst (λ (xs : List ℕ). Has xs h.0) (sym is) h.2) in
+            (y.0, y.1, subst (λ (xs : List ℕ). Has xs y.0) (sym keys) (are.all y.0 y.2))),
+      );
+}
+
 pub returns : goal.returns
 returns c =
     let p = c.args.linked.now in
+    let statements = c.args.statements.now in
     let told = c.deref.result.now in
     let is = c.deref.ensures.value ∙ c.in_ok-methods.ensures in
+    let x : Inner = record { does = c.args.does; loud = c.in_ok-loud.loud } in
+    let inner = inner_is p statements told x.loud.keys c.args.does x is refl refl c.in_ok-loud.ensures in
+    let old = c.args.self.now.inner.items in
+    let pushed : c.push.new.self.items ≡ old ++ x ∷ [] = c.in_ok-push.ensures.items in
+    let both : (y : Inner) → Has c.push.new.self.items y ↔ (Has old y ⊎ (y ≡ x)) = λ y. subst (λ (xs : List Inner). Has xs y ↔ (Has old y ⊎ (y ≡ x))) (sym pushed) (Has-push old x y) in
     record {
       own = c.in_ok-raise_all.ensures;
-      inside = raised_same c.args.self.now.inside c.raise_calls.new.self _ _ c.args.does c.in_ok-raise_calls.ensures (λ s.
-          let law = loud_calls_enter p told (before_it s) in (
-            (λ enters.
-                let x = law.1 (enters.0, enters.1, subst (λ (xs : List ℕ). Has xs enters.0) (sym is) enters.2) in
-                (x.0, x.1, subst (λ (xs : List ℕ). Has xs x.0) (sym c.keys.ensures.value) (c.in_ok-loud.ensures.all x.0 x.2))),
-            (λ calls.
-                let loud = c.in_ok-loud.ensures.each calls.0 (subst (λ (xs : List ℕ). Has xs calls.0) c.keys.ensures.value calls.2) in
-                let x = law.0 (calls.0, calls.1, loud) in
-                (x.0, x.1, subst (λ (xs : List ℕ). Has xs x.0) is x.2)),
-          ));
+      kept = λ y h. (both y).1 (inl h);
+      each = λ y h. elim ((both y).0 h) [ inl a ↦ inl a | inr e ↦ inr (subst (λ (z : Inner). IsInnerOf p statements c.args.does z) (sym e) inner) ];
+      inner = λ s h. (x, (both x).1 (inr refl), inner);
       anywhere = λ i j h.
           let sum = meaning.combine c.args.self.now.anywhere c.args.does i j h in
-          let one = has_some c.args.statements.now c.if-is_empty.ensures in (
+          let one = has_some statements c.if-is_empty.ensures in (
             (λ r. elim (sum.0 (subst (λ (w : Rel). Relates w i j) c.combine-self.ensures r)) [ inl a ↦ inl a | inr b ↦ inr (one, b) ]),
             (λ r. subst (λ (w : Rel). Relates w i j) (sym c.combine-self.ensures) (sum.1 (elim r [ inl a ↦ inl a | inr b ↦ inr b.1 ]))),
           );

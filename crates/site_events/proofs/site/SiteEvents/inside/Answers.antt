@@ -1,18 +1,21 @@
-use Rattle.std.proofs.Common.{subst, sym}
-use Rattle.weight_laws.specs.declared.rel.Rel.{Rel}
-use Rattle.track_systems.specs.Values.{IsWeight}
-use Rattle.track_systems.specs.Weights.{Sends, Within}
-use Rattle.site_events.specs.declared.statement.Statement.{Statement}
-use Rattle.site_events.specs.Tables.{HasOne, IsTold}
-use Rattle.site_events.proofs.Built.{weight_moved}
+use Rattle.std.proofs.Common.{◌<◌, ◌↔◌, ℕ, List, subst, sym}
+use Rattle.track_systems.specs.Weights.{Within}
+use Rattle.site_events.specs.declared.inner.Inner.{Inner}
+use Rattle.site_events.specs.Sites.{LeadsInside}
+use Rattle.site_events.proofs.Built.{closed_sends}
+use Rattle.site_events.proofs.Led.{IsLedBy, led_inside}
 use Rattle.site_events.proofs.site.SiteEvents.inside.Goals as goal
 
-pub returns-in-Some : goal.returns-in-Some
-returns-in-Some c = λ p k q a are.
-    let told = subst (λ (s : Statement). IsTold c.args.self.now.inside s c.in-Some.relation) c.statement_at.ensures c.in-Some.ensures.some in
-    weight_moved p k q a c.args.call c.in-Some.relation (are.inside _ c.in-Some.relation told)
-
-pub returns-in-None : goal.returns-in-None
-returns-in-None c = λ p k q a are.
-    let none = subst (λ (s : Statement). HasOne c.args.self.now.inside s → ⊥) c.statement_at.ensures c.in-None.ensures.none in
-    subst (λ (w : Rel). IsWeight w (Sends p k q a (Within p c.args.call))) (sym c.one.ensures) (weight_moved p k q a c.args.call _ (are.quiet _ none))
+pub returns : goal.returns
+returns c = λ k q a are.
+    let p = c.args.linked.now in
+    let call = c.args.call in
+    closed_sends p k q a are.sixteen (Within p call) c.inside_of.result
+    (λ i j h.
+    let led = c.inside_of.ensures i j h in
+    let into = led_inside p call c.deref.result.now c.targets_at.result.now c.targets_at.ensures i j in
+    let told = are.inside call i j h in
+    let same : LeadsInside p c.deref.result.now call i j → LeadsInside p c.args.self.now.inner.items call i j = subst (λ (xs : List Inner). LeadsInside p xs call i j) c.deref.ensures.value in
+    let back : LeadsInside p c.args.self.now.inner.items call i j → LeadsInside p c.deref.result.now call i j = subst (λ (xs : List Inner). LeadsInside p xs call i j) (sym c.deref.ensures.value) in
+    ((λ r. told.0 (same (into.0 (led.0 r)))), (λ g. led.1 (into.1 (back (told.1 g))))))
+    c.closure.result c.closure.ensures
