@@ -1,0 +1,4 @@
+pub mod Adding
+pub mod Called
+pub mod Chosen
+pub mod Standing
