@@ -48,84 +48,52 @@ fn narrowed_code(
 ) -> Result<Code, AllocError>
     ensures { IfOk result (IsNarrowedCode named.now place.method place.index code.now) }
 {
-    match code {
+    match *code {
         Code::Call {
             to,
             mode,
             class,
             key,
             receiver,
-            args,
-            targets,
+            ref args,
+            ref targets,
         } => {
             let args = copied_args(alloc, args.as_slice())?;
-            let some = kept_targets(alloc, named, place, *mode, targets.as_slice())?;
+            let some = kept_targets(alloc, named, place, mode, targets.as_slice())?;
             Ok(Code::Call {
-                to: *to,
-                mode: *mode,
-                class: *class,
-                key: *key,
-                receiver: *receiver,
+                to,
+                mode,
+                class,
+                key,
+                receiver,
                 args,
                 targets: List::from_vec(some),
             })
         }
-        Code::Switch { jumps } => Ok(Code::Switch {
+        Code::Switch { ref jumps } => Ok(Code::Switch {
             jumps: List::from_vec(jumps.as_slice().to_vec(alloc)?),
         }),
-        Code::This { to } => Ok(Code::This { to: *to }),
-        Code::Param { to, number } => Ok(Code::Param {
-            to: *to,
-            number: *number,
-        }),
-        Code::Caught { to } => Ok(Code::Caught { to: *to }),
-        Code::Copy { to, arg } => Ok(Code::Copy { to: *to, arg: *arg }),
-        Code::Cast { to, arg } => Ok(Code::Cast { to: *to, arg: *arg }),
-        Code::New { to, class } => Ok(Code::New {
-            to: *to,
-            class: *class,
-        }),
-        Code::NewArray { to } => Ok(Code::NewArray { to: *to }),
-        Code::NewMulti { to, levels } => Ok(Code::NewMulti {
-            to: *to,
-            levels: *levels,
-        }),
-        Code::Numeric { to, divides } => Ok(Code::Numeric {
-            to: *to,
-            divides: *divides,
-        }),
-        Code::Length { to, arg } => Ok(Code::Length { to: *to, arg: *arg }),
-        Code::Load { to, base, field } => Ok(Code::Load {
-            to: *to,
-            base: *base,
-            field: *field,
-        }),
-        Code::Store { base, field, arg } => Ok(Code::Store {
-            base: *base,
-            field: *field,
-            arg: *arg,
-        }),
-        Code::LoadCell { to, base } => Ok(Code::LoadCell {
-            to: *to,
-            base: *base,
-        }),
-        Code::StoreCell { base, arg } => Ok(Code::StoreCell {
-            base: *base,
-            arg: *arg,
-        }),
-        Code::LoadStatic { to, field } => Ok(Code::LoadStatic {
-            to: *to,
-            field: *field,
-        }),
-        Code::StoreStatic { field, arg } => Ok(Code::StoreStatic {
-            field: *field,
-            arg: *arg,
-        }),
-        Code::If { jump } => Ok(Code::If { jump: *jump }),
-        Code::Goto { jump } => Ok(Code::Goto { jump: *jump }),
-        Code::Return { arg } => Ok(Code::Return { arg: *arg }),
-        Code::Throw { arg } => Ok(Code::Throw { arg: *arg }),
-        Code::Monitor { arg } => Ok(Code::Monitor { arg: *arg }),
+        Code::This { to } => Ok(Code::This { to }),
+        Code::Param { to, number } => Ok(Code::Param { to, number }),
+        Code::Caught { to } => Ok(Code::Caught { to }),
+        Code::Copy { to, arg } => Ok(Code::Copy { to, arg }),
+        Code::Cast { to, arg } => Ok(Code::Cast { to, arg }),
+        Code::New { to, class } => Ok(Code::New { to, class }),
+        Code::NewArray { to } => Ok(Code::NewArray { to }),
+        Code::NewMulti { to, levels } => Ok(Code::NewMulti { to, levels }),
+        Code::Numeric { to, divides } => Ok(Code::Numeric { to, divides }),
+        Code::Length { to, arg } => Ok(Code::Length { to, arg }),
+        Code::Load { to, base, field } => Ok(Code::Load { to, base, field }),
+        Code::Store { base, field, arg } => Ok(Code::Store { base, field, arg }),
+        Code::LoadCell { to, base } => Ok(Code::LoadCell { to, base }),
+        Code::StoreCell { base, arg } => Ok(Code::StoreCell { base, arg }),
+        Code::LoadStatic { to, field } => Ok(Code::LoadStatic { to, field }),
+        Code::StoreStatic { field, arg } => Ok(Code::StoreStatic { field, arg }),
+        Code::If { jump } => Ok(Code::If { jump }),
+        Code::Goto { jump } => Ok(Code::Goto { jump }),
+        Code::Return { arg } => Ok(Code::Return { arg }),
+        Code::Throw { arg } => Ok(Code::Throw { arg }),
+        Code::Monitor { arg } => Ok(Code::Monitor { arg }),
         Code::Skip => Ok(Code::Skip),
     }
 }
