@@ -38,6 +38,11 @@ interfaces_known classes implements known k d h = elim (below_or (get_or impleme
   | inr past ↦ absurd (known (get_or implements k d).0 ((get_or implements k d).1, inr (Contains-at implements k (get_or implements k d) (slice_get-get_or implements k d h)), past))
 ]
 
+-- what is below a class is one
+pub sub_known : (rows : Rows) → NameClasses rows → {a class : ℕ} → class < length rows.classes → Path (Step rows.classes rows.implements) a class → a < length rows.classes
+sub_known rows named h here = h
+sub_known rows named h (step {a} {b} s p) = step-below rows.classes rows.implements a b named.implements s
+
 -- ---- from one relation to another
 
 module _ (S T : ℕ → ℕ → Type 0) (to : (a b : ℕ) → S a b → T a b) where

@@ -12,6 +12,7 @@ pub mod KeyLists
 pub mod OrderFacts
 pub mod TreeFacts
 pub mod Building
+pub mod LookedAt
 pub mod LawFacts
 pub mod Selected
 pub mod Held

@@ -5,7 +5,7 @@ use Rattle.std.proofs.lemmas.List.{length-replicate}
 use Rattle.std.proofs.lemmas.Option.{slice_get-get_or, slice_get_within}
 use Rattle.class_tree.specs.declared.spans.Span.{Span}
 use Rattle.class_tree.specs.Groups.{group}
-use Rattle.class_tree.specs.Paths.{Path, here, step}
+use Rattle.class_tree.specs.Paths.{Path, ProperPath, here, step}
 use Rattle.class_tree.specs.Spans.{AreApart, Holds, HoldsAny}
 use Rattle.class_tree.specs.Tables.{Under, IsFinishing, ArePlaces, IsReach}
 use Rattle.class_tree.proofs.Listed.{Contains-at, Contains-nil, Contains-take_more, Contains-take_kept, Contains-take_last, group-replicate}
@@ -43,6 +43,16 @@ path_last {Step} {c = c} (step {a} {b} t p) = by a b c t (path_last p)
     by : (a b c : ℕ) → Step a b → (b ≡ c) ⊎ ((d : ℕ) × Path Step b d × Step d c) → (a ≡ c) ⊎ ((d : ℕ) × Path Step a d × Step d c)
     by a b c t (inl e) = inr (a, here, subst (Step a) e t)
     by a b c t (inr (d, q, s)) = inr (d, step t q, s)
+
+-- one step or more, with one more
+pub proper_push : {Step : ℕ → ℕ → Type 0} {a b c : ℕ} → Path Step a b → Step b c → ProperPath Step a c
+proper_push {c = c} here s = (c, s, here)
+proper_push (step {b = x} t p) s = (x, t, path_push p s)
+
+-- and by the last of them
+pub proper_last : {Step : ℕ → ℕ → Type 0} {a b c : ℕ} → Step a b → Path Step b c → (d : ℕ) × Path Step a d × Step d c
+proper_last {a = a} t here = (a, here, t)
+proper_last t (step u p) = let r = proper_last u p in (r.0, step t r.1, r.2)
 
 -- ---- the table
 

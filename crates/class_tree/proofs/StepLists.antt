@@ -5,10 +5,10 @@ use Rattle.std.proofs.lemmas.List.{map-append, append-nil}
 use Rattle.std.proofs.lemmas.List.Elements.{filter_more}
 use Rattle.class_tree.specs.declared.rows.ClassRow.{ClassRow}
 use Rattle.class_tree.specs.Groups.{group}
-use Rattle.class_tree.specs.Rows.{HasParent, Step, interfaces_of}
+use Rattle.class_tree.specs.Rows.{HasInterface, HasParent, Step, interfaces_of}
 use Rattle.class_tree.specs.Tables.{Under}
 use Rattle.class_tree.proofs.Listed.{Under-push, Under-pushed, Under-kept, Contains-take_more, Contains-take_kept, Contains-take_last}
-use Rattle.class_tree.proofs.Parents.{parent_from, parent_same, parent_at}
+use Rattle.class_tree.proofs.Parents.{interface_listed, interface_named, parent_from, parent_same, parent_at}
 
 below_or_at : (a i : ℕ) → a < i + 1 → (a < i) ⊎ (a ≡ i)
 below_or_at a i h = grind arith
@@ -37,6 +37,50 @@ children_none classes below i d none inv a b = (
   λ q. elim (below_or_at a i q.0) [
     | inl lt ↦ (inv a b).1 (lt, q.1)
     | inr at ↦ absurd (none b (parent_at classes i b d (subst (λ k. HasParent classes k b) at q.1)))
+  ],
+)
+
+-- the row at i names p, which goes to the list of i
+pub up_more : (classes : List ClassRow) (implements : List (ℕ × ℕ)) (above : List (List ℕ)) (i p : ℕ) (d : ClassRow) → i < length classes → i < length above → (get_or classes i d).parent ≡ Some p
+    → ((a b : ℕ) → Under above b a ↔ (HasInterface implements a b ⊎ ((a < i) × HasParent classes a b)))
+    → (a b : ℕ) → Under (set above i (group above i ++ p ∷ [])) b a ↔ (HasInterface implements a b ⊎ ((a < i + 1) × HasParent classes a b))
+up_more classes implements above i p d h hi e inv a b = (
+  λ u. elim (Under-push above i p b a hi u) [
+    | inl old ↦ elim ((inv a b).0 old) [ inl m ↦ inl m | inr q ↦ inr (omega (arith, q.0), q.1) ]
+    | inr new ↦ inr (omega (arith, new.0), subst (λ k. HasParent classes k b) (sym new.0) (subst (HasParent classes i) (sym new.1) (parent_from classes i p d h e)))
+  ],
+  λ s. elim s [
+    | inl m ↦ Under-kept above i p b a hi ((inv a b).1 (inl m))
+    | inr q ↦ elim (below_or_at a i q.0) [
+      | inl lt ↦ Under-kept above i p b a hi ((inv a b).1 (inr (lt, q.1)))
+      | inr at ↦ let same : b ≡ p = parent_same classes i b p d (subst (λ k. HasParent classes k b) at q.1) e in
+          subst (λ k. Under (set above i (group above i ++ p ∷ [])) b k) (sym at) (subst (λ k. Under (set above i (group above i ++ p ∷ [])) k i) (sym same) (Under-pushed above i p hi))
+    ]
+  ],
+)
+
+-- it names none
+pub up_none : (classes : List ClassRow) (implements : List (ℕ × ℕ)) (above : List (List ℕ)) (i : ℕ) (d : ClassRow) → ((p : ℕ) → (get_or classes i d).parent ≡ Some p → ⊥)
+    → ((a b : ℕ) → Under above b a ↔ (HasInterface implements a b ⊎ ((a < i) × HasParent classes a b))) → (a b : ℕ) → Under above b a ↔ (HasInterface implements a b ⊎ ((a < i + 1) × HasParent classes a b))
+up_none classes implements above i d none inv a b = (
+  λ u. elim ((inv a b).0 u) [ inl m ↦ inl m | inr q ↦ inr (omega (arith, q.0), q.1) ],
+  λ s. elim s [
+    | inl m ↦ (inv a b).1 (inl m)
+    | inr q ↦ elim (below_or_at a i q.0) [
+      | inl lt ↦ (inv a b).1 (inr (lt, q.1))
+      | inr at ↦ absurd (none b (parent_at classes i b d (subst (λ k. HasParent classes k b) at q.1)))
+    ]
+  ],
+)
+
+-- the interfaces alone
+pub up_interfaces : (classes : List ClassRow) (implements : List (ℕ × ℕ)) (lists : List (List ℕ)) → ((a : ℕ) → group lists a ≡ interfaces_of implements a)
+    → (a b : ℕ) → Under lists b a ↔ (HasInterface implements a b ⊎ ((a < 0) × HasParent classes a b))
+up_interfaces classes implements lists are a b = (
+  λ u. inl (interface_named implements a b (subst (λ xs. Contains xs b) (are a) u)),
+  λ s. elim s [
+    | inl m ↦ subst (λ xs. Contains xs b) (sym (are a)) (interface_listed implements a b m)
+    | inr q ↦ absurd (omega (arith, q.0))
   ],
 )
 

@@ -1,16 +1,21 @@
 -- What a search upwards or downwards has reached.
-use Rattle.std.proofs.Common.{◌≡◌, ℕ, ◌+◌, ◌<◌, ◌≤◌, ◌⊎◌, Bool, true, false, if◌then◌else◌, Some, List, [], ◌∷◌, ◌++◌, length, length-append, get_or, slice_get, refl, sym, ap, subst, ◌∙◌, inl, inr, arith, take, eqb}
-use Rattle.std.specs.Cmp.{unsigned_Decides}
-use Rattle.std.specs.List.{Contains, IsDistinct, list_any}
+use Rattle.std.proofs.Common.{◌≡◌, ◌≢◌, ◌↔◌, ℕ, zero, suc, ◌+◌, ◌<◌, ◌≤◌, ◌⊎◌, Bool, true, false, if◌then◌else◌, Some, List, [], ◌∷◌, ◌++◌, length, length-append, get_or, slice_get, refl, sym, ap, subst, ◌∙◌, inl, inr, arith, take, eqb}
+use Rattle.std.specs.Cmp.{nat_eq_equiv, unsigned_Decides}
+use Rattle.std.specs.List.{AllPairs, Contains, IsDistinct, list_any}
+use Rattle.std.specs.Ordering.{nat_cmp}
+use Rattle.std.proofs.lemmas.Map.Keys.{IsDistinct-IsPermutation}
+use Rattle.std.specs.List.Sorted.{IsPermutation, IsSorted}
+use Rattle.std.proofs.lemmas.List.Sorted.{Contains-permutation, IsNonDecreasingBy-from_sort, IsPermutation-sym}
 use Rattle.std.proofs.lemmas.List.{append-nil, append_assoc}
 use Rattle.std.proofs.lemmas.List.Elements.{Contains-push, Contains-push_cases, Contains-append_left}
-use Rattle.std.proofs.lemmas.Map.Made.{is_member-Decides}
+use Rattle.std.proofs.lemmas.Map.Made.{AllPairs-from_IsDistinct, is_member-Decides}
 use Rattle.std.proofs.lemmas.Map.Steps.{length-le_from_distinct_below}
 use Rattle.std.proofs.lemmas.Option.{slice_get-get_or, slice_get_within}
 use Rattle.indexmap.specs.IndexSet.{insert_key}
 use Rattle.class_tree.specs.Groups.{group}
 use Rattle.class_tree.specs.Paths.{Path, here, step, ProperPath}
-use Rattle.class_tree.specs.Tables.{Under, Visits}
+use Rattle.class_tree.specs.Tables.{HasReached, IsWithin, Under, Visits}
+use Rattle.class_tree.proofs.Reached.{proper_last, proper_push}
 use Rattle.class_tree.proofs.Listed.{Contains-nil, Contains-at, Contains-take_more, Contains-take_kept, Contains-take_last, slice_get-append_below}
 
 pub visits_none : (reached : List ℕ) → Visits [] reached reached
@@ -54,56 +59,96 @@ visits_more classes old new i d h v = by (list_any (eqb x) new) refl
 pub visits_longer : (classes old new : List ℕ) → Visits classes old new → length old ≤ length new
 visits_longer classes old new v = omega (arith, ap length v.grown, length-append old v.added)
 
--- what was reached is below `from`, and what is below the first `at` of it was reached
-pub record IsSearched (below : List (List ℕ)) (from at : ℕ) (reached : List ℕ) : Type 0 where
-  pub paths : (c : ℕ) → Contains reached c → ProperPath (Under below) c from
-  pub begun : (c : ℕ) → Under below c from → Contains reached c
-  pub closed : (i c d : ℕ) → i < at → slice_get reached i ≡ Some d → Under below c d → Contains reached c
+-- each class was reached from one of the old; those before index `at` have been gone on from
+pub record IsSearched (steps : List (List ℕ)) (old : List ℕ) (at : ℕ) (reached : List ℕ) : Type 0 where
+  pub paths : (c : ℕ) → Contains reached c → (d : ℕ) × Contains old d × Path (Under steps) c d
+  pub begun : (c : ℕ) → Contains old c → Contains reached c
+  pub closed : (i c d : ℕ) → i < at → slice_get reached i ≡ Some d → Under steps c d → Contains reached c
 
-pub searched_start : (below : List (List ℕ)) (from : ℕ) (new : List ℕ) → Visits (group below from) [] new → IsSearched below from 0 new
-searched_start below from new v = record {
-  paths = λ c m. elim (v.only c m) [ inl old ↦ absurd (Contains-nil c old) | inr u ↦ (from, u, here) ];
-  begun = v.visited;
-  closed = λ i c d lt h u. absurd (omega (arith, lt));
-}
+pub searched_start : (steps : List (List ℕ)) (old : List ℕ) (at : ℕ) → ((i c d : ℕ) → i < at → slice_get old i ≡ Some d → Under steps c d → Contains old c) → IsSearched steps old at old
+searched_start steps old at done = record { paths = λ c m. (c, m, here); begun = λ c m. m; closed = done }
 
 kept : (old new : List ℕ) (classes : List ℕ) → Visits classes old new → (c : ℕ) → Contains old c → Contains new c
 kept old new classes v c m = subst (λ xs. Contains xs c) (sym v.grown) (Contains-append_left old v.added c m)
 
-pub searched_more : (below : List (List ℕ)) (from at d : ℕ) (reached new : List ℕ) → IsSearched below from at reached → slice_get reached at ≡ Some d → Visits (group below d) reached new → IsSearched below from (at + 1) new
-searched_more below from at d reached new s there v = record {
+pub searched_more : (steps : List (List ℕ)) (old : List ℕ) (at d : ℕ) (reached new : List ℕ) → IsSearched steps old at reached → slice_get reached at ≡ Some d → Visits (group steps d) reached new → IsSearched steps old (at + 1) new
+searched_more steps old at d reached new s there v = record {
   paths = λ c m. elim (v.only c m) [
-    | inl old ↦ s.paths c old
-    | inr u ↦ let p = s.paths d (Contains-at reached at d there) in (d, u, step p.1 p.2)
+    | inl before ↦ s.paths c before
+    | inr u ↦ let p = s.paths d (Contains-at reached at d there) in (p.0, p.1, step u p.2)
   ];
-  begun = λ c u. kept reached new _ v c (s.begun c u);
+  begun = λ c m. kept reached new _ v c (s.begun c m);
   closed = λ i c e lt h u.
       let within : at < length reached = slice_get_within reached at d there in
       let back : slice_get reached i ≡ Some e = sym (ap (λ xs. slice_get xs i) v.grown ∙ slice_get-append_below reached v.added i (omega arith)) ∙ h in
       elim (below_or_at i lt) [
         | inl less ↦ kept reached new _ v c (s.closed i c e less back u)
-        | inr same ↦ let is : e ≡ d = cc (back, there, ap (slice_get reached) same) in v.visited c (subst (Under below c) is u)
+        | inr same ↦ let is : e ≡ d = cc (back, there, ap (slice_get reached) same) in v.visited c (subst (Under steps c) is u)
       ];
 }
   where
     below_or_at : (i : ℕ) → i < at + 1 → (i < at) ⊎ (i ≡ at)
     below_or_at i h = grind arith
 
-pub searched_all : (below : List (List ℕ)) (from at : ℕ) (reached : List ℕ) → IsSearched below from at reached → length reached ≤ at → (c : ℕ) → ProperPath (Under below) c from → Contains reached c
-searched_all below from at reached s over c (b, u, p) = by c b u (on p refl)
+-- where all have been gone on from, no class is missed
+pub searched_all : (steps : List (List ℕ)) (old : List ℕ) (at : ℕ) (reached : List ℕ) → IsSearched steps old at reached → length reached ≤ at → HasReached steps old reached
+searched_all steps old at reached s over c = (s.paths c, λ (d, m, p). on p (s.begun d m))
   where
-    by : (a b : ℕ) → Under below a b → (b ≡ from) ⊎ Contains reached b → Contains reached a
-    by a b u (inl e) = s.begun a (subst (Under below a) e u)
-    by a b u (inr m) = s.closed m.0 a b (omega (arith, m.1)) (slice_get-get_or reached m.0 b m.1 ∙ ap Some m.2) u
+    on : {a b : ℕ} → Path (Under steps) a b → Contains reached b → Contains reached a
+    on here m = m
+    on (step {a} {b} u p) m = let n = on p m in s.closed n.0 a b (omega (arith, n.1)) (slice_get-get_or reached n.0 b n.1 ∙ ap Some n.2) u
 
-    on : {b t : ℕ} → Path (Under below) b t → t ≡ from → (b ≡ from) ⊎ Contains reached b
-    on here e = inl e
-    on (step {a} {b} u p) e = inr (by a b u (on p e))
+-- the classes that were added are known
+pub within_more : (steps : List (List ℕ)) (d : ℕ) (reached new : List ℕ) → ((a b : ℕ) → Under steps a b → a < length steps) → IsWithin (length steps) reached → Visits (group steps d) reached new
+    → IsWithin (length steps) new
+within_more steps d reached new known within v c m = elim (v.only c m) [ inl old ↦ within c old | inr u ↦ known c d u ]
 
--- a class that was reached is below another, or below `from`
-pub searched_below : (below : List (List ℕ)) (from at : ℕ) (reached : List ℕ) (n : ℕ) → ((a b : ℕ) → Under below a b → a < n) → IsSearched below from at reached → (c : ℕ) → Contains reached c → c < n
-searched_below below from at reached n known s c m = let p = s.paths c m in known c p.0 p.1
+-- after the classes one step from a class were added, what was reached before is gone on from already
+pub visits_closed : (steps : List (List ℕ)) (classes old new : List ℕ) → Visits classes old new → ((a b : ℕ) → Contains old a → Under steps b a → Contains old b)
+    → (i c d : ℕ) → i < length old → slice_get new i ≡ Some d → Under steps c d → Contains new c
+visits_closed steps classes old new v closed i c d lt e u =
+    let before : slice_get old i ≡ Some d = sym (ap (λ xs. slice_get xs i) v.grown ∙ slice_get-append_below old v.added i lt) ∙ e in
+    kept old new classes v c (closed d c (Contains-at old i d before) u)
+
+-- with what is reached from there
+pub met_more : (steps : List (List ℕ)) (class : ℕ) (old mid new : List ℕ) → ((a b : ℕ) → Contains old a → Under steps b a → Contains old b) → Visits (group steps class) old mid → HasReached steps mid new
+    → (c : ℕ) → Contains new c ↔ (Contains old c ⊎ ProperPath (Under steps) c class)
+met_more steps class old mid new closed v has c = (
+  λ m. let p = (has c).0 m in elim (v.only p.0 p.1) [
+    | inl before ↦ inl (back p.2 before)
+    | inr u ↦ inr (proper_push p.2 u)
+  ],
+  λ s. elim s [
+    | inl before ↦ (has c).1 (c, kept old mid _ v c before, here)
+    | inr p ↦ let q = proper_last p.1 p.2 in (has c).1 (q.0, v.visited q.0 q.2, q.1)
+  ],
+)
+  where
+    back : {a b : ℕ} → Path (Under steps) a b → Contains old b → Contains old a
+    back here m = m
+    back (step {a} {b} u p) m = closed b a (back p m) u
 
 -- so there are no more of them than classes
-pub searched_bound : (below : List (List ℕ)) (from at : ℕ) (reached : List ℕ) (n : ℕ) → ((a b : ℕ) → Under below a b → a < n) → IsDistinct eqb reached → IsSearched below from at reached → length reached ≤ n
-searched_bound below from at reached n known once s = length-le_from_distinct_below reached n once (λ q m. searched_below below from at reached n known s q ((is_member-Decides unsigned_Decides reached q).0 m))
+pub searched_bound : (reached : List ℕ) (n : ℕ) → IsDistinct eqb reached → IsWithin n reached → length reached ≤ n
+searched_bound reached n once within = length-le_from_distinct_below reached n once (λ q m. within q ((is_member-Decides unsigned_Decides reached q).0 m))
+
+-- the classes reached from one alone, in another order
+pub reached_alone : (steps : List (List ℕ)) (class : ℕ) (reached all : List ℕ) → HasReached steps (class ∷ []) reached → IsPermutation reached all → (c : ℕ) → Contains all c ↔ Path (Under steps) c class
+reached_alone steps class reached all has moved c = (
+  λ m. let p = (has c).0 (Contains-permutation all reached c (IsPermutation-sym reached all moved) m) in subst (Path (Under steps) c) (alone p.0 p.1) p.2,
+  λ p. Contains-permutation reached all c moved ((has c).1 (class, (0, omega arith, refl), p)),
+)
+  where
+    alone : (d : ℕ) → Contains (class ∷ []) d → d ≡ class
+    alone d (zero, h, e) = sym e
+    alone d (suc k, h, e) = absurd (omega (arith, h))
+
+-- numbers that differ ascend when they are sorted
+pub ascending_sorted : (xs ys : List ℕ) → IsDistinct eqb xs → IsPermutation xs ys → IsSorted nat_cmp ys → AllPairs (λ a b. a < b) ys
+ascending_sorted xs ys once moved sorted i j d lt h =
+    let le : get_or ys i d ≤ get_or ys j d = IsNonDecreasingBy-from_sort (λ x. x) ys sorted i j d (omega (arith, lt)) h in
+    let apart : get_or ys i d ≢ get_or ys j d = AllPairs-from_IsDistinct unsigned_Decides ys (IsDistinct-IsPermutation eqb nat_eq_equiv.symm xs ys moved once) i j d lt h in
+    elim (below_or_at (get_or ys i d) (get_or ys j d) le) [ inl less ↦ less | inr same ↦ absurd (apart same) ]
+  where
+    below_or_at : (a b : ℕ) → a ≤ b → (a < b) ⊎ (a ≡ b)
+    below_or_at a b h = grind arith

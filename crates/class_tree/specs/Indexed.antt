@@ -1,5 +1,5 @@
 -- What a tree keeps of its rows.
-use Rattle.std.specs.Prelude.{◌≡◌, ℕ, ◌<◌, ◌↔◌, List, Some, Contains, length, map, slice_get, slice_index}
+use Rattle.std.specs.Prelude.{◌≡◌, ℕ, ◌<◌, ◌^◌, ◌↔◌, List, Some, Contains, length, map, slice_get, slice_index}
 use Rattle.class_tree.specs.declared.key_spans.KeySpans.{KeySpans}
 use Rattle.class_tree.specs.declared.kept.KeptRows.{KeptRows}
 use Rattle.class_tree.specs.declared.members.Members.{Members}
@@ -15,7 +15,7 @@ use Rattle.class_tree.specs.Lookups.{own_body, own_field, own_row, Declared}
 use Rattle.class_tree.specs.Paths.{Path}
 use Rattle.class_tree.specs.Rows.{Rows, rows_of, NameClasses, NamesUnknown, IsOwnAncestor, Step, HasInterface, interfaces_of}
 use Rattle.class_tree.specs.Spans.{AreApart, Holds}
-use Rattle.class_tree.specs.Tables.{IsReach}
+use Rattle.class_tree.specs.Tables.{IsReach, Under}
 
 -- every parent and interface is a class, and no class is its own ancestor
 pub record IsHierarchy (rows : Rows) : Type 0 where
@@ -60,10 +60,13 @@ pub record AreMembers (classes : List ClassRow) (methods : List MethodRow) (fiel
   pub own_fields : (c k : ℕ) → row_at m.own_fields c k ≡ own_field fields c k
 
 -- the tables say what the rows say
-pub record IsIndexed (rows : Rows) (interfaces : List (List ℕ)) (places : List ℕ) (reach : List (List Span)) (members : Members) : Type 0 where
+pub record IsIndexed (rows : Rows) (below interfaces : List (List ℕ)) (places : List ℕ) (reach : List (List Span)) (members : Members) : Type 0 where
   pub named : NameClasses rows
   pub hierarchy : IsHierarchy rows
   pub placed : ArePlaced rows places
+  pub few : length rows.classes < 2 ^ 32
+  pub below_len : length below ≡ length rows.classes
+  pub below_are : (a b : ℕ) → Under below a b ↔ Step rows.classes rows.implements a b
   pub interfaces_len : length interfaces ≡ length rows.classes
   pub interfaces_are : (a : ℕ) → group interfaces a ≡ interfaces_of rows.implements a
   pub reached : IsReach (Step rows.classes rows.implements) (length rows.classes) places reach

@@ -17,6 +17,7 @@ mod spans;
 mod steps;
 mod tree;
 mod unknown;
+mod walks;
 
 pub use laws::{
     fields_are_found_above, methods_are_found_above, methods_are_selected_above, sub_is_an_order,

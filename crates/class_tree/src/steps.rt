@@ -41,6 +41,26 @@ pub fn steps_down(
     Ok(below)
 }
 
+/// For each class those that are one step above it.
+pub fn steps_up(
+    alloc: Global,
+    classes: &[ClassRow],
+    implements: &[(u32, u32)],
+) -> Result<Groups<u32>, AllocError>
+    requires few { length classes.now < 2 ^ 32 }
+    requires named { All (λ p. p.0 < length classes.now) implements.now }
+    ensures len { IfOk result (λ above. length above ≡ length classes.now) }
+    ensures steps { IfOk result (λ above. (a b : ℕ) → Under above b a ↔ Step classes.now implements.now a b) }
+{
+    let mut above = interface_lists(alloc, classes.len(), implements)?;
+    for (class, row) in classes.iter().enumerate() {
+        if let Some(parent) = row.parent {
+            above.push(class, parent)?;
+        }
+    }
+    Ok(above)
+}
+
 /// For each class its interfaces in order.
 pub fn interface_lists(
     alloc: Global,

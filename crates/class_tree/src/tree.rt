@@ -1,4 +1,4 @@
-ghost use Rattle.std.specs.Prelude.{◌≡◌, ℕ, ◌^◌, ◌<◌, ◌↔◌, length, All, IsTrue, IfOk, IfNone, IfSome, Some, Err};
+ghost use Rattle.std.specs.Prelude.{◌≡◌, ℕ, ◌^◌, ◌<◌, ◌↔◌, length, All, AllPairs, Contains, IsTrue, IfOk, IfNone, IfSome, Some, Err};
 ghost use Rattle.class_tree.specs.Defaults.{AreDefaults, IsDefaultFrom};
 ghost use Rattle.class_tree.specs.Indexed.{HasFieldNear, HoldsMethod, IsFirstNear};
 ghost use Rattle.class_tree.specs.Paths.{IsLeast};
@@ -15,8 +15,9 @@ use super::places::places_of;
 use super::reach::{near_spans, reach_spans};
 use super::rows::{ClassRow, FieldRow, MethodRow, TreeError};
 use super::spans::{Span, holds};
-use super::steps::{interface_lists, steps_down};
+use super::steps::{interface_lists, steps_down, steps_up};
 use super::unknown::first_unknown;
+use super::walks::all_reached;
 use std::alloc::{AllocError, Global};
 use std::marker::Model;
 
@@ -27,6 +28,7 @@ use std::marker::Model;
 #[derive(Drop)]
 pub struct Tree {
     rows: KeptRows,
+    below: Groups<u32>,
     interfaces: Groups<u32>,
     places: Vec<u32>,
     reach: Groups<Span>,
@@ -41,7 +43,7 @@ impl Model for Tree {
 
     ghost view = { λ t. rows_in t.rows };
 
-    ghost invariant = { λ t. IsIndexed (rows_in t.rows) t.interfaces t.places.items t.reach t.members };
+    ghost invariant = { λ t. IsIndexed (rows_in t.rows) t.below t.interfaces t.places.items t.reach t.members };
 }
 
 /// The default methods of a key, by their rows.
@@ -84,19 +86,14 @@ pub fn build(
     }
     let below = steps_down(alloc, classes, implements)?;
     let starts = tops_first(alloc, classes)?;
-    let Some(order) = finish_order(alloc, &below, starts.as_slice())? else {
-        let class = least_cyclic(alloc, &below)?;
+    let finish = finish_order(alloc, &below, starts.as_slice())?;
+    let order = finish.order.as_slice();
+    if !finish.straight {
+        let above = steps_up(alloc, classes, implements)?;
+        let class = least_cyclic(alloc, &above, order)?;
         return Err(TreeError::Cyclic { class });
-    };
-    let tree = indexed(
-        alloc,
-        classes,
-        implements,
-        methods,
-        fields,
-        &below,
-        order.as_slice(),
-    )?;
+    }
+    let tree = indexed(alloc, classes, implements, methods, fields, below, order)?;
     Ok(tree)
 }
 
@@ -107,7 +104,7 @@ fn indexed(
     implements: &[(u32, u32)],
     methods: &[MethodRow],
     fields: &[FieldRow],
-    below: &Groups<u32>,
+    below: Groups<u32>,
     order: &[u32],
 ) -> Result<Tree, AllocError>
     requires classes { length classes.now < 2 ^ 32 }
@@ -115,20 +112,21 @@ fn indexed(
     requires fields { length fields.now < 2 ^ 32 }
     requires named { NameClasses (rows_of classes.now implements.now methods.now fields.now) }
     requires known { (a : ℕ) → NamesUnknown classes.now implements.now a → ⊥ }
-    requires len { length below.now ≡ length classes.now }
-    requires steps { (a b : ℕ) → Under below.now a b ↔ Step classes.now implements.now a b }
-    requires order { IsFinishing below.now order.now }
+    requires len { length below ≡ length classes.now }
+    requires steps { (a b : ℕ) → Under below a b ↔ Step classes.now implements.now a b }
+    requires order { IsFinishing below order.now }
     ensures ok { IfOk result (λ tree. tree ≡ rows_of classes.now implements.now methods.now fields.now) }
     ensures acyclic { IfOk result (λ _. (a : ℕ) → IsOwnAncestor classes.now implements.now a → ⊥) }
 {
-    let places = places_of(alloc, below, order)?;
-    let reach = reach_spans(alloc, below, order, places.as_slice())?;
-    let near = near_spans(alloc, implements, below, order, places.as_slice())?;
+    let places = places_of(alloc, &below, order)?;
+    let reach = reach_spans(alloc, &below, order, places.as_slice())?;
+    let near = near_spans(alloc, implements, &below, order, places.as_slice())?;
     let members = Members::new(alloc, classes, methods, fields, &reach, &near)?;
     let interfaces = interface_lists(alloc, classes.len(), implements)?;
     let rows = KeptRows::copy_of(alloc, classes, implements, methods, fields)?;
     Ok(Tree {
         rows,
+        below,
         interfaces,
         places,
         reach,
@@ -145,6 +143,19 @@ impl Tree {
         ensures { IsTrue result ↔ Sub self.now a b }
     {
         holds(self.reach.get(b as usize), self.places[a as usize])
+    }
+
+    /// The classes below this one, itself included, in ascending order. It takes time and memory in
+    /// their number and that of the parents and interfaces that they name, not in that of all
+    /// classes.
+    pub fn below(&self, alloc: Global, class: u32) -> Result<Vec<u32>, AllocError>
+        requires { class < length self.now.classes }
+        ensures each { IfOk result (λ below. (a : ℕ) → Contains below.items a ↔ Sub self.now a class) }
+        ensures known { IfOk result (λ below. All (λ a. a < length self.now.classes) below.items) }
+        ensures ascending { IfOk result (λ below. AllPairs (λ a b. a < b) below.items) }
+    {
+        let below = all_reached(alloc, &self.below, class)?;
+        Ok(below)
     }
 
     /// The row of the first method with this key and a body, from the class upwards by parents;

@@ -83,10 +83,11 @@ pub(crate) fn by_objects(
     requires { class < length classes.now.world.classes }
     ensures { IfOk result (IsFound classes.now.world Virtual class key) }
 {
+    let below = classes.tree().below(alloc, class)?;
     let mut rows = IndexSet::new(alloc);
     let mut several = false;
-    for receiver in 0..classes.class_count() {
-        match selected(classes, class, key, receiver) {
+    for receiver in below.as_slice() {
+        match selected(classes, key, *receiver) {
             Selection::Method(row) => {
                 rows.insert(row)?;
             }

@@ -1,5 +1,6 @@
 //! The method that an object of one class runs.
-ghost use Rattle.std.specs.Prelude.{◌<◌, length};
+ghost use Rattle.std.specs.Prelude.{◌<◌, ℕ, length};
+ghost use Rattle.class_tree.specs.Rows.{Sub};
 ghost use Rattle.link_calls.specs.Selected.{IsSelected, IsSelection};
 
 use link_classes::Classes;
@@ -27,13 +28,12 @@ pub(crate) fn select(classes: &Classes, class: u32, key: u32) -> Selection
     }
 }
 
-// What an object of the class `receiver` selects, where it may have objects and is below the class.
-pub(crate) fn selected(classes: &Classes, class: u32, key: u32, receiver: u32) -> Selection
-    requires class { class < length classes.now.world.classes }
-    requires receiver { receiver < length classes.now.world.classes }
-    ensures { IsSelected classes.now.world class key receiver result }
+// What an object of the class `receiver` selects, where it may have objects: in a call on any class that it is below.
+pub(crate) fn selected(classes: &Classes, key: u32, receiver: u32) -> Selection
+    requires { receiver < length classes.now.world.classes }
+    ensures { (class : ℕ) → Sub classes.now.world.rows receiver class → IsSelected classes.now.world class key receiver result }
 {
-    if classes.is_instantiable(receiver) && classes.tree().sub(receiver, class) {
+    if classes.is_instantiable(receiver) {
         return select(classes, receiver, key);
     }
     Selection::Nothing

@@ -1,10 +1,15 @@
-use Rattle.std.proofs.Common.{ℕ, ◌<◌, ◌-◌, length}
-use Rattle.class_tree.specs.Paths.{ProperPath}
-use Rattle.class_tree.specs.Tables.{Under}
+use Rattle.std.proofs.Common.{eqb, length}
+use Rattle.indexmap.specs.IndexSet.{IsUnique}
+use Rattle.class_tree.specs.Tables.{IsWithin}
+use Rattle.class_tree.proofs.LookedAt.{IsLooked}
 use Rattle.class_tree.proofs.cycles.least_cyclic.Given as goal
 
-abbrev pub invariant-loop-class : goal.invariant-loop-class
-invariant-loop-class l = (a : ℕ) → a < l.class → ProperPath (Under l.below) a a → ⊥
+abbrev pub invariant-loop-at : goal.invariant-loop-at
+invariant-loop-at l = record {
+  looked : IsLooked l.above l.order l.at l.least l.met.keys;
+  known : IsWithin (length l.above) l.met.keys;
+  unique : IsUnique eqb l.met;
+}
 
-abbrev pub decreases-loop-class : goal.decreases-loop-class
-decreases-loop-class l = length l.below - l.class
+abbrev pub decreases-loop-at : goal.decreases-loop-at
+decreases-loop-at l = l.at

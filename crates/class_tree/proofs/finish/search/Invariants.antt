@@ -1,5 +1,6 @@
-use Rattle.std.proofs.Common.{◌+◌, ◌*◌, length}
-use Rattle.class_tree.specs.Tables.{IsSearch, HasBegun}
+use Rattle.std.proofs.Common.{ℕ, ◌+◌, ◌*◌, length, MatchBool}
+use Rattle.class_tree.specs.Paths.{ProperPath}
+use Rattle.class_tree.specs.Tables.{HasBegun, IsSearch, IsStraight, Under}
 use Rattle.class_tree.proofs.Searches.{new_count}
 use Rattle.class_tree.proofs.finish.search.Given as goal
 
@@ -7,6 +8,7 @@ abbrev pub invariant-loop-visit : goal.invariant-loop-visit
 invariant-loop-visit l = record {
   searched : IsSearch l.below l.stages.items l.order.items l.path.items;
   begun : HasBegun l.fn.stages.items l.start l.stages.items;
+  straight : MatchBool l.straight (IsStraight l.below l.fn.order.items → IsStraight l.below l.order.items) ((a : ℕ) × ProperPath (Under l.below) a a);
 }
 
 abbrev pub decreases-loop-visit : goal.decreases-loop-visit

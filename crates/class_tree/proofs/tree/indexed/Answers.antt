@@ -34,13 +34,16 @@ acyclic classes implements below places steps p = acyclic_from_places (Step clas
 
 pub invariant_of-result : goal.invariant_of-result
 invariant_of-result c =
-    let reached = reach_map (Under c.args.below.now) (Step c.args.classes.now c.args.implements.now) _ _ c.in_ok-places.places.items c.in_ok-reach.reach
+    let reached = reach_map (Under c.args.below) (Step c.args.classes.now c.args.implements.now) _ _ c.in_ok-places.places.items c.in_ok-reach.reach
     (λ a b u. (c.requires.steps a b).0 u) (λ a b s. (c.requires.steps a b).1 s) c.requires.len (rw c.as_slice.ensures.value at c.in_ok-reach.ensures) in
     let near = subst (λ n. IsReach (HasInterface c.args.implements.now) n c.in_ok-places.places.items c.in_ok-near.near) c.requires.len (rw c.as_slice-2.ensures.value at c.in_ok-near.ensures) in
     rw c.in_ok-rows.ensures (record {
       named = c.requires.named;
       hierarchy = record { known = c.requires.known; acyclic = acyclic _ _ _ _ c.requires.steps c.in_ok-places.ensures };
       placed = record { len = c.in_ok-places.ensures.len ∙ c.requires.len; falls = λ a b s. c.in_ok-places.ensures.falls a b ((c.requires.steps a b).1 s) };
+      few = c.requires.classes;
+      below_len = c.requires.len;
+      below_are = c.requires.steps;
       interfaces_len = c.in_ok-interfaces.ensures.len;
       interfaces_are = c.in_ok-interfaces.ensures.lists;
       reached = reached;

@@ -1,5 +1,5 @@
-use Rattle.link_calls.specs.Selected.{AreSelectedBy}
+use Rattle.link_calls.proofs.Selecting.{AreLookedAt}
 use Rattle.link_calls.proofs.finding.by_objects.Given as goal
 
 abbrev pub invariant-loop-receiver : goal.invariant-loop-receiver
-invariant-loop-receiver l = AreSelectedBy l.classes.world l.class l.key l.receiver l.rows.keys l.several
+invariant-loop-receiver l = AreLookedAt l.classes.world l.class l.key l.receiver-items l.receiver-index l.rows.keys l.several

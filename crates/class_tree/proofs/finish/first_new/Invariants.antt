@@ -1,11 +1,11 @@
 use Rattle.std.proofs.Common.{◌≡◌, ℕ, ◌<◌, ◌≤◌, ◌-◌, length, get_or, slice_get, Some}
-use Rattle.class_tree.specs.declared.finish.Stage.TheVariants.{Done}
-use Rattle.class_tree.proofs.finish.first_not_done.Given as goal
+use Rattle.class_tree.specs.declared.finish.Stage.TheVariants.{New}
+use Rattle.class_tree.proofs.finish.first_new.Given as goal
 
 abbrev pub invariant-loop-at : goal.invariant-loop-at
 invariant-loop-at l = record {
   within : l.at ≤ length l.classes;
-  done : (j : ℕ) → l.from ≤ j → j < l.at → slice_get l.stages (get_or l.classes j 0) ≡ Some Done;
+  begun : (j : ℕ) → l.from ≤ j → j < l.at → slice_get l.stages (get_or l.classes j 0) ≡ Some New → ⊥;
 }
 
 abbrev pub decreases-loop-at : goal.decreases-loop-at

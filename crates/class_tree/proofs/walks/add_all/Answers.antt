@@ -1,5 +1,5 @@
 use Rattle.class_tree.proofs.Visited.{visits_more}
-use Rattle.class_tree.proofs.cycles.add_all.Goals as goal
+use Rattle.class_tree.proofs.walks.add_all.Goals as goal
 
 pub loop-class-preserved : goal.loop-class-preserved
 loop-class-preserved c = record {

@@ -1,7 +1,7 @@
 use Rattle.std.proofs.Common.{eqb, take}
 use Rattle.indexmap.specs.IndexSet.{IsUnique}
 use Rattle.class_tree.specs.Tables.{Visits}
-use Rattle.class_tree.proofs.cycles.add_all.Given as goal
+use Rattle.class_tree.proofs.walks.add_all.Given as goal
 
 abbrev pub invariant-loop-class : goal.invariant-loop-class
 invariant-loop-class l = record {
