@@ -1,18 +1,16 @@
 -- What a method of the linked program is besides its code.
-use Rattle.std.specs.Prelude.{◌≡◌, ℕ, List, length, map, not}
+use Rattle.std.specs.Prelude.{◌≡◌, ℕ, ◌<◌, ◌^◌, List, length, map, not}
 use Rattle.jim_ast.specs.declared.syntax.Body.{Body}
 use Rattle.link_codes.specs.declared.elements.ElementText.{ElementText}
-use Rattle.link_program.specs.Places.{ArePlaces}
-use Rattle.link_program.specs.declared.method.Locals.{Locals}
 use Rattle.link_program.specs.declared.method.MethodHead.{MethodHead}
 use Rattle.link_rules.specs.Classes.{DeclaredMethod}
 use Rattle.link_rules.specs.Names.{text_of}
 use Rattle.link_rules.specs.Statements.{HasBody}
 
 -- the locals of the body, by these names
-pub record AreLocals (own : List (List ℕ)) (body : Body) (l : Locals) : Type 0 where
-  pub names : l.names ≡ map (text_of own) body.locals
-  pub places : ArePlaces l.names l.places
+pub record AreLocals (own : List (List ℕ)) (body : Body) (locals : List (List ℕ)) : Type 0 where
+  pub names : locals ≡ map (text_of own) body.locals
+  pub few : length locals < 2 ^ 32
 
 -- the method without its code, under this text and with these arrays
 pub record IsHeadFor (m : DeclaredMethod) (its_text : List ℕ) (arrays : List ElementText) (h : MethodHead) : Type 0 where

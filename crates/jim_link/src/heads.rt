@@ -2,7 +2,6 @@
 ghost use Rattle.std.specs.Prelude.{◌≡◌, IfOk, IsSome, length, map};
 ghost use Rattle.link_classes.specs.Classes.{IsKnown};
 ghost use Rattle.link_classes.specs.Seen.{seen_method};
-ghost use Rattle.link_program.specs.Places.{ArePlaces};
 ghost use Rattle.link_rules.specs.Names.{text_of};
 ghost use Rattle.link_rules.specs.Statements.{HasBody};
 ghost use Rattle.jim_link.specs.Heads.{AreLocals, IsHeadFor};
@@ -12,7 +11,7 @@ use super::texts::{name_text, owned};
 use jim_ast::{Body, List, Name, NoMemory};
 use link_classes::MethodIn;
 use link_codes::ElementText;
-use link_program::{FirstPlaces, Locals, MethodHead};
+use link_program::MethodHead;
 use std::alloc::{AllocError, Global};
 
 // The names of the locals of a method's body.
@@ -28,15 +27,17 @@ fn local_names(alloc: Global, method: &MethodIn, body: &Body) -> Result<List<Nam
     Ok(List::from_vec(names))
 }
 
-// The locals of a method's body.
-fn locals(alloc: Global, method: &MethodIn, body: &Body) -> Result<Locals, NoMemory>
+// The same, of which there are fewer than 4,294,967,296.
+fn locals(alloc: Global, method: &MethodIn, body: &Body) -> Result<List<Name>, NoMemory>
     requires known { IsKnown method.now.all.now method.now }
     requires body { HasBody (seen_method method.now) body.now }
     ensures { IfOk result (AreLocals (own_names method.now) body.now) }
 {
     let names = local_names(alloc, method, body)?;
-    let places = FirstPlaces::of(alloc, names.as_slice())?;
-    Ok(Locals { names, places })
+    if names.as_slice().len() > u32::MAX as usize {
+        return Err(AllocError);
+    }
+    Ok(names)
 }
 
 // How many parameters a method has. There is room for 4,294,967,295.

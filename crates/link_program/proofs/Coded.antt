@@ -1,13 +1,12 @@
 -- Methods with other code.
-use Rattle.std.proofs.Common.{◌≡◌, ℕ, suc, List, [], ◌∷◌, length, map, refl, sym, ap, ◌∙◌, subst, arith}
+use Rattle.std.proofs.Common.{◌≡◌, List, [], ◌∷◌, length, refl, ap, subst, arith}
 use Rattle.link_indexes.specs.Tables.{AreIndexes, Tables, codes_of}
 use Rattle.link_indexes.specs.declared.method.MethodCode.{MethodCode}
 use Rattle.link_program.specs.Parts.{IsKept, program_with, with_code}
 use Rattle.link_program.specs.declared.parts.Shared.{Shared}
 use Rattle.link_rules.specs.Linked.{LinkedMethod}
 use Rattle.link_rules.specs.WellLinked.{IsInForm}
-use Rattle.link_program.specs.Methods.{AreMethodsWith, coded, joined, linked_method, texts_of}
-use Rattle.link_program.specs.Places.{ArePlaces}
+use Rattle.link_program.specs.Methods.{AreMethodsWith, coded, joined, linked_method}
 use Rattle.link_program.specs.declared.heads.Heads.{Heads}
 use Rattle.link_program.specs.declared.method.MethodHead.{MethodHead}
 use Rattle.link_program.proofs.Joined.{codes-joined, length-joined}
@@ -19,14 +18,6 @@ joined-coded (h ∷ hs) [] cs e = absurd (omega arith)
 joined-coded (h ∷ hs) (b ∷ bs) [] e = refl
 joined-coded (h ∷ hs) (b ∷ bs) (c ∷ cs) e = ap (λ ms. linked_method h c ∷ ms) (joined-coded hs bs cs (omega arith))
 
--- have the same texts
-texts-joined : (hs : List MethodHead) (bs cs : List MethodCode) → length hs ≡ length bs → length hs ≡ length cs
-    → texts_of (joined hs bs) ≡ texts_of (joined hs cs)
-texts-joined [] bs cs e f = refl
-texts-joined (h ∷ hs) [] cs e f = absurd (omega arith)
-texts-joined (h ∷ hs) (b ∷ bs) [] e f = absurd (omega arith)
-texts-joined (h ∷ hs) (b ∷ bs) (c ∷ cs) e f = ap (λ ts. h.text ∷ ts) (texts-joined hs bs cs (omega arith) (omega arith))
-
 -- so what is kept of them stays
 pub methods_coded : (h : Heads) (bs cs : List MethodCode) → AreMethodsWith h bs → length cs ≡ length (joined h.heads.items bs) → AreMethodsWith h cs
 methods_coded h bs cs are many =
@@ -34,8 +25,7 @@ methods_coded h bs cs are many =
     record {
       as_many = as_many;
       few = are.few;
-      places = subst (λ texts. ArePlaces texts h.places) (texts-joined h.heads.items bs cs are.as_many as_many) are.places;
-      found = are.found;
+      few_locals = are.few_locals;
     }
 
 -- the program with other code is that of the same parts with this code

@@ -43,7 +43,7 @@ module _ (hs : List MethodHead) (bs : List MethodCode) (as_many : length hs ≡ 
 
   -- the head there is its head
   pub head_of : (h : MethodHead) → h ≡ get_or hs i h → All IsHead hs → IsHeadOf m h
-  head_of h read found =
+  head_of h read few =
       let p : slice_get hs i ≡ Some h = slice_get-get_or hs i h below_heads ∙ ap Some (sym read) in
       let b = slice_get-there bs i (let less = below_heads in omega (arith, less, as_many)) in
       let same = is_joined h b.0 p b.1 in
@@ -53,7 +53,7 @@ module _ (hs : List MethodHead) (bs : List MethodCode) (as_many : length hs ≡ 
         params = ap (λ (x : LinkedMethod). x.params) (sym same);
         locals = ap (λ (x : LinkedMethod). x.locals) (sym same);
         elements = ap (λ (x : LinkedMethod). x.elements) (sym same);
-        found = subst IsHead (sym read) (found i h below_heads);
+        few_locals = subst IsHead (sym read) (few i h below_heads);
       }
 
 -- the first method of a text, which isn't the root

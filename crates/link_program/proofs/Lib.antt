@@ -5,3 +5,4 @@ pub mod Joined
 mod Naming
 pub mod Placing
 pub mod Pushed
+pub mod Searched

@@ -1,11 +1,8 @@
 -- One method more.
-use Rattle.std.proofs.Common.{◌≡◌, ◌+◌, ◌<◌, ◌^◌, ◌++◌, [], ◌∷◌, length, sym, ap, subst, ◌∙◌, arith, length-append}
-use Rattle.std.proofs.lemmas.List.{map-append}
+use Rattle.std.proofs.Common.{◌≡◌, ◌+◌, ◌<◌, ◌^◌, ◌++◌, [], ◌∷◌, length, arith, length-append}
 use Rattle.std.proofs.lemmas.List.Elements.{All-push}
-use Rattle.link_rules.specs.Linked.{LinkedMethod}
 use Rattle.link_indexes.specs.declared.method.MethodCode.{MethodCode}
-use Rattle.link_program.specs.Methods.{AreMethods, IsHead, linked_method, methods_in, texts_of}
-use Rattle.link_program.specs.Places.{ArePlaces}
+use Rattle.link_program.specs.Methods.{AreMethods, IsHead, linked_method, methods_in}
 use Rattle.link_program.specs.declared.method.MethodHead.{MethodHead}
 use Rattle.link_program.specs.declared.methods.Methods.{Methods}
 use Rattle.link_program.proofs.Joined.{joined-push}
@@ -18,10 +15,9 @@ module _ (old new : Methods) (h : MethodHead) (b : MethodCode) (as_many : length
   put_last = rw (heads, bodies) (joined-push old.heads.items old.bodies.items h b as_many)
 
   -- what is kept of them stays
-  pub are_more : AreMethods old → IsHead h → length old.heads.items + 1 < 2 ^ 32 → ArePlaces (texts_of (methods_in old) ++ h.text ∷ []) new.places → AreMethods new
-  are_more are head few places = record {
+  pub are_more : AreMethods old → IsHead h → length old.heads.items + 1 < 2 ^ 32 → AreMethods new
+  are_more are head few = record {
     as_many = rw (heads, bodies) (omega (arith, length-append old.heads.items (h ∷ []), length-append old.bodies.items (b ∷ []), as_many));
     few = rw heads (omega (arith, length-append old.heads.items (h ∷ []), few));
-    places = subst (λ xs. ArePlaces xs new.places) (sym (ap texts_of put_last ∙ map-append (λ (m : LinkedMethod). m.text) (methods_in old) (linked_method h b ∷ []))) places;
-    found = rw heads (All-push IsHead old.heads.items h are.found head);
+    few_locals = rw heads (All-push IsHead old.heads.items h are.few_locals head);
   }

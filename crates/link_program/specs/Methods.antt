@@ -6,7 +6,6 @@ use Rattle.link_indexes.specs.declared.method.MethodCode.{MethodCode}
 use Rattle.link_program.specs.declared.heads.Heads.{Heads}
 use Rattle.link_program.specs.declared.method.MethodHead.{MethodHead}
 use Rattle.link_program.specs.declared.methods.Methods.{Methods}
-use Rattle.link_program.specs.Places.{ArePlaces}
 
 -- a method, with its code
 abbrev pub linked_method : MethodHead → MethodCode → LinkedMethod
@@ -14,7 +13,7 @@ linked_method h b = record {
   text = h.text;
   has_this = h.has_this;
   params = h.params;
-  locals = h.locals.names;
+  locals = h.locals;
   code = b.code;
   catches = b.catches;
   elements = elements_in h.elements;
@@ -28,9 +27,9 @@ joined _ _ = []
 abbrev pub texts_of : List LinkedMethod → List (List ℕ)
 texts_of methods = map (λ m. m.text) methods
 
--- the locals are found by their names
+-- there are fewer locals than 32 bits number
 abbrev pub IsHead : MethodHead → Type 0
-IsHead h = ArePlaces h.locals.names h.locals.places
+IsHead h = length h.locals < 2 ^ 32
 
 abbrev pub methods_in : Methods → List LinkedMethod
 methods_in m = joined m.heads.items m.bodies.items
@@ -39,8 +38,7 @@ methods_in m = joined m.heads.items m.bodies.items
 pub record AreMethods (m : Methods) : Type 0 where
   pub as_many : length m.heads.items ≡ length m.bodies.items
   pub few : length m.heads.items < 2 ^ 32
-  pub places : ArePlaces (texts_of (methods_in m)) m.places
-  pub found : All IsHead m.heads.items
+  pub few_locals : All IsHead m.heads.items
 
 -- the methods that have these heads and this code
 abbrev pub methods_with : Heads → List MethodCode → List LinkedMethod
@@ -50,22 +48,21 @@ methods_with h bodies = joined h.heads.items bodies
 pub record AreMethodsWith (h : Heads) (bodies : List MethodCode) : Type 0 where
   pub as_many : length h.heads.items ≡ length bodies
   pub few : length h.heads.items < 2 ^ 32
-  pub places : ArePlaces (texts_of (methods_with h bodies)) h.places
-  pub found : All IsHead h.heads.items
+  pub few_locals : All IsHead h.heads.items
 
 -- the methods with other code
 abbrev pub coded : List LinkedMethod → List MethodCode → List LinkedMethod
 coded (m ∷ ms) (b ∷ bs) = record m { code = b.code; catches = b.catches } ∷ coded ms bs
 coded _ _ = []
 
--- the method has this besides its code, and its locals are found by their names
+-- the method has this besides its code
 pub record IsHeadOf (m : LinkedMethod) (h : MethodHead) : Type 0 where
   pub text : m.text ≡ h.text
   pub has_this : m.has_this ≡ h.has_this
   pub params : m.params ≡ h.params
-  pub locals : m.locals ≡ h.locals.names
+  pub locals : m.locals ≡ h.locals
   pub elements : m.elements ≡ elements_in h.elements
-  pub found : IsHead h
+  pub few_locals : IsHead h
 
 -- the method has this code
 pub record IsBodyOf (m : LinkedMethod) (b : MethodCode) : Type 0 where

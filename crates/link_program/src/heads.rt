@@ -7,13 +7,11 @@ ghost use Rattle.link_program.specs.Methods.{AreMethodsWith, IsHeadOf, methods_w
 ghost use Rattle.link_program.specs.Places.{IsFirstPlace};
 
 use super::method::MethodHead;
-use super::places::FirstPlaces;
 
-/// What methods are besides their code, in order, and the first of each text.
+/// What methods are besides their code, in order.
 #[derive(Drop)]
 pub struct Heads {
     pub(crate) heads: Vec<MethodHead>,
-    pub(crate) places: FirstPlaces,
 }
 
 impl Heads {
@@ -26,7 +24,7 @@ impl Heads {
         &self.heads[method as usize]
     }
 
-    /// The first method with this text.
+    /// The first method with this text, looked for one by one: a query names one or two.
     pub fn find(&self, text: &str) -> Option<u32>
         requires { (bodies : List ACode) × AreMethodsWith self.now bodies }
         ensures some { (bodies : List ACode) → AreMethodsWith self.now bodies
@@ -34,6 +32,11 @@ impl Heads {
         ensures none { (bodies : List ACode) → AreMethodsWith self.now bodies
             → IfNone result (Has (texts_of (methods_with self.now bodies)) text.now → ⊥) }
     {
-        self.places.find(text)
+        for (at, head) in self.heads.iter().enumerate() {
+            if head.text.as_str() == text {
+                return Some(at as u32);
+            }
+        }
+        None
     }
 }

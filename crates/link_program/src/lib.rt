@@ -14,7 +14,6 @@ mod places;
 pub use classes::{ClassEntry, ClassTable};
 pub use heads::Heads;
 pub use linked::Linked;
-pub use method::{Locals, MethodHead};
+pub use method::MethodHead;
 pub use methods::Methods;
 pub use parts::{CodePart, ConstantTexts, FieldEntry, KeyEntry, MemberPart, Shared};
-pub use places::FirstPlaces;

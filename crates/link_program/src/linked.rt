@@ -18,6 +18,7 @@ use super::heads::Heads;
 use super::method::MethodHead;
 use super::methods::Methods;
 use super::parts::{CodePart, MemberPart, Shared};
+use super::places::first_name;
 use class_tree::Tree;
 use jim_ast::{Name, NoMemory};
 use link_indexes::{Indexes, MethodCode, Place};
@@ -66,14 +67,10 @@ impl Linked {
             rows,
             constants,
         } = code;
-        let Methods {
-            heads,
-            bodies,
-            places,
-        } = methods;
+        let Methods { heads, bodies } = methods;
         let indexes = Indexes::new(alloc, bodies.as_slice())?;
         let shared = Shared {
-            heads: Heads { heads, places },
+            heads: Heads { heads },
             rows,
             constants,
             members,
@@ -161,7 +158,7 @@ impl Linked {
         requires { method < length self.now.methods }
         ensures { At self.now.methods method (λ m. result.now ≡ m.locals) }
     {
-        self.head(method).locals.names.as_slice()
+        self.head(method).locals.as_slice()
     }
 
     /// How many parameters a method has.
@@ -208,13 +205,13 @@ impl Linked {
         None
     }
 
-    /// The first local of a method with this name.
+    /// The first local of a method with this name, looked for one by one.
     pub fn find_local(&self, method: u32, name: &str) -> Option<u32>
         requires { method < length self.now.methods }
         ensures some { At self.now.methods method (λ m. IfSome result (IsFirstPlace m.locals name.now)) }
         ensures none { At self.now.methods method (λ m. IfNone result (Has m.locals name.now → ⊥)) }
     {
-        self.head(method).locals.places.find(name)
+        first_name(self.head(method).locals.as_slice(), name)
     }
 
     /// The number of the method of a row of the hierarchy, where a run may reach it.

@@ -3,17 +3,15 @@ ghost use Rattle.std.specs.Prelude.{◌≡◌, ◌++◌, [], ◌∷◌, OnOk};
 ghost use Rattle.link_program.specs.Methods.{AreMethods, IsHead, linked_method, methods_in};
 
 use super::method::MethodHead;
-use super::places::FirstPlaces;
 use jim_ast::NoMemory;
 use link_indexes::MethodCode;
 use std::alloc::{AllocError, Global};
 
-/// The methods of a linked program in order, fewer than 4,294,967,296, and the first of each text.
+/// The methods of a linked program in order, fewer than 4,294,967,296.
 #[derive(Drop)]
 pub struct Methods {
     pub(crate) heads: Vec<MethodHead>,
     pub(crate) bodies: Vec<MethodCode>,
-    pub(crate) places: FirstPlaces,
 }
 
 impl Methods {
@@ -25,7 +23,6 @@ impl Methods {
         Methods {
             heads: Vec::new(alloc),
             bodies: Vec::new(alloc),
-            places: FirstPlaces::new(alloc),
         }
     }
 
@@ -36,11 +33,9 @@ impl Methods {
         ensures are { OnOk result (AreMethods self.new) }
         ensures put { OnOk result (methods_in self.new ≡ methods_in self.old ++ linked_method head body ∷ []) }
     {
-        let at = self.heads.len();
-        if at >= u32::MAX as usize {
+        if self.heads.len() >= u32::MAX as usize {
             return Err(AllocError);
         }
-        self.places.push(head.text.as_str(), at)?;
         self.heads.push(head)?;
         self.bodies.push(body)?;
         Ok(())

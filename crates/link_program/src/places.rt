@@ -1,5 +1,5 @@
 //! The first place of each text of a list.
-ghost use Rattle.std.specs.Prelude.{◌≡◌, ◌++◌, [], ◌∷◌, ℕ, List, IfNone, IfOk, IfSome, OnOk, length};
+ghost use Rattle.std.specs.Prelude.{◌≡◌, ◌++◌, [], ◌∷◌, ◌<◌, ◌^◌, ℕ, List, IfNone, IfOk, IfSome, OnOk, length};
 ghost use Rattle.jim_ast.specs.Lists.{Has};
 ghost use Rattle.link_program.specs.Places.{ArePlaces, IsFirstPlace};
 
@@ -39,17 +39,6 @@ impl FirstPlaces {
         Ok(())
     }
 
-    /// Of these texts.
-    pub fn of(alloc: Global, texts: &[Name]) -> Result<Self, NoMemory>
-        ensures { IfOk result (ArePlaces texts.now) }
-    {
-        let mut places = FirstPlaces::new(alloc);
-        for (at, text) in texts.iter().enumerate() {
-            places.push(text.as_str(), at)?;
-        }
-        Ok(places)
-    }
-
     /// The first place of the text. Takes no memory.
     pub fn find(&self, text: &str) -> Option<u32>
         requires { (texts : List (List ℕ)) × ArePlaces texts self.now }
@@ -59,4 +48,18 @@ impl FirstPlaces {
         let id = self.texts.find(text)?;
         Some(self.places[id.0 as usize])
     }
+}
+
+/// The place of the first of these names that is the text, looked for one by one.
+pub(crate) fn first_name(names: &[Name], text: &str) -> Option<u32>
+    requires { length names.now < 2 ^ 32 }
+    ensures some { IfSome result (IsFirstPlace names.now text.now) }
+    ensures none { IfNone result (Has names.now text.now → ⊥) }
+{
+    for (at, name) in names.iter().enumerate() {
+        if name.as_str() == text {
+            return Some(at as u32);
+        }
+    }
+    None
 }

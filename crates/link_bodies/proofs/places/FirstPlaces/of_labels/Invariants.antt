@@ -1,6 +1,5 @@
-use Rattle.std.proofs.Common.{take}
-use Rattle.link_bodies.specs.Places.{KnowsPlaces, label_names}
+use Rattle.link_bodies.specs.Places.{AreNamed, label_names}
 use Rattle.link_bodies.proofs.places.FirstPlaces.of_labels.Given as goal
 
 abbrev pub invariant-loop-place : goal.invariant-loop-place
-invariant-loop-place l = KnowsPlaces (label_names (take l.place l.labels)) l.places
+invariant-loop-place l = AreNamed (label_names l.labels) l.place l.places.items

@@ -1,7 +1,7 @@
 use Rattle.jim_ast.proofs.Places.{slice_get-there}
 use Rattle.link_program.proofs.linked.Linked.find_local.Goals as goal
 
-pub find-requires : goal.find-requires
-find-requires c =
+pub first_name-requires : goal.first_name-requires
+first_name-requires c =
     let m = slice_get-there c.args.self.now.methods c.args.method c.requires in
-    (c.head.result.now.locals.names, (c.head.ensures.head m.0 m.1).found)
+    rw c.as_slice.ensures ((c.head.ensures.head m.0 m.1).few_locals)

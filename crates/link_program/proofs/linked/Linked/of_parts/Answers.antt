@@ -10,7 +10,7 @@ invariant_of-result c =
     let bodies = c.args.code.methods.bodies.items in
     let indexes = rw c.as_slice.ensures.value at c.in_ok-indexes.ensures in
     rw c.in_ok-new.ensures.ok (record {
-      methods = record { as_many = m.as_many; few = m.few; places = m.places; found = m.found };
+      methods = record { as_many = m.as_many; few = m.few; few_locals = m.few_locals };
       classes = c.requires.parts.classes;
       few_fields = c.requires.parts.few_fields;
       form = c.requires.form;
