@@ -5,7 +5,7 @@ use Rattle.auto_table.specs.declared.entry.Entry.TheVariants.{Pushed}
 use Rattle.auto_table.specs.declared.row.Linked.{Linked}
 use Rattle.auto_table.specs.contracts.entry.EntryPartialEq.TheImpl as entry
 use Rattle.auto_table.specs.Lists.{Has}
-use Rattle.auto_table.specs.Cells.{Cells, weight_at, link_at, IsUsed, by_weight, by_child, by_parent, IsListed, AreMeant, AreParents, IsBlank}
+use Rattle.auto_table.specs.Cells.{Cells, weight_at, link_at, IsUsed, by_weight, by_child, by_parent, AreMeant, AreParents, IsBlank}
 use Rattle.auto_table.proofs.Places.{slice_get-below, slice_get-pushed}
 use Rattle.auto_table.proofs.Raises.{meant_blank, meant_raised}
 use Rattle.auto_table.proofs.Same.{same_entry, self_entry}
@@ -14,7 +14,7 @@ use Rattle.post_star.specs.declared.rise.Item.{Item}
 use Rattle.post_star.specs.declared.rise.Item.TheVariants.{At, Between}
 use Rattle.post_star.specs.Derivations.{Combines, none, one, both}
 use Rattle.post_star.specs.Measures.{IsWithin, work_left}
-use Rattle.post_star.specs.Sweeps.{Climbs, from_node, to_parent, used_scope, IsSwept, WentOn, IsSweeping, AreBegun}
+use Rattle.post_star.specs.Sweeps.{AreEntriesAt, Climbs, from_node, to_parent, used_scope, IsSwept, WentOn, IsSweeping, AreBegun}
 use Rattle.post_star.specs.Works.{IsPaid, rose, stayed, IsRisen}
 use Rattle.post_star.proofs.Applies.{below_or_last}
 use Rattle.post_star.proofs.Combinations.{combines_meant, combines_left}
@@ -153,7 +153,7 @@ module _ {W : Type 0} {d : Domain W} (l : IsLawful W d) (t : Cells W) (mt : AreM
     pub swept_more : IsSwept d t node new after
     swept_more = record { sound = λ x. sound_at x (one_entry x e); within = spent.0; only = only_now; meant = meant_new }
 
-  module _ (entries : List Entry) (listed : IsListed d t entries) where
+  module _ (entries : List Entry) (from : AreEntriesAt d t node entries) where
     pub begin_none : (sums : Cells W) (items : List Item) → IsBlank d sums → items ≡ [] → IsBegunTo d t node entries sums items 0
     begin_none sums items b e = record { sweeping = sweep_begins sums items b e; begun = λ i x h. absurd (omega arith) }
 
@@ -171,14 +171,14 @@ module _ {W : Type 0} {d : Domain W} (l : IsLawful W d) (t : Cells W) (mt : AreM
         c = subst (λ (z : W). Combines d (Climbs d t node e) z) (sym is) (one from_node)
 
         he : Has (used_scope t node).entries e
-        he = used_within e (listed.used e (k, at))
+        he = used_within e (from.used e (k, at))
 
     pub begin_all : {sums : Cells W} {items : List Item} (k : ℕ) → length entries ≤ k → ((a b : W) → d.IsMeant a → d.IsMeant b → (a ≡ b) ⊎ (a ≡ b → ⊥)) → IsBegunTo d t node entries sums items k → AreBegun d t node sums
     begin_all {sums} k all decide g e = by (decide (weight_at d t e node) d.zero (mt.weights _ _) l.zero_meant)
       where
         by : (weight_at d t e node ≡ d.zero) ⊎ (weight_at d t e node ≡ d.zero → ⊥) → Leq d (weight_at d t e node) (weight_at d sums e node)
         by (inl z) = subst (λ (a : W). Leq d a (weight_at d sums e node)) (sym z) (zero_leq l _ (g.sweeping.swept.meant.weights _ _))
-        by (inr n) = let h = listed.all e (by_weight node n) in g.begun h.0 e (omega (arith, slice_get-below entries h.0 e h.1)) h.1
+        by (inr n) = let h = from.all e n in g.begun h.0 e (omega (arith, slice_get-below entries h.0 e h.1)) h.1
 
   module _ (m k : ℕ) (row : List (Linked W)) (are : AreParents d t (Pushed m k) row) where
     pub up_begins : {start : Cells W} (items : List Item) (so_far : W) → so_far ≡ weight_at d start (Pushed m k) node → IsSweeping d t node start (items ++ At (Pushed m k) node ∷ []) → AreBegun d t node start → IsGoneUp d t node (Pushed m k) row so_far start start items items 0

@@ -1,14 +1,19 @@
 -- The readings of a node with any word, gathered from the node's entries up to the bases.
-use Rattle.std.specs.Prelude.{◌≡◌, ◌⊎◌, ℕ, List, [], ◌∷◌, ◌++◌}
+use Rattle.std.specs.Prelude.{◌≡◌, ◌≢◌, ◌⊎◌, ℕ, List, [], ◌∷◌, ◌++◌}
 use Rattle.auto_table.specs.declared.entry.Entry.{Entry}
 use Rattle.auto_table.specs.declared.entry.Entry.TheVariants.{Base, Pushed}
 use Rattle.auto_table.specs.Lists.{Has}
-use Rattle.auto_table.specs.Cells.{Cells, weight_at, link_at, AreMeant}
+use Rattle.auto_table.specs.Cells.{Cells, weight_at, link_at, IsUsed, AreMeant}
 use Rattle.post_star.specs.declared.rise.Item.{Item}
 use Rattle.post_star.specs.declared.rise.Item.TheVariants.{At}
 use Rattle.post_star.specs.Derivations.{Combines, IsSumOf}
 use Rattle.post_star.specs.Measures.{Scope, IsWithin, parents_in}
 use Rattle.weight_laws.specs.Law.{Domain, Leq}
+
+-- each entry that has a weight at the node is among these, and each of these has some weight
+pub record AreEntriesAt {W : Type 0} (d : Domain W) (t : Cells W) (node : ℕ) (entries : List Entry) : Type 0 where
+  pub all : (entry : Entry) → weight_at d t entry node ≢ d.zero → Has entries entry
+  pub used : (entry : Entry) → Has entries entry → IsUsed d t entry
 
 -- the first entries of a reading of the node, up to the entry; with the product so far
 pub data Climbs {W : Type 0} (d : Domain W) (t : Cells W) (node : ℕ) : Entry → W → Type 0 where

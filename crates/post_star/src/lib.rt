@@ -21,7 +21,7 @@ pub mod work;
 
 pub use bases::{BaseStep, Bases, Start};
 pub use common::Common;
-pub use over_words::any_value;
+pub use over_words::{any_value, any_value_from};
 pub use reading::value;
 pub use saturation::saturate;
 pub use work::Work;

@@ -4,22 +4,27 @@ ghost use Rattle.auto_table.specs.Cells.{weight_at, AreMeant, IsBlank};
 ghost use Rattle.post_star.specs.declared.rise.Item.TheVariants.{At};
 ghost use Rattle.post_star.specs.Measures.{work_left};
 ghost use Rattle.post_star.specs.Readings.{IsTableAny};
-ghost use Rattle.post_star.specs.Sweeps.{IsSweeping, AreBegun, IsSumAtBases, used_scope};
+ghost use Rattle.post_star.specs.Sweeps.{AreBegun, AreEntriesAt, IsSumAtBases, IsSweeping, used_scope};
 
 use super::rise::{Item, Rising};
 use auto_table::{Entry, NoMemory, Table};
 use std::alloc::Global;
 use weight_laws::Weight;
 
-/// The weights with which the entries have the node: each begins a reading of it.
-fn begin<W: Weight>(table: &Table<W>, sums: &mut Rising<W>, node: u32) -> Result<(), NoMemory>
+/// The weights with which these entries have the node: each begins a reading of it.
+fn begin<W: Weight>(
+    table: &Table<W>,
+    sums: &mut Rising<W>,
+    node: u32,
+    entries: &[Entry],
+) -> Result<(), NoMemory>
+    requires meant { AreMeant W.domain table.now }
+    requires from { AreEntriesAt W.domain table.now node entries.now }
     requires blank { IsBlank W.domain sums.old.table }
     requires empty { sums.old.items.items ≡ [] }
-    ensures meant { OnOk result (AreMeant W.domain table.now) }
     ensures sweeping { OnOk result (IsSweeping W.domain table.now node sums.new.table sums.new.items.items) }
     ensures begun { OnOk result (AreBegun W.domain table.now node sums.new.table) }
 {
-    let entries = table.entries();
     for entry in entries {
         sums.rise(*entry, node, table.at(*entry, node))?;
     }
@@ -95,14 +100,20 @@ fn sum_at_bases<W: Weight>(sums: &Table<W>, node: u32) -> W
 }
 
 /// Takes the weights of the node up to the bases: the sums of all entries, where nothing rose before.
-fn sum_up<W: Weight>(table: &Table<W>, sums: &mut Rising<W>, node: u32) -> Result<(), NoMemory>
+fn sum_up<W: Weight>(
+    table: &Table<W>,
+    sums: &mut Rising<W>,
+    node: u32,
+    entries: &[Entry],
+) -> Result<(), NoMemory>
+    requires meant { AreMeant W.domain table.now }
+    requires from { AreEntriesAt W.domain table.now node entries.now }
     requires blank { IsBlank W.domain sums.old.table }
     requires empty { sums.old.items.items ≡ [] }
-    ensures meant { OnOk result (AreMeant W.domain table.now) }
     ensures sweeping { OnOk result (IsSweeping W.domain table.now node sums.new.table []) }
     ensures begun { OnOk result (AreBegun W.domain table.now node sums.new.table) }
 {
-    begin(table, sums, node)?;
+    begin(table, sums, node, entries)?;
     while let Some(item) = sums.items.pop_front() {
         go_on(table, sums, node, item)?;
     }
@@ -114,7 +125,21 @@ fn sum_up<W: Weight>(table: &Table<W>, sums: &mut Rising<W>, node: u32) -> Resul
 pub fn any_value<W: Weight>(alloc: Global, table: &Table<W>, node: u32) -> Result<W, NoMemory>
     ensures { IfOk result (λ v. IsTableAny W.domain table.now node v) }
 {
+    any_value_from(alloc, table, node, table.entries())
+}
+
+/// The same, by entries among which are all that have the node: who looks them up by the node spares a way over all entries.
+pub fn any_value_from<W: Weight>(
+    alloc: Global,
+    table: &Table<W>,
+    node: u32,
+    entries: &[Entry],
+) -> Result<W, NoMemory>
+    requires meant { AreMeant W.domain table.now }
+    requires from { AreEntriesAt W.domain table.now node entries.now }
+    ensures { IfOk result (λ v. IsTableAny W.domain table.now node v) }
+{
     let mut sums = Rising::new(alloc);
-    sum_up(table, &mut sums, node)?;
+    sum_up(table, &mut sums, node, entries)?;
     Ok(sum_at_bases(&sums.table, node))
 }

@@ -19,7 +19,7 @@ use Rattle.rule_cells.specs.Renamed.{number_in, renamed, renamed_start}
 use Rattle.rule_cells.proofs.Entering.{has_pushed}
 
 -- a rule that weighs one is that of its shape
-rule_of-shape_of : {W : Type 0} (d : Domain W) (r : Rule W) → weight_of r ≡ d.one → rule_of d (shape_of r) ≡ r
+pub rule_of-shape_of : {W : Type 0} (d : Domain W) (r : Rule W) → weight_of r ≡ d.one → rule_of d (shape_of r) ≡ r
 rule_of-shape_of d (rule.Flow from to weight) one = ap (rule.Flow from to) (sym one)
 rule_of-shape_of d (rule.Push from to mark weight) one = ap (rule.Push from to mark) (sym one)
 rule_of-shape_of d (rule.Pop from mark to weight) one = ap (rule.Pop from mark to) (sym one)
@@ -63,10 +63,10 @@ rule_pushed {W} few r x = (
   (λ either. elim either [ inl has ↦ has_left few (r ∷ []) x has | inr is ↦ subst (λ (y : Rule W). Has (few ++ r ∷ []) y) (sym is) (has_last few r) ]),
 )
 
--- one rule more came in
-pub rules_more : {W : Type 0} (rules old new : List (Rule W)) (i : ℕ) (r : Rule W) → i < length rules → r ≡ get_or rules i r
-    → ((x : Rule W) → Has old x ↔ Has (take i rules) x) → ((x : Rule W) → Has new x ↔ (Has old x ⊎ (x ≡ r))) → (x : Rule W) → Has new x ↔ Has (take (i + 1) rules) x
-rules_more {W} rules old new i r below is was now x = subst (λ (rs : List (Rule W)). Has new x ↔ Has rs x)
+-- one rule more came in, where what is said of rules is said of those that came
+pub rules_more : {W : Type 0} (rules : List (Rule W)) (old new : Rule W → Type 0) (i : ℕ) (r : Rule W) → i < length rules → r ≡ get_or rules i r
+    → ((x : Rule W) → old x ↔ Has (take i rules) x) → ((x : Rule W) → new x ↔ (old x ⊎ (x ≡ r))) → (x : Rule W) → new x ↔ Has (take (i + 1) rules) x
+rules_more {W} rules old new i r below is was now x = subst (λ (rs : List (Rule W)). new x ↔ Has rs x)
     (ap (λ (y : Rule W). take i rules ++ y ∷ []) is ∙ sym (take_more rules i r below)) (
       (λ has. (rule_pushed (take i rules) r x).1 (elim ((now x).0 has) [ inl before ↦ inl ((was x).0 before) | inr e ↦ inr e ])),
       (λ has. (now x).1 (elim ((rule_pushed (take i rules) r x).0 has) [ inl before ↦ inl ((was x).1 before) | inr e ↦ inr e ])),
@@ -75,7 +75,7 @@ rules_more {W} rules old new i r below is was now x = subst (λ (rs : List (Rule
 -- the same rules derive the same
 module _ {W : Type 0} (d : Domain W) (rules more : List (Rule W)) (starts : List (Start W)) (steps : List BaseStep) (last : ℕ)
     (r : (x : Rule W) → Has rules x → Has more x) where
-  derives_same : {n : ℕ} {word : List ℕ} {x : W} → Derives d rules starts steps last n word x → Derives d more starts steps last n word x
+  pub derives_same : {n : ℕ} {word : List ℕ} {x : W} → Derives d rules starts steps last n word x → Derives d more starts steps last n word x
   derives_same (starts_at h p) = starts_at h p
   derives_same (flows h p) = flows (r _ h) (derives_same p)
   derives_same (pushes h p) = pushes (r _ h) (derives_same p)

@@ -4,6 +4,7 @@ pub mod Contracting
 pub mod Differing
 pub mod Entering
 pub mod Extending
+pub mod Following
 pub mod Numbering
 pub mod Renaming
 pub mod Rooting

@@ -2,6 +2,7 @@ pub mod Cells
 pub mod Distinct
 pub mod CellRules
 pub mod Entered
+pub mod Followed
 pub mod Forests
 pub mod Laws
 pub mod Made

@@ -8,6 +8,7 @@ ghost use Rattle.rule_cells.specs.CellRules.{HaveCells};
 use super::cells::cells_of;
 use super::contraction::contract;
 use super::distinct::distinct;
+use super::followed::thinned;
 use super::numbers::{number_heads, renumber};
 use auto_table::{NoMemory, Rule};
 use std::alloc::Global;
@@ -41,4 +42,21 @@ pub fn cell_rules<W: Weight>(
         cells: numbers.numbers,
         rules: distinct(alloc, &between)?,
     })
+}
+
+/// The same, where the rules that are marked are looked at first: flows among them that follow from the rest are left out, since they give nothing, and so
+/// the nodes to which they lead may have cells that they hadn't. A rule without a mark isn't looked at. Want of memory is the only refusal.
+pub fn thin_cell_rules<W: Weight>(
+    alloc: Global,
+    count: u32,
+    rules: &[Rule<W>],
+    marked: &[bool],
+    kept: &[u32],
+) -> Result<CellRules<W>, NoMemory>
+    requires ones { (r : ARule W) → Has rules.now r → weight_of r ≡ W.domain.one }
+    ensures count { IfOk result (λ c. length c.cells.items ≡ count) }
+    ensures same { IfOk result (λ c. HaveCells W.domain rules.now kept.now c.cells.items c.rules.items) }
+{
+    let few = thinned(alloc, count, rules, marked, kept)?;
+    cell_rules(alloc, count, &few, kept)
 }

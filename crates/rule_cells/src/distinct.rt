@@ -12,7 +12,7 @@ use weight_laws::Weight;
 
 /// What a rule says but for its weight.
 #[derive(Clone, Copy, Debug, PartialEq, Eq)]
-enum Shape {
+pub enum Shape {
     Flow { from: u32, to: u32 },
     Push { from: u32, to: u32, mark: u32 },
     Pop { from: u32, mark: u32, to: u32 },
@@ -36,7 +36,7 @@ impl Key for Shape {
 }
 
 /// The shape of a rule.
-fn shape_of<W: Weight>(rule: &Rule<W>) -> Shape
+pub fn shape_of<W: Weight>(rule: &Rule<W>) -> Shape
     ensures { result ≡ shape_of rule.now }
 {
     match *rule {
@@ -47,7 +47,7 @@ fn shape_of<W: Weight>(rule: &Rule<W>) -> Shape
 }
 
 /// Puts the rule last, if none of its shape is there.
-fn add_new<W: Weight>(
+pub fn add_new<W: Weight>(
     rule: &Rule<W>,
     shapes: &mut Numbered<Shape>,
     few: &mut Vec<Rule<W>>,

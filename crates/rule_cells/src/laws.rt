@@ -1,3 +1,4 @@
+ghost use Rattle.rule_cells.specs.Followed.{AnyDerivationsAreKept, DerivationsAreKept};
 ghost use Rattle.rule_cells.specs.Laws.{AnyDerivationsAreExtended, AnyValuesAreExtended, DerivationsAreExtended, OnesHaveNoOffset, ValuesAreExtended};
 ghost use Rattle.rule_cells.specs.Renamed.{AnyDerivationsAreRenamed, DerivationsAreRenamed};
 
@@ -24,4 +25,10 @@ pub fn ones_have_no_offset<W: Weight>()
 pub fn derivations_are_renamed<W: Weight>()
     ensures word { DerivationsAreRenamed W.domain }
     ensures any { AnyDerivationsAreRenamed W.domain }
+{}
+
+/// A flow that weighs one gives nothing where others like it lead from its source to its target: without it each node has the derivations that it has with it.
+pub fn derivations_are_kept<W: Weight>()
+    ensures word { DerivationsAreKept W.domain }
+    ensures any { AnyDerivationsAreKept W.domain }
 {}

@@ -11,14 +11,16 @@ mod cells;
 mod contraction;
 mod distinct;
 mod entered;
+mod followed;
 mod laws;
 mod numbers;
 
-pub use between::{CellRules, cell_rules};
+pub use between::{CellRules, cell_rules, thin_cell_rules};
 pub use cells::{Cell, Cells, cells_of};
 pub use contraction::{Contracted, contract};
 pub use entered::{Entered, entries_of};
 pub use laws::{
-    derivations_are_extended, derivations_are_renamed, ones_have_no_offset, values_are_extended,
+    derivations_are_extended, derivations_are_kept, derivations_are_renamed, ones_have_no_offset,
+    values_are_extended,
 };
 pub use numbers::{Numbers, number_heads, number_of, renumber};

@@ -32,7 +32,7 @@ use demand_set::Demand;
 use demand_walk::EdgeAt;
 use link_program::Linked;
 use post_star::Common;
-use rule_cells::{CellRules, cell_rules};
+use rule_cells::{CellRules, cell_rules, thin_cell_rules};
 use spds_nodes::is_node;
 use spds_rules::{EdgeKind, Node, StoreAt};
 use std::alloc::{AllocError, Global};
@@ -72,6 +72,49 @@ fn field_rules(alloc: Global, edges: &[EdgeAt]) -> Result<Vec<Rule<Reach>>, NoMe
         rules.push(field_rule(*edge))?;
     }
     Ok(rules)
+}
+
+/// Marks a node to which the edge comes back from a call.
+fn mark_returned(returned: &mut [bool], edge: EdgeAt) {
+    if let EdgeKind::Return(_) = edge.kind {
+        if let Some(mark) = returned.get_mut(edge.to as usize) {
+            *mark = true;
+        }
+    }
+}
+
+/// Marks those of so many nodes to which edges come back from calls.
+fn all_returned(alloc: Global, count: u32, edges: &[EdgeAt]) -> Result<Vec<bool>, NoMemory> {
+    let mut returned = Vec::with_capacity(alloc, count as usize)?;
+    for _ in 0..count {
+        returned.push(false)?;
+    }
+    for edge in edges {
+        mark_returned(&mut returned, *edge);
+    }
+    Ok(returned)
+}
+
+/// Whether the edge stays in its frame, and leads to a marked node.
+fn is_over(returned: &[bool], edge: EdgeAt) -> bool {
+    if edge.kind != EdgeKind::Flow {
+        return false;
+    }
+    match returned.get(edge.to as usize) {
+        Some(mark) => *mark,
+        None => false,
+    }
+}
+
+/// Marks the edges that go over calls. What is passed into a method and comes back from it goes over the call too, and the edges through the method say
+/// that already, where its formal stays as it is.
+fn over_calls(alloc: Global, count: u32, edges: &[EdgeAt]) -> Result<Vec<bool>, NoMemory> {
+    let returned = all_returned(alloc, count, edges)?;
+    let mut over = Vec::with_capacity(alloc, edges.len())?;
+    for edge in edges {
+        over.push(is_over(&returned, *edge))?;
+    }
+    Ok(over)
 }
 
 /// The rule of an edge in call systems. Static fields have none.
@@ -272,11 +315,12 @@ struct FieldSide {
 }
 
 /// What field systems over these rules have in common. The rules are between nodes; rules and starts that a system has of its own lead to nodes that are
-/// kept.
+/// kept. Rules that are marked are left out where they follow from the rest.
 fn contracted(
     alloc: Global,
     count: u32,
     rules: &[Rule<Reach>],
+    over: &[bool],
     kept: &[u32],
 ) -> Result<FieldSide, NoMemory>
     requires ones { (r : ARule AReach) → Has rules.now r → weight_of r ≡ reach_domain.one }
@@ -287,7 +331,7 @@ fn contracted(
     let CellRules {
         cells,
         rules: between,
-    } = cell_rules(alloc, count, rules, kept)?;
+    } = thin_cell_rules(alloc, count, rules, over, kept)?;
     let common = Common::new(alloc, between, Vec::new(alloc), 0)?;
     let common = Arc::new(alloc, common)?;
     Ok(FieldSide { cells, common })
@@ -306,8 +350,9 @@ fn common_fields(
 {
     let count = count_of(demand.nodes().len())?;
     let rules = field_rules(alloc, demand.numbered())?;
+    let over = over_calls(alloc, count, demand.numbered())?;
     let kept = start_numbers(alloc, starts)?;
-    contracted(alloc, count, &rules, &kept)
+    contracted(alloc, count, &rules, &over, &kept)
 }
 
 /// The cells of nodes in call systems, and what these have in common.

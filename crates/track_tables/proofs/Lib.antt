@@ -8,3 +8,4 @@ pub mod Backward
 pub mod Going
 pub mod Beginning
 pub mod Made
+pub mod ByNode

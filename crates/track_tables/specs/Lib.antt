@@ -1,4 +1,5 @@
 pub mod Systems
 pub mod Making
 pub mod Begun
+pub mod ByNode
 pub mod Returns

@@ -1,6 +1,7 @@
 -- The system of a site under a protocol, as rules between the numbers of nodes: its marks are the numbers of calls, and its weights relations over sixteen
 -- states. It is said state by state: how many rules there are between two nodes, and whether one of them leads nowhere, says nothing.
 use Rattle.std.specs.Prelude.{◌≡◌, ◌↔◌, ℕ, ◌<◌, List, ◌∷◌, Some, slice_get}
+use Rattle.auto_table.specs.Cells.{Cells}
 use Rattle.auto_table.specs.declared.rule.Rule.{Rule}
 use Rattle.auto_table.specs.declared.rule.Rule.TheVariants as rule
 use Rattle.call_side.specs.Bases.{AreStrings, IsLast}
@@ -13,6 +14,7 @@ use Rattle.link_sites.specs.declared.site.Site.{Site}
 use Rattle.post_star.specs.declared.bases.Start.{Start}
 use Rattle.post_star.specs.Derivations.{Derives}
 use Rattle.post_star.specs.Jobs.{Job}
+use Rattle.post_star.specs.Readings.{IsSaturated}
 use Rattle.spds_rules.specs.declared.edge.EdgeKind.{EdgeKind}
 use Rattle.spds_rules.specs.declared.edge.EdgeKind.TheVariants.{Flow, Load, Call, Return, Jump}
 use Rattle.spds_rules.specs.declared.node.Node.{Node}
@@ -91,3 +93,9 @@ module _ (p : LinkedProgram) (k : ProtocolParts) (q : Asked) (a : Site) where
     pub pops : (from mark to i j : ℕ) → i < 16 → j < 16 → IsReachedUnder job from mark
         → HasStep job.rules (λ w. rule.Pop from mark to w) i j ↔ IsCrossStep d.nodes calls Return from mark to i j
     pub starts : (method number i : ℕ) → i < 16 → HasStart job.starts method number i ↔ IsBeginning d.nodes method number i
+
+  -- the table has the values of this system
+  pub record IsTrackTable (d : DemandParts) (t : Cells Rel) : Type 0 where
+    pub job : Job Rel
+    pub system : IsTrackSystem d job
+    pub saturated : IsSaturated rel_domain job.rules job.starts job.steps job.last t

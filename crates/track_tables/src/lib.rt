@@ -4,6 +4,7 @@
 //! each node that the system reaches, and back from a call where its mark may be on top there.
 #![tactic(auto)]
 
+mod by_node;
 mod coming;
 mod given;
 mod growth;

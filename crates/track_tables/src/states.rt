@@ -4,6 +4,7 @@ ghost use Rattle.demand_set.specs.Demands.{DemandParts, IsDemandOf};
 ghost use Rattle.link_rules.specs.Linked.{LinkedProgram};
 ghost use Rattle.link_sites.specs.declared.place.Place.{Place};
 ghost use Rattle.link_sites.specs.declared.site.Site.{Site as ASite};
+ghost use Rattle.post_star.specs.Readings.{IsSaturated};
 ghost use Rattle.site_events.specs.Sites.{AreEventsOf};
 ghost use Rattle.spds_rules.specs.declared.node.Node.{Node};
 ghost use Rattle.spds_rules.specs.Demand.{Asked};
@@ -12,19 +13,20 @@ ghost use Rattle.track_systems.specs.Laws.{IsAmongSixteen};
 ghost use Rattle.track_systems.specs.Track.{Tracks};
 ghost use Rattle.track_tables.specs.Begun.{IsBegun, IsFirstWeight};
 ghost use Rattle.track_tables.specs.Making.{AreLoadedIn, AreTrackParts};
-ghost use Rattle.track_tables.specs.Systems.{IsTrackSystem};
-ghost use Rattle.weight_laws.specs.Rel.{Relates};
+ghost use Rattle.track_tables.specs.Systems.{IsTrackTable};
+ghost use Rattle.weight_laws.specs.Rel.{Relates, rel_domain};
 
+use super::by_node::by_node;
 use super::given::SolvedDemand;
 use super::growth::Growth;
 use super::opening::open_strings;
 use super::parts::TrackParts;
 use super::rules::spread;
 use super::starts::{at_places, begin_all, is_made_at};
-use auto_table::NoMemory;
+use auto_table::{Entry, NoMemory, Table};
 use link_sites::Site;
-use lists::Numbered;
-use post_star::{Work, any_value};
+use lists::{Groups, Numbered};
+use post_star::{Work, any_value_from};
 use site_events::SiteEvents;
 use std::alloc::Global;
 use std::marker::Model;
@@ -77,26 +79,37 @@ fn begun(
     Ok(growth)
 }
 
-/// The system of one site under a protocol, settled. Contracts see the system.
+/// The table of the work, brought to the end.
+fn settled(work: Work<Rel>) -> Result<Table<Rel>, NoMemory>
+    ensures { IfOk result (IsSaturated rel_domain work.rules work.starts work.steps work.last) }
+{
+    let mut work = work;
+    work.settle()?;
+    Ok(work.into_table())
+}
+
+/// The values of the system of one site under a protocol: its table, and the entries by the nodes at which they have a weight. Contracts see the table.
 #[derive(Drop)]
 pub struct SiteStates {
-    work: Work<Rel>,
+    table: Table<Rel>,
+    entries: Groups<u32, Entry>,
 }
 
 impl Model for SiteStates {
-    ghost use Rattle.std.specs.Prelude.{◌≡◌, true};
-    ghost use Rattle.post_star.specs.Jobs.{Job};
+    ghost use Rattle.auto_table.specs.Cells.{Cells};
     ghost use Rattle.weight_laws.specs.declared.rel.Rel.{Rel};
 
-    ghost Value = { Job Rel };
+    ghost Value = { Cells Rel };
 
-    ghost view = { λ s. s.work };
+    ghost use Rattle.track_tables.specs.ByNode.{AreByNode};
 
-    ghost invariant = { λ s. s.work.settled ≡ true };
+    ghost view = { λ s. s.table };
+
+    ghost invariant = { λ s. AreByNode s.table s.entries };
 }
 
 impl SiteStates {
-    /// The settled system of the site with the number in the demand, on whose objects these events may come. Want of memory is the only refusal.
+    /// The values of the system of the site with the number in the demand, on whose objects these events may come. Want of memory is the only refusal.
     pub fn of(
         alloc: Global,
         given: &SolvedDemand<'_>,
@@ -107,20 +120,21 @@ impl SiteStates {
         requires parts { AreTrackParts given.now.linked.now given.now.demand.now given.now.parts.now }
         ensures { IfOk result (λ states. (k : ProtocolParts) (q : Asked) (a : ASite) → IsDemandOf given.now.linked.now q given.now.demand.now
             → AreLoadedIn given.now.linked.now q given.now.demand.now given.now.parts.now given.now.loaded.now → slice_get given.now.demand.now.sites site ≡ Some a
-            → AreEventsOf given.now.linked.now k q a events.now → IsTrackSystem given.now.linked.now k q a given.now.demand.now states) }
+            → AreEventsOf given.now.linked.now k q a events.now → IsTrackTable given.now.linked.now k q a given.now.demand.now states) }
     {
         let mut growth = begun(alloc, given, events, site)?;
         spread(given, events, &mut growth)?;
-        let mut work = growth.work;
-        work.settle()?;
-        Ok(SiteStates { work })
+        let table = settled(growth.work)?;
+        let entries = by_node(alloc, &table)?;
+        Ok(SiteStates { table, entries })
     }
 
-    /// The value of the node with the number in the demand: it leads state 0 to the states in which objects of the site may be there.
+    /// The value of the node with the number in the demand: it leads state 0 to the states in which objects of the site may be there. The time goes by the
+    /// entries that have the node and those that they lead to.
     pub fn value(&self, alloc: Global, node: u32) -> Result<Rel, NoMemory>
-        ensures { IfOk result (λ w. (p : LinkedProgram) (k : ProtocolParts) (q : Asked) (a : ASite) (d : DemandParts) (n : Node) (i : ℕ) → IsTrackSystem p k q a d self.now
+        ensures { IfOk result (λ w. (p : LinkedProgram) (k : ProtocolParts) (q : Asked) (a : ASite) (d : DemandParts) (n : Node) (i : ℕ) → IsTrackTable p k q a d self.now
             → IsAmongSixteen k → slice_get d.nodes node ≡ Some n → i < 16 → Relates w 0 i ↔ ((string : List Place) × Tracks p k q a n string i)) }
     {
-        any_value(alloc, self.work.table(), node)
+        any_value_from(alloc, &self.table, node, self.entries.at(node))
     }
 }

@@ -6,7 +6,7 @@ use Rattle.held_places.specs.Held.{AreHeldIn}
 use Rattle.link_rules.specs.WellLinked.{IsWellLinked}
 use Rattle.link_sites.specs.declared.site.Site.{Site}
 use Rattle.piece_join.specs.Brought.{AllBecome}
-use Rattle.post_star.specs.Jobs.{Job}
+use Rattle.auto_table.specs.Cells.{Cells}
 use Rattle.site_events.specs.Events.{AreEventsIn}
 use Rattle.spds_rules.specs.Demand.{Asked}
 use Rattle.track_events.specs.declared.statement.EventStatement.{EventStatement}
@@ -15,7 +15,7 @@ use Rattle.track_rules.specs.Protocols.{ProtocolParts}
 use Rattle.track_systems.specs.Events.{IsTrackedSite}
 use Rattle.track_tables.specs.declared.given.SolvedDemand.{SolvedDemand}
 use Rattle.track_tables.specs.Making.{AreLoadedIn, AreTrackParts}
-use Rattle.track_tables.specs.Systems.{IsTrackSystem}
+use Rattle.track_tables.specs.Systems.{IsTrackTable}
 use Rattle.weight_laws.specs.declared.rel.Rel.{Rel}
 use Rattle.type_track.specs.declared.search.Search.{Search}
 use Rattle.track_verdicts.specs.declared.verdict.Finding.{Finding}
@@ -45,12 +45,12 @@ pub record IsPosed (q : Asked) (s : Search) : Type 0 where
 abbrev pub IsSiteAt : Search → ℕ → Site → Type 0
 IsSiteAt s number a = slice_get s.given.demand.now.sites number ≡ Some a
 
--- the protocol speaks of the objects of the site with this number, and this is its system
-pub record IsTrackedIn (q : Asked) (a : Site) (s : Search) (number : ℕ) (job : Job Rel) : Type 0 where
+-- the protocol speaks of the objects of the site with this number, and this is the table of its system
+pub record IsTrackedIn (q : Asked) (a : Site) (s : Search) (number : ℕ) (table : Cells Rel) : Type 0 where
   pub posed : IsPosed q s
   pub there : IsSiteAt s number a
   pub tracked : IsTrackedSite s.given.linked.now s.protocol.now a
-  pub system : IsTrackSystem s.given.linked.now s.protocol.now q a s.given.demand.now job
+  pub table_is : IsTrackTable s.given.linked.now s.protocol.now q a s.given.demand.now table
 
 -- the search goes over the site with this number
 pub record MaySearch (s : Search) (number : ℕ) : Type 0 where

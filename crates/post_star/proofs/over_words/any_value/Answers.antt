@@ -1,9 +1,8 @@
-use Rattle.std.proofs.Common.{refl, []}
-use Rattle.post_star.proofs.Gathers.{table_any}
+use Rattle.auto_table.specs.Cells.{by_weight}
 use Rattle.post_star.proofs.over_words.any_value.Goals as goal
 
-pub sum_up-requires : goal.sum_up-requires
-sum_up-requires g c = record { blank = c.new-sums.ensures.table; empty = c.new-sums.ensures.items }
-
-pub returns : goal.returns
-returns g c = table_any g.met.W.Weight.laws c.args.table.now c.in_ok-sum_up.ensures.meant c.args.node c.sum_up.new.sums.table [] refl c.in_ok-sum_up.ensures.sweeping c.in_ok-sum_up.ensures.begun c.sum_at_bases.result c.sum_at_bases.ensures
+pub any_value_from-requires : goal.any_value_from-requires
+any_value_from-requires g c = record {
+  meant = c.entries.ensures.meant;
+  from = record { all = λ e n. c.entries.ensures.listed.all e (by_weight c.args.node n); used = λ e h. c.entries.ensures.listed.used e h };
+}

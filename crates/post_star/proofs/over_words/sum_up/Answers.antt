@@ -21,7 +21,6 @@ loop-item-smaller g c = turn_less g.W.Weight.domain (used_scope c.args.table.now
 
 pub returns : goal.returns
 returns g c = record {
-  meant = c.in_ok-begin.ensures.meant;
   sweeping = subst (λ xs. IsSweeping g.W.Weight.domain c.args.table.now c.args.node c.loop-item.sums.table xs) (no_items c.loop-item.sums.items.items (sym c.loop-item.sums.items.ok.0 ∙ c.in_default.ensures.cases.0)) c.loop-item.invariant.sweeping;
   begun = c.loop-item.invariant.begun;
 }

@@ -21,7 +21,7 @@ add_new-requires-clause-one g c =
 pub loop-i-preserved : goal.loop-i-preserved
 loop-i-preserved g c = record {
   shapes = c.in_ok-add_new.ensures.shapes;
-  rules = rules_more c.args.rules.now c.loop-i.few.items c.add_new.new.few.items c.loop-i.i c.index-rules-i.result c.loop-i-test.true c.index-rules-i.is
+  rules = rules_more c.args.rules.now (Has c.loop-i.few.items) (Has c.add_new.new.few.items) c.loop-i.i c.index-rules-i.result c.loop-i-test.true c.index-rules-i.is
       c.loop-i.invariant.rules c.in_ok-add_new.ensures.rules;
 }
 

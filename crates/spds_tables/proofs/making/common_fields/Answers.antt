@@ -10,5 +10,5 @@ returns-clause-cells c =
     IfOk-weaker c.contracted.result _ _ (λ side have. (
       c.numbered.result.now,
       c.numbered.ensures.value,
-      rw (c.deref.ensures.value, c.in_ok-rules.ensures, c.deref-2.ensures.value, c.in_ok-kept.ensures) at have,
+      rw (c.deref.ensures.value, c.in_ok-rules.ensures, c.deref-3.ensures.value, c.in_ok-kept.ensures) at have,
     )) c.contracted.ensures.cells

@@ -13,6 +13,6 @@ returns c =
     grows_barred q s is.posed a r has _ c.in_ok-relation.relation c.args.findings.now.items c.add_barred.new.findings.items
     (site_read c.sites.result.now s.given.demand.now.sites c.args.number a _ c.sites.ensures is.there) is.tracked
     answered
-    (λ i low. c.in_ok-relation.ensures s.given.linked.now s.protocol.now q a s.given.demand.now n i is.system (sixteen s.protocol.now is.posed.events.form) node low)
+    (λ i low. c.in_ok-relation.ensures s.given.linked.now s.protocol.now q a s.given.demand.now n i is.table_is (sixteen s.protocol.now is.posed.events.form) node low)
     (grown s.given.linked.now))
     c.add_barred.ensures

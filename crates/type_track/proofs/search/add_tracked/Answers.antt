@@ -32,6 +32,6 @@ returns c =
       posed = posed;
       there = there;
       tracked = tracked;
-      system = c.in_ok-states.ensures s.protocol.now q a posed.given.demand posed.given.loaded there events;
+      table_is = c.in_ok-states.ensures s.protocol.now q a posed.given.demand posed.given.loaded there events;
     }))
     c.add_all_at.ensures
