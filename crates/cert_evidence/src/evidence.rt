@@ -75,7 +75,7 @@ impl Evidence {
         Ok(Self { target, work })
     }
 
-    /// The certificate of a site of the answer. Costs time and memory for each line of the trace. Want of memory is the only refusal.
+    /// The certificate of a site of the answer. Costs time and memory for each line of the certificate, and time for the lines that put the site at the target. Want of memory is the only refusal.
     pub fn certificate(&self, alloc: Global, site: Site) -> Result<Certificate, NoMemory>
         requires answered { (p : LinkedProgram) × (t : AnyNode) × IsEvidence p t self.now × IsAnswered p (about t) t site }
         ensures { (p : LinkedProgram) (t : AnyNode) → IsEvidence p t self.now → IsAnswered p (about t) t site → IfOk result (IsExplained p t site) }

@@ -3,14 +3,14 @@ use Rattle.std.proofs.Common.{◌≡◌, ◌≢◌, ◌↔◌, ◌⊎◌, ◌∙
 use Rattle.std.specs.List.{slice_set}
 use Rattle.std.proofs.lemmas.Bool.{false≢true}
 use Rattle.std.proofs.lemmas.List.{map-append}
-use Rattle.lists.specs.Lists.{Has, IsApart}
+use Rattle.lists.specs.Lists.{Has}
 use Rattle.lists.proofs.Places.{IsApart-push, slice_get-append_left, slice_get-below, slice_get-push, slice_get-pushed, slice_get-set_other, slice_get-set_same, slice_get-there}
 use Rattle.cert_rules.specs.declared.fact.Fact.{Fact}
 use Rattle.cert_rules.specs.declared.line.Line.{Line}
-use Rattle.cert_rules.specs.Given.{Facts}
 use Rattle.cert_lines.specs.declared.keys.Known.{Known}
 use Rattle.cert_lines.specs.declared.written.Note.{Note}
-use Rattle.cert_lines.specs.Noted.{AreNotes, GivesAt, IsBestOf, IsBettered, IsNotedIn, IsShortestOf, IsThere, Noted, fact_of, length_at, noted_by, noted_fact, with_line}
+use Rattle.cert_lines.specs.Spread.{known_of}
+use Rattle.cert_lines.specs.Noted.{AreNotes, GivesAt, IsBettered, IsShortestOf, IsThere, Noted, fact_of, length_at, noted_by, noted_fact, with_line}
 use Rattle.cert_lines.proofs.Groups.{length_set}
 
 -- an element of a list that each element of another gave
@@ -36,29 +36,30 @@ same_map f g (x ∷ xs) h = λ j. h 0 x refl j ∷ same_map f g xs (λ i y e. h 
 one_got : {X : Type 0} (xs : List X) (i : ℕ) (x y : X) → slice_get xs i ≡ Some x → slice_get xs i ≡ Some y → x ≡ y
 one_got xs i x y h k = cc
 
-fact_of_some : (k : Option Known) (fact : Fact) → fact_of k ≡ Some fact → k ≡ Some (record { fact = fact })
-fact_of_some None fact h = cc
-fact_of_some (Some k) fact h = let e : k.fact ≡ fact = cc in ap (λ (f : Fact). Some (record { fact = f })) e
+-- each has the number by which its fact is spread
+abbrev AreKnown : List Known → Type 0
+AreKnown facts = (number : ℕ) (k : Known) → slice_get facts number ≡ Some k → k ≡ known_of k.fact
 
-abbrev pub known : Fact → Known
-known fact = record { fact = fact }
+fact_of_some : (k : Option Known) (fact : Fact) → ((x : Known) → k ≡ Some x → x ≡ known_of x.fact) → fact_of k ≡ Some fact → k ≡ Some (known_of fact)
+fact_of_some None fact is h = cc
+fact_of_some (Some k) fact is h = let e : k.fact ≡ fact = cc in ap Some (is k refl ∙ ap known_of e)
 
 module _ (lines : List Line) (facts : List Known) (notes : List Note) where
   abbrev whole : Noted
   whole = noted_by lines facts notes
 
-  pub gives_note : (i : ℕ) (fact : Fact) → GivesAt whole i fact → (n : Note) × (slice_get notes i ≡ Some n) × (slice_get facts n.fact ≡ Some (known fact))
-  gives_note i fact h = let m = got_mapped (noted_fact facts) notes i (Some fact) h in (m.0, m.1, fact_of_some (slice_get facts m.0.fact) fact m.2)
+  pub gives_note : AreKnown facts → (i : ℕ) (fact : Fact) → GivesAt whole i fact → (n : Note) × (slice_get notes i ≡ Some n) × (slice_get facts n.fact ≡ Some (known_of fact))
+  gives_note are i fact h = let m = got_mapped (noted_fact facts) notes i (Some fact) h in (m.0, m.1, fact_of_some (slice_get facts m.0.fact) fact (are m.0.fact) m.2)
 
-  pub note_gives : (i : ℕ) (n : Note) (fact : Fact) → slice_get notes i ≡ Some n → slice_get facts n.fact ≡ Some (known fact) → GivesAt whole i fact
+  pub note_gives : (i : ℕ) (n : Note) (fact : Fact) → slice_get notes i ≡ Some n → slice_get facts n.fact ≡ Some (known_of fact) → GivesAt whole i fact
   note_gives i n fact there named = map_got (noted_fact facts) notes i n there ∙ ap (λ k. Some (fact_of k)) named
 
   pub note_length : (i : ℕ) (n : Note) → slice_get notes i ≡ Some n → length_at whole i ≡ n.length
   note_length i n there = map_or (λ (m : Note). m.length) notes i n there
 
   -- no line gives a fact without a number
-  pub none_gives : (fact : Fact) → (Has facts (known fact) → ⊥) → (i : ℕ) → GivesAt whole i fact → ⊥
-  none_gives fact none i h = let n = gives_note i fact h in none (n.0.fact, n.2)
+  pub none_gives : AreKnown facts → (fact : Fact) → (Has facts (known_of fact) → ⊥) → (i : ℕ) → GivesAt whole i fact → ⊥
+  none_gives are fact none i h = let n = gives_note are i fact h in none (n.0.fact, n.2)
 
   module _ (best : List ℕ) (are : AreNotes lines facts notes best) where
     pub note_there : (i : ℕ) → i < length lines → i < length notes
@@ -70,14 +71,14 @@ module _ (lines : List Line) (facts : List Known) (notes : List Note) where
     pub last_there : (number i : ℕ) → slice_get best number ≡ Some i → i < length notes
     last_there number i h = let b = are.each number i h in slice_get-below notes i b.note b.there
 
-    pub shortest : (fact : Fact) (number i : ℕ) → slice_get facts number ≡ Some (known fact) → slice_get best number ≡ Some i → IsShortestOf whole fact i
+    pub shortest : (fact : Fact) (number i : ℕ) → slice_get facts number ≡ Some (known_of fact) → slice_get best number ≡ Some i → IsShortestOf whole fact i
     shortest fact number i named h =
         let b = are.each number i h in
         record {
           gives = note_gives i b.note fact b.there (ap (slice_get facts) b.of ∙ named);
           least = λ j g.
-              let n = gives_note j fact g in
-              let one : n.0.fact ≡ number = are.apart n.0.fact number (known fact) n.2 named in
+              let n = gives_note are.known j fact g in
+              let one : n.0.fact ≡ number = are.apart n.0.fact number (known_of fact) n.2 named in
               let less = (b.last j n.0 n.1 one).1 in
               omega (arith, less, note_length i b.note b.there, note_length j n.0 n.1);
         }
@@ -85,14 +86,15 @@ module _ (lines : List Line) (facts : List Known) (notes : List Note) where
     pub bettered : (i b : ℕ) (n : Note) → slice_get notes i ≡ Some n → slice_get best n.fact ≡ Some b → b ≢ i → IsBettered whole i
     bettered i b n there h other =
         let k = slice_get-there facts n.fact (are.named i n there) in
+        let k_is = k.1 ∙ ap Some (are.known n.fact k.0 k.1) in
         let is = are.each n.fact b h in
         let last = is.last i n there refl in
         record {
           fact = k.0.fact;
-          gives = note_gives i n k.0.fact there k.1;
+          gives = note_gives i n k.0.fact there k_is;
           further = b;
           behind = lower i b last.0 other;
-          again = note_gives b is.note k.0.fact is.there (ap (slice_get facts) is.of ∙ k.1);
+          again = note_gives b is.note k.0.fact is.there (ap (slice_get facts) is.of ∙ k_is);
           short = omega (arith, last.1, note_length b is.note is.there, note_length i n there);
         }
       where
@@ -101,15 +103,15 @@ module _ (lines : List Line) (facts : List Known) (notes : List Note) where
 
     pub not_last : (i b : ℕ) (n : Note) → slice_get notes i ≡ Some n → slice_get best n.fact ≡ Some b → IsBettered whole i → b ≡ i → ⊥
     not_last i b n there h is e =
-        let first = gives_note i is.fact is.gives in
-        let second = gives_note is.further is.fact is.again in
+        let first = gives_note are.known i is.fact is.gives in
+        let second = gives_note are.known is.further is.fact is.again in
         let same : n.fact ≡ first.0.fact = ap (λ (m : Note). m.fact) (one_got notes i n first.0 there first.1) in
-        let one : second.0.fact ≡ first.0.fact = are.apart second.0.fact first.0.fact (known is.fact) second.2 first.2 in
+        let one : second.0.fact ≡ first.0.fact = are.apart second.0.fact first.0.fact (known_of is.fact) second.2 first.2 in
         let low = ((are.each n.fact b h).last is.further second.0 second.1 (one ∙ sym same)).0 in
         omega (arith, low, is.behind, e)
 
     -- a line more for a fact that has lines, the last of which is longer
-    module _ (line : Line) (fact : Fact) (number last length' : ℕ) (ln : Note) (named : slice_get facts number ≡ Some (known fact)) (is_last : slice_get best number ≡ Some last)
+    module _ (line : Line) (fact : Fact) (number last length' : ℕ) (ln : Note) (named : slice_get facts number ≡ Some (known_of fact)) (is_last : slice_get best number ≡ Some last)
         (there : slice_get notes last ≡ Some ln) (shorter : length' < ln.length) (few : length lines + 3 < 2 ^ 32) where
       abbrev note : Note
       note = record { fact = number; length = length' }
@@ -120,13 +122,14 @@ module _ (lines : List Line) (facts : List Known) (notes : List Note) where
         few = omega (arith, length-append lines (line ∷ []), few);
         rows = length_set best number (length lines) ∙ are.rows;
         apart = are.apart;
+        known = are.known;
         named = λ i n h. elim (slice_get-pushed notes note i n h) [
           | inl before ↦ are.named i n before
-          | inr e ↦ subst (λ (m : Note). m.fact < length facts) (sym e.1) (slice_get-below facts number (known fact) named)
+          | inr e ↦ subst (λ (m : Note). m.fact < length facts) (sym e.1) (slice_get-below facts number (known_of fact) named)
         ];
         each = λ f i h. elim (cases f number) [
           | inl e ↦
-              let is : slice_get (slice_set best number (length lines)) number ≡ Some (length lines) = slice_get-set_same best number (length lines) (best_there number (known fact) named) in
+              let is : slice_get (slice_set best number (length lines)) number ≡ Some (length lines) = slice_get-set_same best number (length lines) (best_there number (known_of fact) named) in
               let at : i ≡ length lines = one_got (slice_set best number (length lines)) number i (length lines) (subst (λ (x : ℕ). slice_get (slice_set best number (length lines)) x ≡ Some i) e h) is in
               record {
                 note = note;
@@ -174,19 +177,23 @@ module _ (lines : List Line) (facts : List Known) (notes : List Note) where
           omega (arith, s, t.short, note_length last ln there, shorter)
 
     -- a line more for a fact that has none
-    module _ (line : Line) (fact : Fact) (length' : ℕ) (new : Has facts (known fact) → ⊥) (few : length lines + 3 < 2 ^ 32) where
+    module _ (line : Line) (fact : Fact) (length' : ℕ) (new : Has facts (known_of fact) → ⊥) (few : length lines + 3 < 2 ^ 32) where
       abbrev first : Note
       first = record { fact = length facts; length = length' }
 
-      pub pushed_new : AreNotes (lines ++ line ∷ []) (facts ++ known fact ∷ []) (notes ++ first ∷ []) (best ++ length lines ∷ [])
+      pub pushed_new : AreNotes (lines ++ line ∷ []) (facts ++ known_of fact ∷ []) (notes ++ first ∷ []) (best ++ length lines ∷ [])
       pushed_new = record {
         as_many = omega (arith, length-append notes (first ∷ []), length-append lines (line ∷ []), are.as_many);
         few = omega (arith, length-append lines (line ∷ []), few);
-        rows = omega (arith, length-append best (length lines ∷ []), length-append facts (known fact ∷ []), are.rows);
-        apart = IsApart-push facts (known fact) are.apart new;
+        rows = omega (arith, length-append best (length lines ∷ []), length-append facts (known_of fact ∷ []), are.rows);
+        apart = IsApart-push facts (known_of fact) are.apart new;
+        known = λ number k h. elim (slice_get-pushed facts (known_of fact) number k h) [
+          | inl before ↦ are.known number k before
+          | inr e ↦ e.1 ∙ ap (λ (x : Known). known_of x.fact) (sym e.1)
+        ];
         named = λ i n h. elim (slice_get-pushed notes first i n h) [
-          | inl before ↦ omega (arith, are.named i n before, length-append facts (known fact ∷ []))
-          | inr e ↦ subst (λ (m : Note). m.fact < length (facts ++ known fact ∷ [])) (sym e.1) (omega (arith, length-append facts (known fact ∷ [])))
+          | inl before ↦ omega (arith, are.named i n before, length-append facts (known_of fact ∷ []))
+          | inr e ↦ subst (λ (m : Note). m.fact < length (facts ++ known_of fact ∷ [])) (sym e.1) (omega (arith, length-append facts (known_of fact ∷ [])))
         ];
         each = λ f i h. elim (slice_get-pushed best (length lines) f i h) [
           | inl before ↦
@@ -213,20 +220,20 @@ module _ (lines : List Line) (facts : List Known) (notes : List Note) where
         ];
       }
 
-      pub noted_new : noted_by (lines ++ line ∷ []) (facts ++ known fact ∷ []) (notes ++ first ∷ []) ≡ with_line whole line fact length'
+      pub noted_new : noted_by (lines ++ line ∷ []) (facts ++ known_of fact ∷ []) (notes ++ first ∷ []) ≡ with_line whole line fact length'
       noted_new =
-          let kept : map (noted_fact (facts ++ known fact ∷ [])) notes ≡ whole.given
-          = same_map (noted_fact (facts ++ known fact ∷ [])) (noted_fact facts) notes (λ i n h.
+          let kept : map (noted_fact (facts ++ known_of fact ∷ [])) notes ≡ whole.given
+          = same_map (noted_fact (facts ++ known_of fact ∷ [])) (noted_fact facts) notes (λ i n h.
           let k = slice_get-there facts n.fact (are.named i n h) in
-          ap fact_of (slice_get-append_left facts (known fact ∷ []) n.fact k.0 k.1 ∙ sym k.1)) in
-          let last : noted_fact (facts ++ known fact ∷ []) first ≡ Some fact = ap fact_of (slice_get-push facts (known fact)) in
-          let given : map (noted_fact (facts ++ known fact ∷ [])) (notes ++ first ∷ []) ≡ whole.given ++ Some fact ∷ []
-          = map-append (noted_fact (facts ++ known fact ∷ [])) notes (first ∷ []) ∙ (λ j. kept j ++ last j ∷ []) in
+          ap fact_of (slice_get-append_left facts (known_of fact ∷ []) n.fact k.0 k.1 ∙ sym k.1)) in
+          let last : noted_fact (facts ++ known_of fact ∷ []) first ≡ Some fact = ap fact_of (slice_get-push facts (known_of fact)) in
+          let given : map (noted_fact (facts ++ known_of fact ∷ [])) (notes ++ first ∷ []) ≡ whole.given ++ Some fact ∷ []
+          = map-append (noted_fact (facts ++ known_of fact ∷ [])) notes (first ∷ []) ∙ (λ j. kept j ++ last j ∷ []) in
           let lengths : map (λ (m : Note). m.length) (notes ++ first ∷ []) ≡ whole.lengths ++ length' ∷ [] = map-append (λ (m : Note). m.length) notes (first ∷ []) in
           λ j. record { lines = lines ++ line ∷ []; given = given j; lengths = lengths j }
 
       pub none_there : IsThere whole fact length' → ⊥
-      none_there t = none_gives fact new t.at t.gives
+      none_there t = none_gives are.known fact new t.at t.gives
 
 -- a line that was put last gives its fact
 pub last_gives : (w : Noted) (line : Line) (fact : Fact) (n : ℕ) (i : ℕ) → i ≡ length w.given → GivesAt (with_line w line fact n) i fact

@@ -1,5 +1,5 @@
 -- Elements by their keys.
-use Rattle.std.specs.Prelude.{◌≡◌, ℕ, length}
+use Rattle.std.specs.Prelude.{◌≡◌, length}
 use Rattle.lists.specs.Groups.{Grouped}
 use Rattle.lists.specs.Lists.{IsApart}
 

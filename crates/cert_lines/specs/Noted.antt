@@ -6,6 +6,7 @@ use Rattle.cert_rules.specs.declared.line.Line.{Line}
 use Rattle.cert_rules.specs.Given.{Facts}
 use Rattle.cert_lines.specs.declared.keys.Known.{Known}
 use Rattle.cert_lines.specs.declared.written.Note.{Note}
+use Rattle.cert_lines.specs.Spread.{known_of}
 
 -- lines, what they give, and their lengths, all by their numbers from 0
 pub record Noted : Type 0 where
@@ -75,5 +76,6 @@ pub record AreNotes (lines : List Line) (facts : List Known) (notes : List Note)
   pub few : length lines + 2 < 2 ^ 32
   pub rows : length best ≡ length facts
   pub apart : IsApart facts
+  pub known : (number : ℕ) (k : Known) → slice_get facts number ≡ Some k → k ≡ known_of k.fact
   pub named : (i : ℕ) (n : Note) → slice_get notes i ≡ Some n → n.fact < length facts
   pub each : (fact i : ℕ) → slice_get best fact ≡ Some i → IsBestOf notes fact i

@@ -1,5 +1,5 @@
 -- The derived tests on facts and on what they are looked for by are equality.
-use Rattle.std.proofs.Common.{◌≡◌, eqb-true, true, refl}
+use Rattle.std.proofs.Common.{◌≡◌, eqb-true, true}
 use Rattle.std.proofs.lemmas.Bool.{and_parts, false≢true}
 use Rattle.spds_rules.specs.declared.store.StoreAt.{StoreAt}
 use Rattle.spds_rules.specs.contracts.store.StoreAtPartialEq.TheImpl as store
@@ -97,4 +97,8 @@ same_fact (Met o b s) (Link t u f c) h = absurd (false≢true h)
 same_fact (Met o b s) (Shared u c d m) h = absurd (false≢true h)
 
 pub same_known : (x y : Known) → known.eq-value.it x y ≡ true → x ≡ y
-same_known x y h = let is = same_fact x.fact y.fact h in λ j. record { fact = is j }
+same_known x y h =
+    let p = and_parts _ _ h in
+    let spread = eqb-true x.spread y.spread p.0 in
+    let is = same_fact x.fact y.fact p.1 in
+    λ j. record { spread = spread j; fact = is j }

@@ -11,6 +11,7 @@ use Rattle.cert_rules.specs.declared.fact.Fact.{Fact}
 use Rattle.cert_rules.specs.declared.fact.Fact.TheVariants.{At, Link, Shared, Met}
 use Rattle.cert_rules.specs.declared.line.Side.{Side}
 use Rattle.cert_rules.specs.declared.line.Side.TheVariants as side
+use Rattle.cert_lines.specs.declared.keys.Known.{Known}
 use Rattle.cert_lines.specs.declared.keys.Spot.{Spot}
 use Rattle.cert_lines.specs.declared.keys.Word.{Word}
 
@@ -52,3 +53,7 @@ fact_spread (At side site entry node) = mix (word_spread (record { side = side; 
 fact_spread (Link side site entry below) = mix (word_spread (record { side = side; site = site; entry = entry })) (entry_spread below)
 fact_spread (Shared object arg base at) = mix (spot_spread (record { site = object; node = arg })) (spot_spread (record { site = base; node = at }))
 fact_spread (Met object base store) = mix (mix (site_spread object) (site_spread base)) (store_spread store)
+
+-- the fact with the number by which it is spread
+abbrev pub known_of : Fact → Known
+known_of fact = record { spread = fact_spread fact; fact = fact }

@@ -1,16 +1,29 @@
 //! What facts and lines are looked for by.
 ghost use Rattle.std.specs.Prelude.{◌≡◌};
-ghost use Rattle.cert_lines.specs.Spread.{entry_spread, fact_spread, mix, place_spread, site_spread, store_spread};
+ghost use Rattle.cert_lines.specs.Spread.{entry_spread, fact_spread, known_of, mix, place_spread, site_spread, store_spread};
 
 use cert_rules::{Entry, Fact, Side};
 use link_sites::{Place, Site};
 use lists::Key;
 use spds_rules::{Node, StoreAt};
 
-/// A fact.
+/// A fact, with the number by which it is spread. That is made once, and compared first.
 #[derive(Clone, Copy, Debug, PartialEq, Eq)]
 pub struct Known {
+    spread: u64,
     pub fact: Fact,
+}
+
+impl Known {
+    /// Of a fact.
+    pub fn of(fact: Fact) -> Self
+        ensures { result ≡ known_of fact }
+    {
+        Known {
+            spread: fact_spread(fact),
+            fact,
+        }
+    }
 }
 
 /// The words under which objects of a site are, by their entry.
@@ -165,10 +178,10 @@ impl Key for Origin {
 impl Key for Known {
     ghost use Rattle.cert_lines.specs.SameKeys.{same_known};
 
-    ghost spread = { λ k. fact_spread k.fact };
+    ghost spread = { λ k. k.spread };
 
     fn spread(self) -> u64 {
-        fact_spread(self.fact)
+        self.spread
     }
 
     ghost same = { same_known };

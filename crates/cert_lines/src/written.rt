@@ -151,7 +151,7 @@ impl Written {
         ensures some { IfSome result (λ number. IsShortestOf self.now fact number) }
         ensures none { IfNone result ((number : ℕ) → GivesAt self.now number fact → ⊥) }
     {
-        let number = self.facts.find(Known { fact })?;
+        let number = self.facts.find(Known::of(fact))?;
         Some(self.best[number as usize])
     }
 
@@ -162,7 +162,7 @@ impl Written {
         ensures ok { OnOk result (IsNotedIn self.old self.new line fact length) }
         ensures err { OnErr result (self.new ≡ self.old) }
     {
-        let known = Known { fact };
+        let known = Known::of(fact);
         if let Some(number) = self.facts.find(known) {
             let last = self.best[number as usize];
             if self.notes[last as usize].length <= length {

@@ -105,7 +105,7 @@ in_two P a b h k zero number there = let same : a ≡ number = cc in subst P sam
 in_two P a b h k (suc i) number there = in_one P b k i number there
 
 -- a number of two lists is one of either
-has_or : (xs ys : List ℕ) (i number : ℕ) → slice_get (xs ++ ys) i ≡ Some number → Has xs number ⊎ Has ys number
+pub has_or : (xs ys : List ℕ) (i number : ℕ) → slice_get (xs ++ ys) i ≡ Some number → Has xs number ⊎ Has ys number
 has_or [] ys i number there = inr (i, there)
 has_or (x ∷ xs) ys zero number there = inl (zero, there)
 has_or (x ∷ xs) ys (suc i) number there = elim (has_or xs ys i number there) [ inl a ↦ inl (suc a.0, a.1) | inr b ↦ inr b ]

@@ -1,3 +1,7 @@
+mod Ascending
+mod Found
+mod Taken
+mod Marks
 mod Selecting
 mod Marking
 pub mod Anew

@@ -1,180 +1,105 @@
--- The marks of the lines that a claim needs.
-use Rattle.std.proofs.Common.{◌≡◌, ◌⊎◌, ℕ, zero, suc, ◌+◌, ◌<◌, ◌≤◌, Bool, true, false, List, [], ◌∷◌, ◌++◌, Some, length, replicate, slice_get, refl, sym, ap, subst, ◌∙◌, inl, inr, arith}
-use Rattle.std.specs.List.{slice_set}
+-- Marks for ascending numbers: the lines with these numbers are the marked ones, and the place of a number counts the marks.
+use Rattle.std.proofs.Common.{◌≡◌, ℕ, zero, suc, ◌+◌, ◌<◌, ◌≤◌, ◌↔◌, Bool, true, false, List, [], ◌∷◌, ◌++◌, Some, length, map, slice_get, refl, sym, ap, subst, ◌∙◌, arith}
+use Rattle.std.specs.Prelude.{eqb}
+use Rattle.std.specs.Cmp.{unsigned_Decides}
+use Rattle.std.specs.Set.{is_member}
+use Rattle.std.proofs.lemmas.List.{length-map}
+use Rattle.std.proofs.lemmas.Map.Made.{is_member-Decides}
+use Rattle.std.proofs.lemmas.Option.{slice_get-get_or}
 use Rattle.lists.specs.Lists.{Has}
-use Rattle.lists.proofs.Places.{slice_get-append_left, slice_get-below, slice_get-push, slice_get-set_same}
+use Rattle.lists.proofs.Places.{slice_get-below, slice_get-there}
+use Rattle.jim_ast.proofs.Places.{slice_get-extensional}
+use Rattle.link_program.proofs.Found.{from_map}
 use Rattle.cert_rules.specs.declared.line.Line.{Line}
-use Rattle.cert_make.specs.Marks.{IsMarked, MarksNeeded, marked, marked_all}
-use Rattle.cert_make.specs.Needs.{CiteBack, CitesLine, IsNeeded, numbers_of}
+use Rattle.cert_make.specs.Needs.{CiteBack, IsNeeded, renumbered}
+use Rattle.cert_make.specs.Numbers.{AreAnew, AreNumbers, up_to}
+use Rattle.cert_make.proofs.Ascending.{contained, parted, there_from, up_to_at, up_to_next, up_to_other}
+use Rattle.cert_make.proofs.Found.{needed_within}
+use Rattle.cert_make.proofs.Marks.{IsAnew, IsMarked, MarksNeeded, rank, selected}
+use Rattle.cert_make.proofs.Selecting.{chosen, length-selected, rank-none, rank-suc_marked, rank-suc_other}
 
--- a place from the one on is behind it, or is the one
-le_cases : (left i : ℕ) → left ≤ i → (left + 1 ≤ i) ⊎ (left ≡ i)
-le_cases zero zero less = inr refl
-le_cases zero (suc i) less = inl (omega arith)
-le_cases (suc left) zero less = absurd (omega arith)
-le_cases (suc left) (suc i) less = elim (le_cases left i (omega arith)) [ inl a ↦ inl (omega arith) | inr b ↦ inr (ap suc b) ]
+-- for so many numbers behind one, whether each is among these
+abbrev pub marks_behind : List ℕ → ℕ → ℕ → List Bool
+marks_behind numbers i zero = []
+marks_behind numbers i (suc count) = is_member eqb numbers (suc i) ∷ marks_behind numbers (suc i) count
 
-pub marked_all-push : (marks : List Bool) (numbers : List ℕ) (number : ℕ) → marked_all marks (numbers ++ number ∷ []) ≡ marked (marked_all marks numbers) number
-marked_all-push marks [] number = refl
-marked_all-push marks (n ∷ numbers) number = marked_all-push (marked marks n) numbers number
+length-marks_behind : (numbers : List ℕ) (i count : ℕ) → length (marks_behind numbers i count) ≡ count
+length-marks_behind numbers i zero = refl
+length-marks_behind numbers i (suc count) = ap suc (length-marks_behind numbers (suc i) count)
 
-pub marked_all-append : (marks : List Bool) (first second : List ℕ) → marked_all marks (first ++ second) ≡ marked_all (marked_all marks first) second
-marked_all-append marks [] second = refl
-marked_all-append marks (n ∷ first) second = marked_all-append (marked marks n) first second
+marks_behind_at : (numbers : List ℕ) (i count j : ℕ) → j < count → slice_get (marks_behind numbers i count) j ≡ Some (is_member eqb numbers (suc (i + j)))
+marks_behind_at numbers i zero j less = absurd (omega (arith, less))
+marks_behind_at numbers i (suc count) zero less = let same : i ≡ i + 0 = omega arith in ap (λ (k : ℕ). Some (is_member eqb numbers (suc k))) same
+marks_behind_at numbers i (suc count) (suc j) less =
+    let same : suc i + j ≡ i + suc j = omega arith in
+    marks_behind_at numbers (suc i) count j (omega (arith, less)) ∙ ap (λ (k : ℕ). Some (is_member eqb numbers (suc k))) same
 
-length-set : (marks : List Bool) (i : ℕ) → length (slice_set marks i true) ≡ length marks
-length-set [] i = refl
-length-set (mark ∷ marks) zero = refl
-length-set (mark ∷ marks) (suc i) = ap suc (length-set marks i)
+module _ (lines : List Line) (claim : Line) (numbers : List ℕ) (back : CiteBack (lines ++ claim ∷ []))
+    (exact : (number : ℕ) → Has numbers number ↔ IsNeeded lines claim number) (are : AreNumbers numbers) where
+  -- a mark for each line: whether the claim needs it
+  abbrev pub marks_for : List Bool
+  marks_for = marks_behind numbers 0 (length lines)
 
-length-marked : (marks : List Bool) (number : ℕ) → length (marked marks number) ≡ length marks
-length-marked marks zero = refl
-length-marked marks (suc i) = length-set marks i
+  as_many : length marks_for ≡ length lines
+  as_many = length-marks_behind numbers 0 (length lines)
 
-pub length-marked_all : (marks : List Bool) (numbers : List ℕ) → length (marked_all marks numbers) ≡ length marks
-length-marked_all marks [] = refl
-length-marked_all marks (n ∷ numbers) = length-marked_all (marked marks n) numbers ∙ length-marked marks n
+  mark_there : (i : ℕ) → i < length lines → slice_get marks_for i ≡ Some (is_member eqb numbers (suc i))
+  mark_there i less = let same : 0 + i ≡ i = omega arith in marks_behind_at numbers 0 (length lines) i less ∙ ap (λ (k : ℕ). Some (is_member eqb numbers (suc k))) same
 
--- what is marked stays so
-set_stays : (marks : List Bool) (i j : ℕ) → slice_get marks j ≡ Some true → slice_get (slice_set marks i true) j ≡ Some true
-set_stays [] i j at = at
-set_stays (mark ∷ marks) zero zero at = refl
-set_stays (mark ∷ marks) zero (suc j) at = at
-set_stays (mark ∷ marks) (suc i) zero at = at
-set_stays (mark ∷ marks) (suc i) (suc j) at = set_stays marks i j at
+  within : (number : ℕ) → Has numbers number → (0 < number) × (number ≤ length lines)
+  within number has = needed_within lines claim back number ((exact number).0 has)
 
--- what is marked was, or is the one
-set_or : (marks : List Bool) (i j : ℕ) → slice_get (slice_set marks i true) j ≡ Some true → (slice_get marks j ≡ Some true) ⊎ (i ≡ j)
-set_or [] i j at = inl at
-set_or (mark ∷ marks) zero zero at = inr refl
-set_or (mark ∷ marks) zero (suc j) at = inl at
-set_or (mark ∷ marks) (suc i) zero at = inl at
-set_or (mark ∷ marks) (suc i) (suc j) at = elim (set_or marks i j at) [ inl a ↦ inl a | inr b ↦ inr (ap suc b) ]
+  from_mark : (i : ℕ) → slice_get marks_for i ≡ Some true → Has numbers (suc i)
+  from_mark i at =
+      let there = mark_there i (omega (arith, as_many, slice_get-below marks_for i true at)) in
+      let is : is_member eqb numbers (suc i) ≡ true = cc in
+      there_from numbers (suc i) ((is_member-Decides unsigned_Decides numbers (suc i)).0 is)
 
-marked_stays : (marks : List Bool) (n number : ℕ) → IsMarked marks number → IsMarked (marked marks n) number
-marked_stays marks zero number at = at
-marked_stays marks (suc i) zero at = at
-marked_stays marks (suc i) (suc j) at = set_stays marks i j at
+  to_mark : (i : ℕ) → Has numbers (suc i) → slice_get marks_for i ≡ Some true
+  to_mark i has = mark_there i (omega (arith, (within (suc i) has).1)) ∙ ap Some ((is_member-Decides unsigned_Decides numbers (suc i)).1 (contained numbers (suc i) has))
 
-marked_or : (marks : List Bool) (n number : ℕ) → IsMarked (marked marks n) number → IsMarked marks number ⊎ (n ≡ number)
-marked_or marks zero number at = inl at
-marked_or marks (suc i) zero at = inl at
-marked_or marks (suc i) (suc j) at = elim (set_or marks i j at) [ inl a ↦ inl a | inr b ↦ inr (ap suc b) ]
-
-marked_there : (marks : List Bool) (number : ℕ) → 0 < number → number ≤ length marks → IsMarked (marked marks number) number
-marked_there marks zero some within = absurd (omega arith)
-marked_there marks (suc i) some within = slice_get-set_same marks i true (omega arith)
-
-pub all_stay : (marks : List Bool) (numbers : List ℕ) (number : ℕ) → IsMarked marks number → IsMarked (marked_all marks numbers) number
-all_stay marks [] number at = at
-all_stay marks (n ∷ numbers) number at = all_stay (marked marks n) numbers number (marked_stays marks n number at)
-
-pub all_or : (marks : List Bool) (numbers : List ℕ) (number : ℕ) → IsMarked (marked_all marks numbers) number → IsMarked marks number ⊎ Has numbers number
-all_or marks [] number at = inl at
-all_or marks (n ∷ numbers) number at =
-    elim (all_or (marked marks n) numbers number at) [
-      | inl before ↦ elim (marked_or marks n number before) [ inl a ↦ inl a | inr b ↦ inr (zero, ap Some b) ]
-      | inr has ↦ inr (suc has.0, has.1)
-    ]
-
-all_there_at : (marks : List Bool) (numbers : List ℕ) (i number : ℕ) → slice_get numbers i ≡ Some number → 0 < number → number ≤ length marks → IsMarked (marked_all marks numbers) number
-all_there_at marks [] i number there some within = cc
-all_there_at marks (n ∷ numbers) zero number there some within =
-    let same : number ≡ n = cc in
-    all_stay (marked marks n) numbers number (subst (λ (k : ℕ). IsMarked (marked marks k) number) same (marked_there marks number some within))
-all_there_at marks (n ∷ numbers) (suc i) number there some within =
-    all_there_at (marked marks n) numbers i number there some (omega (arith, length-marked marks n))
-
-pub all_there : (marks : List Bool) (numbers : List ℕ) (number : ℕ) → Has numbers number → 0 < number → number ≤ length marks → IsMarked (marked_all marks numbers) number
-all_there marks numbers number has some within = all_there_at marks numbers has.0 number has.1 some within
-
--- nothing is marked at first
-none_at : (n i : ℕ) → slice_get (replicate n false) i ≡ Some true → ⊥
-none_at zero i at = cc
-none_at (suc n) zero at = cc
-none_at (suc n) (suc i) at = none_at n i at
-
-none_marked : (n number : ℕ) → IsMarked (replicate n false) number → ⊥
-none_marked n zero at = at
-none_marked n (suc i) at = none_at n i at
-
-length-none : (n : ℕ) → length (replicate n false) ≡ n
-length-none zero = refl
-length-none (suc n) = ap suc (length-none n)
-
-module _ (lines : List Line) (claim : Line) where
-  -- the claim's lines are marked, and what marked lines from the one on cite
-  pub record AreMarkedFrom (left : ℕ) (marks : List Bool) : Type 0 where
-    pub as_many : length marks ≡ length lines
-    pub within : left ≤ length lines
-    pub sound : (number : ℕ) → IsMarked marks number → IsNeeded lines claim number
-    pub claimed : (number : ℕ) → CitesLine claim number → IsMarked marks number
-    pub closed : (i : ℕ) (l : Line) (number : ℕ) → left ≤ i → slice_get lines i ≡ Some l → IsMarked marks (suc i) → CitesLine l number → IsMarked marks number
-
-  module _ (back : CiteBack (lines ++ claim ∷ [])) where
-    pub line_back : (i : ℕ) (l : Line) (number : ℕ) → slice_get lines i ≡ Some l → CitesLine l number → (0 < number) × (number ≤ i)
-    line_back i l number there cites = back i l number (slice_get-append_left lines (claim ∷ []) i l there) cites
-
-    pub claim_back : (number : ℕ) → CitesLine claim number → (0 < number) × (number ≤ length lines)
-    claim_back number cites = back (length lines) claim number (slice_get-push lines claim) cites
-
-    pub marked_first : (marks : List Bool) → marks ≡ replicate (length lines) false → AreMarkedFrom (length lines) (marked_all marks (numbers_of claim))
-    marked_first marks first = record {
-      as_many = length-marked_all marks (numbers_of claim) ∙ many;
-      within = omega arith;
-      sound = λ number at. elim (all_or marks (numbers_of claim) number at) [
-        | inl before ↦ absurd (none_marked (length lines) number (subst (λ (m : List Bool). IsMarked m number) first before))
-        | inr has ↦ IsNeeded.by_claim has
-      ];
-      claimed = λ number cites.
-          let b = claim_back number cites in
-          all_there marks (numbers_of claim) number cites b.0 (omega (arith, many, b.1));
-      closed = λ i l number from there at cites. absurd (omega (arith, slice_get-below lines i l there));
-    }
-      where
-        many : length marks ≡ length lines
-        many = ap length first ∙ length-none (length lines)
-
-    -- a line that isn't marked
-    pub marked_past : (left : ℕ) (marks : List Bool) → AreMarkedFrom (left + 1) marks → slice_get marks left ≡ Some false → AreMarkedFrom left marks
-    marked_past left marks are not = record {
-      as_many = are.as_many;
-      within = omega (arith, are.within);
-      sound = are.sound;
-      claimed = are.claimed;
-      closed = λ i l number from there at cites. elim (le_cases left i from) [
-        | inl more ↦ are.closed i l number more there at cites
-        | inr same ↦ let at_left : slice_get marks left ≡ Some true = subst (λ (k : ℕ). slice_get marks k ≡ Some true) (sym same) at in cc
-      ];
-    }
-
-    -- and one that is
-    pub marked_more : (left : ℕ) (marks : List Bool) (l : Line) → AreMarkedFrom (left + 1) marks → slice_get marks left ≡ Some true → slice_get lines left ≡ Some l
-        → AreMarkedFrom left (marked_all marks (numbers_of l))
-    marked_more left marks l are at_left there_left = record {
-      as_many = length-marked_all marks (numbers_of l) ∙ are.as_many;
-      within = omega (arith, are.within);
-      sound = λ number at. elim (all_or marks (numbers_of l) number at) [
-        | inl before ↦ are.sound number before
-        | inr has ↦ IsNeeded.by_line l (are.sound (suc left) at_left) there_left has
-      ];
-      claimed = λ number cites. all_stay marks (numbers_of l) number (are.claimed number cites);
-      closed = λ i k number from there at cites. elim (le_cases left i from) [
-        | inl more ↦ elim (all_or marks (numbers_of l) (suc i) at) [
-          | inl before ↦ all_stay marks (numbers_of l) number (are.closed i k number more there before cites)
-          | inr has ↦ let b = line_back left l (suc i) there_left has in absurd (omega (arith, b.1, more))
-        ]
-        | inr same ↦
-            let there_same : slice_get lines left ≡ Some k = subst (λ (n : ℕ). slice_get lines n ≡ Some k) (sym same) there in
-            let one : k ≡ l = cc in
-            let b = line_back left k number there_same cites in
-            all_there marks (numbers_of l) number (subst (λ (x : Line). CitesLine x number) one cites) b.0 (omega (arith, are.as_many, are.within, b.1))
-      ];
-    }
-
-  pub all_marked : (marks : List Bool) → AreMarkedFrom 0 marks → MarksNeeded lines claim marks
-  all_marked marks are = record { as_many = are.as_many; exact = λ number. (are.sound number, complete number) }
+  pub marks_needed : MarksNeeded lines claim marks_for
+  marks_needed = record { as_many = as_many; exact = at }
     where
-      complete : (number : ℕ) → IsNeeded lines claim number → IsMarked marks number
-      complete number (IsNeeded.by_claim cites) = are.claimed number cites
-      complete number (IsNeeded.by_line {i} l h there cites) = are.closed i l number (omega arith) there (complete (suc i) h) cites
+      at : (number : ℕ) → IsMarked marks_for number ↔ IsNeeded lines claim number
+      at zero = (λ h. absurd h, λ h. absurd (omega (arith, (needed_within lines claim back zero h).0)))
+      at (suc i) = (λ h. (exact (suc i)).0 (from_mark i h), λ h. to_mark i ((exact (suc i)).1 h))
+
+  -- as many numbers are at most one as lines up to it are marked
+  rank_by : (i : ℕ) (mark : Bool) → slice_get marks_for i ≡ Some mark → rank marks_for i ≡ up_to numbers i → rank marks_for (suc i) ≡ up_to numbers (suc i)
+  rank_by i true at before = rank-suc_marked marks_for i at ∙ ap suc before ∙ sym (up_to_next numbers are.ascending i (from_mark i at))
+  rank_by i false at before = rank-suc_other marks_for i at ∙ before ∙ sym (up_to_other numbers i (λ has. let yes = to_mark i has in cc))
+
+  rank_is : (i : ℕ) → i ≤ length lines → rank marks_for i ≡ up_to numbers i
+  rank_is zero less =
+      let none = parted numbers 0 0 (omega arith) (λ k low. absurd (omega (arith, low)))
+      (λ k from low. omega (arith, (within _ (k, slice_get-get_or numbers k 0 low)).0)) in
+      rank-none marks_for ∙ sym none
+  rank_is (suc i) less =
+      let m = slice_get-there marks_for i (omega (arith, as_many, less)) in
+      rank_by i m.0 m.1 (rank_is i (omega (arith, less)))
+
+  pub is_anew : IsAnew marks_for (up_to numbers)
+  is_anew i at =
+      let low = slice_get-below marks_for i true at in
+      up_to_next numbers are.ascending i (from_mark i at) ∙ ap suc (sym (rank_is i (omega (arith, as_many, low))))
+
+  -- and the lines with the numbers are the marked ones
+  pub as_selected : (found : List Line) → AreAnew numbers lines found → found ≡ map (renumbered (up_to numbers)) (selected marks_for lines)
+  as_selected found anew = slice_get-extensional found (map (renumbered (up_to numbers)) (selected marks_for lines)) many (λ j x y there is. let other = at j y is in cc)
+    where
+      all : up_to numbers (length lines) ≡ length numbers
+      all = parted numbers (length lines) (length numbers) (omega arith) (λ k low. (within _ (k, slice_get-get_or numbers k 0 low)).1) (λ k from low. absurd (omega (arith, from, low)))
+
+      many : length found ≡ length (map (renumbered (up_to numbers)) (selected marks_for lines))
+      many =
+          anew.as_many ∙ sym all ∙ sym (rank_is (length lines) (omega arith)) ∙ sym (length-selected marks_for lines) ∙ sym (length-map (selected marks_for lines) (renumbered (up_to numbers)))
+
+      at : (j : ℕ) (y : Line) → slice_get (map (renumbered (up_to numbers)) (selected marks_for lines)) j ≡ Some y → slice_get found j ≡ Some y
+      at j y is =
+          let m = from_map (renumbered (up_to numbers)) (selected marks_for lines) j y is in
+          let c = chosen marks_for lines j m.0 m.1 in
+          let has = from_mark c.from c.at in
+          let place : suc has.0 ≡ suc j = sym (up_to_at numbers are.ascending has.0 (suc c.from) has.1) ∙ is_anew c.from c.at ∙ ap suc (sym c.place) in
+          let same : has.0 ≡ j = omega (arith, place) in
+          anew.each j c.from m.0 (subst (λ (k : ℕ). slice_get numbers k ≡ Some (suc c.from)) same has.1) c.there ∙ ap Some m.2

@@ -1,10 +1,6 @@
 -- Marked elements, and how many of them stand before a place.
-use Rattle.std.proofs.Common.{◌≡◌, ℕ, zero, suc, ◌+◌, ◌<◌, ◌≤◌, ◌^◌, Bool, true, false, List, [], ◌∷◌, ◌++◌, Some, get_or, length, slice_get, slice_set, take, refl, sym, ap, ◌∙◌, arith, length-append}
-use Rattle.std.proofs.lemmas.List.{length-set, length-take}
-use Rattle.std.proofs.lemmas.Option.{get_or_from_slice_get, slice_get-get_or}
-use borrow.Author.Count.{below_more}
-use Rattle.lists.proofs.Places.{slice_get-append_left, slice_get-below, slice_get-push, slice_get-set_other, slice_get-set_same, take-next}
-use Rattle.cert_make.specs.Marks.{IsAnew, numbered, rank, selected}
+use Rattle.std.proofs.Common.{◌≡◌, ℕ, zero, suc, ◌<◌, ◌≤◌, Bool, true, false, List, [], ◌∷◌, ◌++◌, Some, length, slice_get, take, refl, ap, arith}
+use Rattle.cert_make.proofs.Marks.{rank, selected}
 
 -- up to a place there are no more than places
 pub rank_within : (marks : List Bool) (i : ℕ) → rank marks i ≤ i
@@ -38,63 +34,19 @@ rank-none [] = refl
 rank-none (mark ∷ marks) = refl
 
 -- one place more
-rank-suc_marked : (marks : List Bool) (i : ℕ) → slice_get marks i ≡ Some true → rank marks (suc i) ≡ suc (rank marks i)
+pub rank-suc_marked : (marks : List Bool) (i : ℕ) → slice_get marks i ≡ Some true → rank marks (suc i) ≡ suc (rank marks i)
 rank-suc_marked [] i at = cc
 rank-suc_marked (true ∷ marks) zero at = ap suc (rank-none marks)
 rank-suc_marked (false ∷ marks) zero at = cc
 rank-suc_marked (true ∷ marks) (suc i) at = ap suc (rank-suc_marked marks i at)
 rank-suc_marked (false ∷ marks) (suc i) at = rank-suc_marked marks i at
 
-rank-suc_other : (marks : List Bool) (i : ℕ) → slice_get marks i ≡ Some false → rank marks (suc i) ≡ rank marks i
+pub rank-suc_other : (marks : List Bool) (i : ℕ) → slice_get marks i ≡ Some false → rank marks (suc i) ≡ rank marks i
 rank-suc_other [] i at = cc
 rank-suc_other (true ∷ marks) zero at = cc
 rank-suc_other (false ∷ marks) zero at = rank-none marks
 rank-suc_other (true ∷ marks) (suc i) at = ap suc (rank-suc_other marks i at)
 rank-suc_other (false ∷ marks) (suc i) at = rank-suc_other marks i at
-
--- the numbers of the marked elements before a place, and the next
-pub record AreNumbered (marks : List Bool) (i next : ℕ) (numbers : List ℕ) : Type 0 where
-  pub as_many : length numbers ≡ length marks
-  pub count : next ≡ suc (rank marks i)
-  pub each : (k : ℕ) → k < i → slice_get marks k ≡ Some true → slice_get numbers k ≡ Some (suc (rank marks k))
-
-pub numbered_none : (marks : List Bool) (numbers : List ℕ) → length numbers ≡ length marks → AreNumbered marks 0 1 numbers
-numbered_none marks numbers many = record { as_many = many; count = ap suc (sym (rank-none marks)); each = λ k less. absurd (omega arith) }
-
-module _ (marks : List Bool) (i next : ℕ) (numbers : List ℕ) (are : AreNumbered marks i next numbers) where
-  one_more : suc i ≡ i + 1
-  one_more = omega arith
-
-  pub numbered_marked : slice_get marks i ≡ Some true → AreNumbered marks (i + 1) (suc next) (slice_set numbers i next)
-  numbered_marked at =
-      let within : i < length numbers = omega (arith, are.as_many, slice_get-below marks i true at) in
-      record {
-        as_many = omega (arith, are.as_many, length-set numbers i next);
-        count = ap suc (are.count ∙ sym (rank-suc_marked marks i at) ∙ ap (rank marks) one_more);
-        each = below_more (λ (k : ℕ). slice_get marks k ≡ Some true → slice_get (slice_set numbers i next) k ≡ Some (suc (rank marks k))) i
-            (λ k less here. slice_get-set_other numbers i k next (λ same. omega (arith, less, same)) ∙ are.each k less here)
-            (λ here. slice_get-set_same numbers i next within ∙ ap Some are.count);
-      }
-
-  pub numbered_other : slice_get marks i ≡ Some false → AreNumbered marks (i + 1) next numbers
-  numbered_other at = record {
-    as_many = are.as_many;
-    count = are.count ∙ ap suc (sym (rank-suc_other marks i at) ∙ ap (rank marks) one_more);
-    each = below_more (λ (k : ℕ). slice_get marks k ≡ Some true → slice_get numbers k ≡ Some (suc (rank marks k))) i are.each (λ here. cc (here, at));
-  }
-
-  -- all of them
-  pub numbered_all : length marks ≤ i → IsAnew marks (numbered numbers)
-  numbered_all all k at = get_or_from_slice_get numbers k (suc (rank marks k)) 0 (are.each k (omega (arith, slice_get-below marks k true at)) at)
-
--- a mark as indexing reads it
-pub mark_at : (marks : List Bool) (i : ℕ) (mark : Bool) → i < length marks → get_or marks i false ≡ mark → slice_get marks i ≡ Some mark
-mark_at marks i mark less read = slice_get-get_or marks i false less ∙ ap Some read
-
--- numbers of 32 bits
-pub numbered_roomy : (numbers : List ℕ) → ((i : ℕ) → get_or numbers i 0 < 2 ^ 32) → (number : ℕ) → numbered numbers number < 2 ^ 32
-numbered_roomy numbers roomy zero = omega arith
-numbered_roomy numbers roomy (suc i) = roomy i
 
 module _ {X : Type 0} where
   pub selected-none : (marks : List Bool) → selected {X = X} marks [] ≡ []
@@ -162,15 +114,3 @@ module _ {X : Type 0} where
   selected-push_other (false ∷ marks) [] x at = selected-none marks
   selected-push_other (true ∷ marks) (y ∷ xs) x at = ap (λ (ys : List X). y ∷ ys) (selected-push_other marks xs x at)
   selected-push_other (false ∷ marks) (y ∷ xs) x at = selected-push_other marks xs x at
-
-  front_count : (xs : List X) (i : ℕ) (x : X) → slice_get xs i ≡ Some x → length (take i xs) ≡ i
-  front_count xs i x there = omega (arith, length-take i xs, slice_get-below xs i x there)
-
-  -- the elements before a place, and the one there
-  pub selected-next_marked : (marks : List Bool) (xs : List X) (i : ℕ) (x : X) → slice_get marks i ≡ Some true → slice_get xs i ≡ Some x → selected marks (take (i + 1) xs) ≡ selected marks (take i xs) ++ x ∷ []
-  selected-next_marked marks xs i x at there =
-      ap (selected marks) (take-next xs i x there) ∙ selected-push_marked marks (take i xs) x (ap (slice_get marks) (front_count xs i x there) ∙ at)
-
-  pub selected-next_other : (marks : List Bool) (xs : List X) (i : ℕ) (x : X) → slice_get marks i ≡ Some false → slice_get xs i ≡ Some x → selected marks (take (i + 1) xs) ≡ selected marks (take i xs)
-  selected-next_other marks xs i x at there =
-      ap (selected marks) (take-next xs i x there) ∙ selected-push_other marks (take i xs) x (ap (slice_get marks) (front_count xs i x there) ∙ at)

@@ -8,8 +8,8 @@ use Rattle.cert_rules.specs.declared.line.Line.TheVariants as line
 use Rattle.cert_rules.specs.declared.line.Side.TheVariants.{Field, Call}
 use Rattle.cert_rules.specs.Lengths.{HasLength, cited_length, length_by, lengths_behind, lengths_of}
 use Rattle.cert_make.specs.Lengths.{as_told}
-use Rattle.cert_make.specs.Marks.{IsAnew, IsMarked, numbered, rank, selected}
 use Rattle.cert_make.specs.Needs.{CitesLine, renumbered}
+use Rattle.cert_make.proofs.Marks.{IsAnew, IsMarked, rank, selected}
 use Rattle.cert_make.proofs.Selecting.{selected-none, selected-push_marked, selected-push_other, selected_at}
 
 lengths_behind-push : (lengths : List ℕ) (lines : List Line) (l : Line) → lengths_behind lengths (lines ++ l ∷ []) ≡ lengths_behind lengths lines ++ length_by (lengths_behind lengths lines) l ∷ []
@@ -133,10 +133,6 @@ pub told_cited : (lengths : List ℕ) (number : ℕ) → cited_length (map as_to
 told_cited lengths zero = refl
 told_cited lengths (suc i) = told_at lengths i
 
-told_by_number : (lengths : List ℕ) (number : ℕ) → numbered (map as_told lengths) number ≡ as_told (cited_length lengths number)
-told_by_number lengths zero = refl
-told_by_number lengths (suc i) = told_at lengths i
-
 pub told_next : (told : List ℕ) (x : ℕ) (lines : List Line) (i : ℕ) (l : Line) → slice_get lines i ≡ Some l → told ≡ map as_told (lengths_of (take i lines))
     → x ≡ as_told (length_by (lengths_of (take i lines)) l) → told ++ x ∷ [] ≡ map as_told (lengths_of (take (i + 1) lines))
 told_next told x lines i l there before here =
@@ -152,14 +148,14 @@ slice_get-last front x =
 
 -- the length that the last line claims
 pub told_claim : (told : List ℕ) (lines : List Line) (l : Line) (field call : ℕ) → told ≡ map as_told (lengths_of lines) → slice_get lines (length lines - 1) ≡ Some l → l ≡ line.Claim field call
-    → (len : ℕ) → HasLength lines len → numbered told field ≡ as_told len
+    → (len : ℕ) → HasLength lines len → cited_length told field ≡ as_told len
 told_claim told lines l field call are last is len has =
     let claim = line.Claim has.0 has.1 in
     let by_end : slice_get lines (length lines - 1) ≡ Some claim =
     subst (λ (ls : List Line). slice_get ls (length ls - 1) ≡ Some claim) (sym has.2.1) (slice_get-last has.2.0 claim) in
     let same : line.Claim field call ≡ claim = cc in
     let fields : field ≡ has.0 = cc in
-    ap (λ (ns : List ℕ). numbered ns field) are ∙ told_by_number (lengths_of lines) field ∙ ap (λ (k : ℕ). as_told (cited_length (lengths_of lines) k)) fields ∙ ap as_told (sym has.3)
+    ap (λ (ns : List ℕ). cited_length ns field) are ∙ told_cited (lengths_of lines) field ∙ ap (λ (k : ℕ). as_told (cited_length (lengths_of lines) k)) fields ∙ ap as_told (sym has.3)
 
 -- and that of one that ends otherwise
 pub no_claim : (lines : List Line) → ((l : Line) → slice_get lines (length lines - 1) ≡ Some l → (field call : ℕ) → l ≡ line.Claim field call → ⊥) → (len : ℕ) → HasLength lines len → ⊥

@@ -1,5 +1,5 @@
 -- The certificate that is written: the marked lines under new numbers, and the claim behind them.
-use Rattle.std.proofs.Common.{◌≡◌, ℕ, zero, suc, ◌≤◌, Bool, true, false, List, [], ◌∷◌, ◌++◌, Some, None, All, map, slice_get, take, refl, sym, ap, subst, ◌∙◌, arith}
+use Rattle.std.proofs.Common.{◌≡◌, ◌↔◌, ℕ, zero, suc, ◌≤◌, Bool, true, false, List, [], ◌∷◌, ◌++◌, Some, None, All, map, slice_get, take, refl, sym, ap, subst, ◌∙◌, arith}
 use Rattle.std.proofs.lemmas.List.{length-map, map-append}
 use Rattle.std.proofs.lemmas.List.Elements.{All-cons, All-head, All-map, All-nil, All-push, All-tail}
 use Rattle.lists.specs.Lists.{Has, IsApart}
@@ -17,10 +17,13 @@ use Rattle.cert_rules.specs.Lengths.{CanClaim, HasLength, cited_length, lengths_
 use Rattle.cert_rules.specs.Spelled.{FitNumbers, FitsLine, IsRoomy}
 use Rattle.cert_laws.proofs.Givens.{given_more}
 use Rattle.cert_laws.proofs.Writing.{cites_push}
-use Rattle.cert_make.specs.Marks.{IsAnew, IsMarked, MarksNeeded, numbered, rank, selected}
 use Rattle.cert_make.specs.Needs.{CiteBack, CitesLine, IsLean, IsNeeded, numbers_of, renumbered}
+use Rattle.cert_make.specs.Numbers.{AreAnew, AreNumbers, up_to}
 use Rattle.cert_make.proofs.Anew.{gives_anew, has_right, in_two}
-use Rattle.cert_make.proofs.Marking.{claim_back, line_back}
+use Rattle.cert_make.proofs.Ascending.{up_to_within}
+use Rattle.cert_make.proofs.Found.{claim_back, line_back}
+use Rattle.cert_make.proofs.Marking.{as_selected, is_anew, marks_for, marks_needed}
+use Rattle.cert_make.proofs.Marks.{IsAnew, IsMarked, MarksNeeded, rank, selected}
 use Rattle.cert_make.proofs.Selecting.{IsChosen, chosen, length-selected, selected_at, take-selected}
 use Rattle.cert_make.proofs.Sums.{cited_anew, length-lengths_of, lengths_anew, lengths_of-push}
 
@@ -259,22 +262,30 @@ pub record IsPart (lines : List Line) (field call : ℕ) (certificate : List Lin
   pub once : IsApart lines → IsApart certificate
   pub fits : All FitsLine lines → All FitsLine certificate
 
-module _ (lines : List Line) (field call : ℕ) (marks read : List Bool) (numbers first second : List ℕ) (certificate found : List Line) (last : Line)
-    (whole : certificate ≡ found ++ last ∷ []) (selects : found ≡ map (renumbered (numbered first)) (selected read lines))
-    (claims : last ≡ renumbered (numbered second) (line.Claim field call)) (as_read : read ≡ marks) (as_first : first ≡ numbers) (as_second : second ≡ numbers) where
-  as_written : certificate ≡ map (renumbered (numbered numbers)) (selected marks lines) ++ line.Claim (numbered numbers field) (numbered numbers call) ∷ []
-  as_written =
-      whole
-      ∙ ap (λ (ls : List Line). ls ++ last ∷ []) (selects ∙ ap (λ (ns : List ℕ). map (renumbered (numbered ns)) (selected read lines)) as_first
-      ∙ ap (λ (ms : List Bool). map (renumbered (numbered numbers)) (selected ms lines)) as_read)
-      ∙ ap (λ (l : Line). map (renumbered (numbered numbers)) (selected marks lines) ++ l ∷ []) (claims ∙ ap (λ (ns : List ℕ). renumbered (numbered ns) (line.Claim field call)) as_second)
+-- the lines with the numbers of those that a claim needs, and the claim behind them
+module _ (lines : List Line) (field call : ℕ) (numbers : List ℕ) (back : CiteBack (lines ++ line.Claim field call ∷ []))
+    (exact : (number : ℕ) → Has numbers number ↔ IsNeeded lines (line.Claim field call) number) (are : AreNumbers numbers) where
+  abbrev ms : List Bool
+  ms = marks_for lines (line.Claim field call) numbers back exact are
 
-  pub is_part : CiteBack (lines ++ line.Claim field call ∷ []) → MarksNeeded lines (line.Claim field call) marks → IsAnew marks (numbered numbers) → ((k : ℕ) → IsRoomy (numbered numbers k))
+  abbrev needed_marks : MarksNeeded lines (line.Claim field call) ms
+  needed_marks = marks_needed lines (line.Claim field call) numbers back exact are
+
+  abbrev places : IsAnew ms (up_to numbers)
+  places = is_anew lines (line.Claim field call) numbers back exact are
+
+  part_of : IsPart lines field call (map (renumbered (up_to numbers)) (selected ms lines) ++ line.Claim (up_to numbers field) (up_to numbers call) ∷ [])
+  part_of = record {
+    certified = written_certified lines field call ms (up_to numbers) back needed_marks places;
+    long = written_length lines field call ms (up_to numbers) back needed_marks places;
+    lean = written_lean lines field call ms (up_to numbers) back needed_marks places;
+    once = written_once lines field call ms (up_to numbers) back needed_marks places;
+    fits = written_fits lines field call ms (up_to numbers) back needed_marks places (λ k. omega (arith, up_to_within numbers k, are.few));
+  }
+
+  pub is_part : (found : List Line) (last : Line) (certificate : List Line) → AreAnew numbers lines found → last ≡ renumbered (up_to numbers) (line.Claim field call) → certificate ≡ found ++ last ∷ []
       → IsPart lines field call certificate
-  is_part back needed anew roomy = subst (IsPart lines field call) (sym as_written) (record {
-    certified = written_certified lines field call marks (numbered numbers) back needed anew;
-    long = written_length lines field call marks (numbered numbers) back needed anew;
-    lean = written_lean lines field call marks (numbered numbers) back needed anew;
-    once = written_once lines field call marks (numbered numbers) back needed anew;
-    fits = written_fits lines field call marks (numbered numbers) back needed anew roomy;
-  })
+  is_part found last certificate anew claims whole =
+      let front = as_selected lines (line.Claim field call) numbers back exact are found anew in
+      let as_written = whole ∙ ap (λ (ls : List Line). ls ++ last ∷ []) front ∙ ap (λ (l : Line). map (renumbered (up_to numbers)) (selected ms lines) ++ l ∷ []) claims in
+      subst (IsPart lines field call) (sym as_written) part_of

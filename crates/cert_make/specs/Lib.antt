@@ -1,3 +1,3 @@
 pub mod Needs
-pub mod Marks
+pub mod Numbers
 pub mod Lengths

@@ -1,12 +1,22 @@
 //! How long the field derivation is that a certificate writes down.
 ghost use Rattle.std.specs.Prelude.{◌≡◌, ℕ, IfOk, List, map};
-ghost use Rattle.cert_rules.specs.Lengths.{HasLength, length_by, lengths_of};
+ghost use Rattle.cert_rules.specs.Lengths.{HasLength, cited_length, length_by, lengths_of};
 ghost use Rattle.cert_make.specs.Lengths.{as_told};
 
-use super::renumber::by_number;
 use cert_rules::{Certificate, Line, Side};
 use jim_ast::NoMemory;
 use std::alloc::Global;
+
+// The length with the number, from 1; 0 where there is none.
+fn by_number(lengths: &[u32], number: u32) -> u32
+    ensures { result ≡ cited_length lengths.now number }
+{
+    if number > 0 && number as usize <= lengths.len() {
+        lengths[number as usize - 1]
+    } else {
+        0
+    }
+}
 
 // The length of a line behind lines of these lengths, as far as 32 bits tell.
 fn length_behind(lengths: &[u32], line: &Line) -> u32

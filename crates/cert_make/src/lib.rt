@@ -2,7 +2,7 @@
 #![tactic(auto)]
 
 mod lengths;
-mod marks;
+mod needs;
 mod renumber;
 mod writing;
 

@@ -1,65 +1,21 @@
 //! Lines under new numbers.
-ghost use Rattle.std.specs.Prelude.{◌≡◌, ℕ, suc, ◌<◌, ◌^◌, None, IfNone, IfOk, IfSome, OnOk, length, map};
-ghost use Rattle.cert_make.specs.Marks.{IsAnew, numbered};
+ghost use Rattle.std.specs.Prelude.{◌≡◌, None, IfNone, IfOk, IfSome, map};
 ghost use Rattle.cert_make.specs.Needs.{node_of, renumbered};
+ghost use Rattle.cert_make.specs.Numbers.{up_to};
 
+use super::needs::Needed;
 use cert_rules::Line;
 use jim_ast::{List, NoMemory};
 use link_sites::Place;
-use std::alloc::{AllocError, Global};
+use std::alloc::Global;
 
-// Puts down for each marked line the number that it has among the marked ones, from 1.
-fn number_marked(numbers: &mut [u32], marks: &[bool]) -> Result<(), NoMemory>
-    requires { length numbers.old ≡ length marks.now }
-    ensures { OnOk result (IsAnew marks.now (numbered numbers.new)) }
-{
-    let mut next: u32 = 1;
-    for index in 0..marks.len() {
-        if marks[index] {
-            numbers[index] = next;
-            next = after(next)?;
-        }
-    }
-    Ok(())
-}
-
-/// For each marked line the number that it has among the marked ones, from 1, and 0 for the others.
-pub(crate) fn numbers_anew(alloc: Global, marks: &[bool]) -> Result<Vec<u32>, NoMemory>
-    ensures { IfOk result (λ numbers. IsAnew marks.now (numbered numbers.items)) }
-{
-    let mut numbers = vec![in alloc; 0u32; marks.len()]?;
-    number_marked(&mut numbers, marks)?;
-    Ok(numbers)
-}
-
-// The next number.
-fn after(number: u32) -> Result<u32, NoMemory>
-    ensures { IfOk result (λ next. next ≡ suc number) }
-{
-    match number.checked_add(1) {
-        Some(next) => Ok(next),
-        None => Err(AllocError),
-    }
-}
-
-/// The element with the number, from 1; 0 where there is none.
-pub(crate) fn by_number(numbers: &[u32], number: u32) -> u32
-    ensures { result ≡ numbered numbers.now number }
-{
-    if number > 0 && number as usize <= numbers.len() {
-        numbers[number as usize - 1]
-    } else {
-        0
-    }
-}
-
-// The elements with the numbers.
-fn all_by_number(alloc: Global, numbers: &[u32], cited: &[u32]) -> Result<List<u32>, NoMemory>
-    ensures { IfOk result (λ found. found ≡ map (numbered numbers.now) cited.now) }
+// The new numbers of those that are cited.
+fn all_anew(alloc: Global, needed: &Needed, cited: &[u32]) -> Result<List<u32>, NoMemory>
+    ensures { IfOk result (λ found. found ≡ map (up_to needed.now) cited.now) }
 {
     let mut found = Vec::new(alloc);
     for number in cited {
-        found.push(by_number(numbers, *number))?;
+        found.push(needed.up_to(*number))?;
     }
     Ok(List::from_vec(found))
 }
@@ -76,8 +32,8 @@ fn string_copy(alloc: Global, string: &[Place]) -> Result<List<Place>, NoMemory>
 }
 
 // The line with a node, with the new number for each that it cites; none where it has no node.
-fn placed(numbers: &[u32], line: &Line) -> Option<Line>
-    ensures some { IfSome result (λ new. new ≡ renumbered (numbered numbers.now) line.now) }
+fn placed(needed: &Needed, line: &Line) -> Option<Line>
+    ensures some { IfSome result (λ new. new ≡ renumbered (up_to needed.now) line.now) }
     ensures none { IfNone result (node_of line.now ≡ None) }
 {
     let new = match line {
@@ -86,35 +42,35 @@ fn placed(numbers: &[u32], line: &Line) -> Option<Line>
             node: *node,
         },
         Line::Jump { from, node } => Line::Jump {
-            from: by_number(numbers, *from),
+            from: needed.up_to(*from),
             node: *node,
         },
         Line::Put { from, meet, node } => Line::Put {
-            from: by_number(numbers, *from),
-            meet: by_number(numbers, *meet),
+            from: needed.up_to(*from),
+            meet: needed.up_to(*meet),
             node: *node,
         },
         Line::Flow { side, from, node } => Line::Flow {
             side: *side,
-            from: by_number(numbers, *from),
+            from: needed.up_to(*from),
             node: *node,
         },
         Line::PushField { from, meet, node } => Line::PushField {
-            from: by_number(numbers, *from),
-            meet: by_number(numbers, *meet),
+            from: needed.up_to(*from),
+            meet: needed.up_to(*meet),
             node: *node,
         },
         Line::PushCall { from, node } => Line::PushCall {
-            from: by_number(numbers, *from),
+            from: needed.up_to(*from),
             node: *node,
         },
         Line::LinkField { from, meet, node } => Line::LinkField {
-            from: by_number(numbers, *from),
-            meet: by_number(numbers, *meet),
+            from: needed.up_to(*from),
+            meet: needed.up_to(*meet),
             node: *node,
         },
         Line::LinkCall { from, node } => Line::LinkCall {
-            from: by_number(numbers, *from),
+            from: needed.up_to(*from),
             node: *node,
         },
         Line::Pop {
@@ -124,12 +80,12 @@ fn placed(numbers: &[u32], line: &Line) -> Option<Line>
             node,
         } => Line::Pop {
             side: *side,
-            from: by_number(numbers, *from),
-            link: by_number(numbers, *link),
+            from: needed.up_to(*from),
+            link: needed.up_to(*link),
             node: *node,
         },
         Line::BasePop { from, node } => Line::BasePop {
-            from: by_number(numbers, *from),
+            from: needed.up_to(*from),
             node: *node,
         },
         _ => return None,
@@ -138,9 +94,9 @@ fn placed(numbers: &[u32], line: &Line) -> Option<Line>
 }
 
 // The same of a line without a node.
-fn unplaced(alloc: Global, numbers: &[u32], line: &Line) -> Result<Line, NoMemory>
+fn unplaced(alloc: Global, needed: &Needed, line: &Line) -> Result<Line, NoMemory>
     requires { node_of line.now ≡ None }
-    ensures { IfOk result (λ new. new ≡ renumbered (numbered numbers.now) line.now) }
+    ensures { IfOk result (λ new. new ≡ renumbered (up_to needed.now) line.now) }
 {
     let new = match line {
         Line::Shared {
@@ -148,30 +104,29 @@ fn unplaced(alloc: Global, numbers: &[u32], line: &Line) -> Result<Line, NoMemor
             second,
             string,
         } => Line::Shared {
-            first: all_by_number(alloc, numbers, first.as_slice())?,
-            second: all_by_number(alloc, numbers, second.as_slice())?,
+            first: all_anew(alloc, needed, first.as_slice())?,
+            second: all_anew(alloc, needed, second.as_slice())?,
             string: string_copy(alloc, string.as_slice())?,
         },
         Line::Meet { shared, base } => Line::Meet {
-            shared: by_number(numbers, *shared),
-            base: by_number(numbers, *base),
+            shared: needed.up_to(*shared),
+            base: needed.up_to(*base),
         },
         Line::Claim { field, call } => Line::Claim {
-            field: by_number(numbers, *field),
-            call: by_number(numbers, *call),
+            field: needed.up_to(*field),
+            call: needed.up_to(*call),
         },
         _ => unreachable!(),
     };
     Ok(new)
 }
 
-/// The line, with the new number for each that it cites; all of these have 32 bits.
-pub(crate) fn renumbered(alloc: Global, numbers: &[u32], line: &Line) -> Result<Line, NoMemory>
-    ensures line { IfOk result (λ new. new ≡ renumbered (numbered numbers.now) line.now) }
-    ensures roomy { (number : ℕ) → numbered numbers.now number < 2 ^ 32 }
+/// The line, with the new number for each that it cites.
+pub(crate) fn renumbered(alloc: Global, needed: &Needed, line: &Line) -> Result<Line, NoMemory>
+    ensures { IfOk result (λ new. new ≡ renumbered (up_to needed.now) line.now) }
 {
-    match placed(numbers, line) {
+    match placed(needed, line) {
         Some(new) => Ok(new),
-        None => unplaced(alloc, numbers, line),
+        None => unplaced(alloc, needed, line),
     }
 }

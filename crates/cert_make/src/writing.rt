@@ -1,6 +1,6 @@
 //! A certificate from lines of which it needs some.
-ghost use Rattle.std.specs.Prelude.{◌≡◌, ◌++◌, ◌∷◌, ◌+◌, ◌<◌, ◌^◌, [], All, IfOk, OnOk, length, map};
-ghost use Rattle.lists.specs.Lists.{IsApart};
+ghost use Rattle.std.specs.Prelude.{◌≡◌, ◌++◌, ◌∷◌, ◌+◌, ◌<◌, ◌≤◌, ◌^◌, ℕ, [], All, IfOk, OnOk, length};
+ghost use Rattle.lists.specs.Lists.{Has, IsApart};
 ghost use Rattle.link_sites.specs.declared.site.Site.{Site as AnySite};
 ghost use Rattle.link_rules.specs.Linked.{LinkedProgram};
 ghost use Rattle.spds_rules.specs.declared.node.Node.{Node as AnyNode};
@@ -8,11 +8,11 @@ ghost use Rattle.cert_rules.specs.declared.line.Line.TheVariants.{Claim};
 ghost use Rattle.cert_rules.specs.Certified.{IsCertified};
 ghost use Rattle.cert_rules.specs.Lengths.{CanClaim, HasLength, cited_length, lengths_of};
 ghost use Rattle.cert_rules.specs.Spelled.{FitsLine};
-ghost use Rattle.cert_make.specs.Marks.{numbered, selected};
-ghost use Rattle.cert_make.specs.Needs.{CiteBack, IsLean, renumbered};
+ghost use Rattle.cert_make.specs.Needs.{CiteBack, IsLean};
+ghost use Rattle.cert_make.specs.Numbers.{AreAnew};
 
-use super::marks::needed;
-use super::renumber::{numbers_anew, renumbered};
+use super::needs::{Needed, needs_of};
+use super::renumber::renumbered;
 use cert_rules::Line;
 use jim_ast::NoMemory;
 use std::alloc::{AllocError, Global};
@@ -24,21 +24,14 @@ pub struct ClaimLines {
     pub call: u32,
 }
 
-// The marked lines in their order, with the new number for each that they cite.
-fn selected_lines(
-    alloc: Global,
-    lines: &[Line],
-    marks: &[bool],
-    numbers: &[u32],
-) -> Result<Vec<Line>, NoMemory>
-    requires { length marks.now ≡ length lines.now }
-    ensures { IfOk result (λ found. found.items ≡ map (renumbered (numbered numbers.now)) (selected marks.now lines.now)) }
+// The lines with the numbers, in their order, with the new number for each that they cite.
+fn selected_lines(alloc: Global, lines: &[Line], needed: &Needed) -> Result<Vec<Line>, NoMemory>
+    requires { (number : ℕ) → Has needed.now number → (0 < number) × (number ≤ length lines.now) }
+    ensures { IfOk result (λ found. AreAnew needed.now lines.now found.items) }
 {
     let mut found = Vec::new(alloc);
-    for index in 0..lines.len() {
-        if marks[index] {
-            found.push(renumbered(alloc, numbers, &lines[index])?)?;
-        }
+    for number in needed.numbers() {
+        found.push(renumbered(alloc, needed, &lines[*number as usize - 1])?)?;
     }
     Ok(found)
 }
@@ -55,7 +48,7 @@ fn check_few(lines: &[Line]) -> Result<(), NoMemory>
 }
 
 /// The certificate that ends in a claim of these lines: those of the lines that the claim needs, in their order and under the numbers that they have there,
-/// and the claim behind them. Costs time and memory for each line.
+/// and the claim behind them. Costs time and memory for these lines and for the numbers that they cite, and none for the others.
 pub fn certificate_of(
     alloc: Global,
     lines: &[Line],
@@ -74,10 +67,9 @@ pub fn certificate_of(
         field: claim.field,
         call: claim.call,
     };
-    let marks = needed(alloc, lines, &last)?;
-    let numbers = numbers_anew(alloc, &marks)?;
-    let mut certificate = selected_lines(alloc, lines, &marks, &numbers)?;
-    certificate.push(renumbered(alloc, &numbers, &last)?)?;
+    let needed = needs_of(alloc, lines, &last)?;
+    let mut certificate = selected_lines(alloc, lines, &needed)?;
+    certificate.push(renumbered(alloc, &needed, &last)?)?;
     check_few(&certificate)?;
     Ok(certificate)
 }

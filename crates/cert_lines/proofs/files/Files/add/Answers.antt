@@ -2,7 +2,7 @@ use Rattle.std.proofs.Common.{◌∙◌, ◌++◌, ◌∷◌, [], ap, map, refl,
 use Rattle.lists.proofs.Places.{slice_get-below}
 use Rattle.std.specs.List.{slice_set}
 use Rattle.std.proofs.lemmas.List.{get_or-map, map-set, map-append}
-use Rattle.cert_lines.proofs.Groups.{IsFiledAt, added_in, added_new, grouped_in, grouped_new, length_map, length_set}
+use Rattle.cert_lines.proofs.Groups.{IsFiledAt, added_in, added_new, grouped_new, length_map, length_set}
 use Rattle.cert_lines.proofs.files.Files.add.Goals as goal
 
 pub index_mut-requires : goal.index_mut-requires

@@ -1,37 +1,38 @@
-use Rattle.std.proofs.Common.{◌≡◌, ◌<◌, ◌≤◌, ◌++◌, ◌∷◌, [], Some, length, slice_get, refl, sym, ap, subst, ◌∙◌, inl, inr, arith}
+use Rattle.std.proofs.Common.{◌≡◌, ◌<◌, Some, slice_get, refl, sym, subst, ◌∙◌, inl, inr, arith}
 use Rattle.lists.specs.Lists.{Has}
 use Rattle.lists.proofs.Places.{slice_get-read}
-use Rattle.cert_lines.specs.Noted.{GivesAt, IsThere, noted_by, noted_fact, with_line}
+use Rattle.cert_lines.specs.Noted.{GivesAt, noted_by, noted_fact}
 use Rattle.cert_lines.proofs.Groups.{length_map}
-use Rattle.cert_lines.proofs.Notes.{best_there, known, last_gives, last_there, none_there, not_there, noted_new, noted_same, note_length, pushed_new, pushed_same, shortest}
+use Rattle.cert_lines.specs.Spread.{known_of}
+use Rattle.cert_lines.proofs.Notes.{best_there, last_gives, last_there, none_there, not_there, noted_new, noted_same, note_length, pushed_new, pushed_same, shortest}
 use Rattle.cert_lines.proofs.written.Written.add.Goals as goal
 
 pub index-last-requires : goal.index-last-requires
 index-last-requires c =
     let w = c.self.inside in
-    omega (arith, best_there w.lines.items w.facts.keys w.notes.items w.best.items c.self.invariant c.in-Some.number (known c.args.fact) ((c.in-Some.ensures c.in-Some.number).0 refl), w.best.ok.0)
+    omega (arith, best_there w.lines.items w.facts.keys w.notes.items w.best.items c.self.invariant c.in-Some.number (known_of c.args.fact) (rw c.of-known.ensures at ((c.in-Some.ensures c.in-Some.number).0 refl)), w.best.ok.0)
 
 pub index-requires : goal.index-requires
 index-requires c =
     let w = c.self.inside in
-    let named : slice_get w.facts.keys c.in-Some.number ≡ Some (known c.args.fact) = (c.in-Some.ensures c.in-Some.number).0 refl in
-    let low = best_there w.lines.items w.facts.keys w.notes.items w.best.items c.self.invariant c.in-Some.number (known c.args.fact) named in
+    let named : slice_get w.facts.keys c.in-Some.number ≡ Some (known_of c.args.fact) = rw c.of-known.ensures at ((c.in-Some.ensures c.in-Some.number).0 refl) in
+    let low = best_there w.lines.items w.facts.keys w.notes.items w.best.items c.self.invariant c.in-Some.number (known_of c.args.fact) named in
     let best = slice_get-read w.best.items c.in-Some.number c.index-last.result.now low c.index-last.ensures in
     omega (arith, last_there w.lines.items w.facts.keys w.notes.items w.best.items c.self.invariant c.in-Some.number c.index-last.result.now best, w.notes.ok.0)
 
 pub returns-then-index-length-clause-number : goal.returns-then-index-length-clause-number
 returns-then-index-length-clause-number c =
     let w = c.self.inside in
-    let named : slice_get w.facts.keys c.in-Some.number ≡ Some (known c.args.fact) = (c.in-Some.ensures c.in-Some.number).0 refl in
-    let low = best_there w.lines.items w.facts.keys w.notes.items w.best.items c.self.invariant c.in-Some.number (known c.args.fact) named in
+    let named : slice_get w.facts.keys c.in-Some.number ≡ Some (known_of c.args.fact) = rw c.of-known.ensures at ((c.in-Some.ensures c.in-Some.number).0 refl) in
+    let low = best_there w.lines.items w.facts.keys w.notes.items w.best.items c.self.invariant c.in-Some.number (known_of c.args.fact) named in
     let best = slice_get-read w.best.items c.in-Some.number c.index-last.result.now low c.index-last.ensures in
     rw (← c.self.view_is) (shortest w.lines.items w.facts.keys w.notes.items w.best.items c.self.invariant c.args.fact c.in-Some.number c.index-last.result.now named best).gives
 
 pub returns-then-index-length-clause-ok : goal.returns-then-index-length-clause-ok
 returns-then-index-length-clause-ok c =
     let w = c.self.inside in
-    let named : slice_get w.facts.keys c.in-Some.number ≡ Some (known c.args.fact) = (c.in-Some.ensures c.in-Some.number).0 refl in
-    let low = best_there w.lines.items w.facts.keys w.notes.items w.best.items c.self.invariant c.in-Some.number (known c.args.fact) named in
+    let named : slice_get w.facts.keys c.in-Some.number ≡ Some (known_of c.args.fact) = rw c.of-known.ensures at ((c.in-Some.ensures c.in-Some.number).0 refl) in
+    let low = best_there w.lines.items w.facts.keys w.notes.items w.best.items c.self.invariant c.in-Some.number (known_of c.args.fact) named in
     let last = c.index-last.result.now in
     let best = slice_get-read w.best.items c.in-Some.number last low c.index-last.ensures in
     let note = c.index.result.now in
@@ -48,14 +49,14 @@ returns-then-index-length-clause-ok c =
 pub index_mut-requires : goal.index_mut-requires
 index_mut-requires c =
     let w = c.self.inside in
-    omega (arith, best_there w.lines.items w.facts.keys w.notes.items w.best.items c.self.invariant c.in-Some.number (known c.args.fact) ((c.in-Some.ensures c.in-Some.number).0 refl), w.best.ok.0)
+    omega (arith, best_there w.lines.items w.facts.keys w.notes.items w.best.items c.self.invariant c.in-Some.number (known_of c.args.fact) (rw c.of-known.ensures at ((c.in-Some.ensures c.in-Some.number).0 refl)), w.best.ok.0)
 
 pub invariant_of-self-in-Some : goal.invariant_of-self-in-Some
 invariant_of-self-in-Some c =
     let w = c.self.inside in
     let number = c.in-Some.number in
-    let named : slice_get w.facts.keys number ≡ Some (known c.args.fact) = (c.in-Some.ensures number).0 refl in
-    let low = best_there w.lines.items w.facts.keys w.notes.items w.best.items c.self.invariant number (known c.args.fact) named in
+    let named : slice_get w.facts.keys number ≡ Some (known_of c.args.fact) = rw c.of-known.ensures at ((c.in-Some.ensures number).0 refl) in
+    let low = best_there w.lines.items w.facts.keys w.notes.items w.best.items c.self.invariant number (known_of c.args.fact) named in
     let last = c.index-last.result.now in
     let best = slice_get-read w.best.items number last low c.index-last.ensures in
     let note = c.index.result.now in
@@ -68,8 +69,8 @@ pub returns-in-Some-clause-number : goal.returns-in-Some-clause-number
 returns-in-Some-clause-number c =
     let w = c.self.inside in
     let number = c.in-Some.number in
-    let named : slice_get w.facts.keys number ≡ Some (known c.args.fact) = (c.in-Some.ensures number).0 refl in
-    let low = best_there w.lines.items w.facts.keys w.notes.items w.best.items c.self.invariant number (known c.args.fact) named in
+    let named : slice_get w.facts.keys number ≡ Some (known_of c.args.fact) = rw c.of-known.ensures at ((c.in-Some.ensures number).0 refl) in
+    let low = best_there w.lines.items w.facts.keys w.notes.items w.best.items c.self.invariant number (known_of c.args.fact) named in
     let last = c.index-last.result.now in
     let best = slice_get-read w.best.items number last low c.index-last.ensures in
     let note = c.index.result.now in
@@ -84,8 +85,8 @@ pub returns-in-Some-clause-ok : goal.returns-in-Some-clause-ok
 returns-in-Some-clause-ok c =
     let w = c.self.inside in
     let number = c.in-Some.number in
-    let named : slice_get w.facts.keys number ≡ Some (known c.args.fact) = (c.in-Some.ensures number).0 refl in
-    let low = best_there w.lines.items w.facts.keys w.notes.items w.best.items c.self.invariant number (known c.args.fact) named in
+    let named : slice_get w.facts.keys number ≡ Some (known_of c.args.fact) = rw c.of-known.ensures at ((c.in-Some.ensures number).0 refl) in
+    let low = best_there w.lines.items w.facts.keys w.notes.items w.best.items c.self.invariant number (known_of c.args.fact) named in
     let last = c.index-last.result.now in
     let best = slice_get-read w.best.items number last low c.index-last.ensures in
     let note = c.index.result.now in
@@ -100,24 +101,24 @@ returns-in-Some-clause-ok c =
 pub invariant_of-self-2 : goal.invariant_of-self-2
 invariant_of-self-2 c =
     let w = c.self.inside in
-    let none : Has w.facts.keys (known c.args.fact) → ⊥ = λ k. let e = (c.in_default.ensures k.0).1 k.1 in cc in
-    rw (c.in_ok-at-2.ensures.lines, c.in_ok-at-2.ensures.notes, c.in_ok-at-2.ensures.best, c.put.ensures.keys, c.len.ensures.value, c.in_ok-room.ensures.keys)
+    let none : Has w.facts.keys (known_of c.args.fact) → ⊥ = λ k. let e = (c.in_default.ensures k.0).1 (rw (← c.of-known.ensures) at k.1) in cc in
+    rw (c.in_ok-at-2.ensures.lines, c.in_ok-at-2.ensures.notes, c.in_ok-at-2.ensures.best, c.put.ensures.keys, c.of-known.ensures, c.len.ensures.value, c.in_ok-room.ensures.keys)
     (pushed_new w.lines.items w.facts.keys w.notes.items w.best.items c.self.invariant c.args.line c.args.fact c.args.length none c.in_ok-at-2.ensures.few)
 
 pub returns-clause-number : goal.returns-clause-number
 returns-clause-number c =
     let w = c.self.inside in
-    let none : Has w.facts.keys (known c.args.fact) → ⊥ = λ k. let e = (c.in_default.ensures k.0).1 k.1 in cc in
+    let none : Has w.facts.keys (known_of c.args.fact) → ⊥ = λ k. let e = (c.in_default.ensures k.0).1 (rw (← c.of-known.ensures) at k.1) in cc in
     let whole = noted_by w.lines.items w.facts.keys w.notes.items in
-    rw (c.in_ok-at-2.ensures.notes, c.put.ensures.keys, c.len.ensures.value, c.in_ok-room.ensures.keys)
+    rw (c.in_ok-at-2.ensures.notes, c.put.ensures.keys, c.of-known.ensures, c.len.ensures.value, c.in_ok-room.ensures.keys)
     (subst (λ n. GivesAt n c.in_ok-at-2.at c.args.fact) (sym (noted_new w.lines.items w.facts.keys w.notes.items w.best.items c.self.invariant c.args.line c.args.fact c.args.length none c.in_ok-at-2.ensures.few))
     (last_gives whole c.args.line c.args.fact c.args.length c.in_ok-at-2.at (c.in_ok-at-2.ensures.number ∙ sym c.self.invariant.as_many ∙ sym (length_map (noted_fact w.facts.keys) w.notes.items))))
 
 pub returns-clause-ok : goal.returns-clause-ok
 returns-clause-ok c =
     let w = c.self.inside in
-    let none : Has w.facts.keys (known c.args.fact) → ⊥ = λ k. let e = (c.in_default.ensures k.0).1 k.1 in cc in
-    rw (c.in_ok-at-2.ensures.lines, c.in_ok-at-2.ensures.notes, c.put.ensures.keys, c.len.ensures.value, c.in_ok-room.ensures.keys, ← c.self.view_is)
+    let none : Has w.facts.keys (known_of c.args.fact) → ⊥ = λ k. let e = (c.in_default.ensures k.0).1 (rw (← c.of-known.ensures) at k.1) in cc in
+    rw (c.in_ok-at-2.ensures.lines, c.in_ok-at-2.ensures.notes, c.put.ensures.keys, c.of-known.ensures, c.len.ensures.value, c.in_ok-room.ensures.keys, ← c.self.view_is)
     (inr (
       noted_new w.lines.items w.facts.keys w.notes.items w.best.items c.self.invariant c.args.line c.args.fact c.args.length none c.in_ok-at-2.ensures.few,
       none_there w.lines.items w.facts.keys w.notes.items w.best.items c.self.invariant c.args.line c.args.fact c.args.length none c.in_ok-at-2.ensures.few,

@@ -1,5 +1,5 @@
-use Rattle.std.proofs.Common.{◌≡◌, ◌<◌, Some, length, slice_get, refl, sym, ap, subst, ◌∙◌, arith, rules}
-use Rattle.lists.proofs.Places.{slice_get-below, slice_get-read, slice_get-there}
+use Rattle.std.proofs.Common.{◌<◌, length}
+use Rattle.lists.proofs.Places.{slice_get-read, slice_get-there}
 use Rattle.cert_lines.proofs.Notes.{best_there, bettered, not_last, note_there, tells}
 use Rattle.cert_lines.proofs.written.Written.is_bettered.Goals as goal
 

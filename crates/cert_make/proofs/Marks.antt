@@ -1,5 +1,5 @@
 -- Marked elements of a list.
-use Rattle.std.specs.Prelude.{◌≡◌, ℕ, zero, suc, ◌↔◌, Bool, true, false, List, [], ◌∷◌, Some, length, slice_get, slice_index_or, slice_set}
+use Rattle.std.specs.Prelude.{◌≡◌, ℕ, zero, suc, ◌↔◌, Bool, true, false, List, [], ◌∷◌, Some, length, slice_get}
 use Rattle.cert_rules.specs.declared.line.Line.{Line}
 use Rattle.cert_make.specs.Needs.{IsNeeded}
 
@@ -7,16 +7,6 @@ use Rattle.cert_make.specs.Needs.{IsNeeded}
 abbrev pub IsMarked : List Bool → ℕ → Type 0
 IsMarked marks zero = ⊥
 IsMarked marks (suc i) = slice_get marks i ≡ Some true
-
--- the element with the number is marked too
-abbrev pub marked : List Bool → ℕ → List Bool
-marked marks zero = marks
-marked marks (suc i) = slice_set marks i true
-
--- those with the numbers are
-abbrev pub marked_all : List Bool → List ℕ → List Bool
-marked_all marks [] = marks
-marked_all marks (number ∷ numbers) = marked_all (marked marks number) numbers
 
 -- there is a mark for each line, and the claim needs the marked lines
 pub record MarksNeeded (lines : List Line) (claim : Line) (marks : List Bool) : Type 0 where
@@ -36,11 +26,6 @@ rank [] i = 0
 rank (mark ∷ marks) zero = 0
 rank (true ∷ marks) (suc i) = suc (rank marks i)
 rank (false ∷ marks) (suc i) = rank marks i
-
--- the element with the number, from 1
-abbrev pub numbered : List ℕ → ℕ → ℕ
-numbered xs zero = 0
-numbered xs (suc i) = slice_index_or xs i 0
 
 -- each marked element has the number that it has among the marked ones
 abbrev pub IsAnew : List Bool → (ℕ → ℕ) → Type 0
