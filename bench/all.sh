@@ -10,7 +10,7 @@ set -uo pipefail
 here=$(cd "$(dirname "${BASH_SOURCE[0]}")" && pwd)
 
 small=()
-benchmarks=(run calls fields demo typestate explain first_path hostile)
+benchmarks=(run calls fields demo typestate explain refined first_path hostile)
 case "${1:-}" in
   '') benchmarks+=(solve threads demand link read lex class_tree saturate) ;;
   --quick) ;;
@@ -26,7 +26,7 @@ trap 'rm -f "$trouble"' EXIT
 status=0
 for name in "${benchmarks[@]}"; do
   flags=()
-  case $name in run | calls | fields | demo | typestate | explain | hostile | solve | threads) flags=("${small[@]}") ;; esac
+  case $name in run | calls | fields | demo | typestate | explain | refined | hostile | solve | threads) flags=("${small[@]}") ;; esac
   if ! "$here/$name.sh" ${flags[@]+"${flags[@]}"} 2> "$trouble" | awk -v name="$name" 'NF { printf "%-11s %s\n", name, $0; fflush() }'; then
     printf '%-11s did not run: %s\n' "$name" "$(tail -n 1 "$trouble")"
     status=1

@@ -1,5 +1,5 @@
 //! Words, with what they ask for where they are a command.
-use boom_words::{Asked, AskedBoth, Query, Running, read_words};
+use boom_words::{Asked, AskedBoth, FieldWord, Query, Running, read_fields, read_words};
 use std::alloc::{AllocError, Global};
 use std::test::Fail;
 
@@ -141,6 +141,57 @@ typestate,Main,F,s,100 => no command
 typestate,Main,F s,100, => no command
 typestates,Main,F s,100 => no command";
 
+// The same about paths: here a semicolon stands between the words.
+const PATHS: &str = "paths;Main;m;5;x;A:f;100 => of Main: m at 5, x along A:f, within 100
+paths;;;0;;[];0 => of :  at 0,  along [], within 0
+paths;Main;m;5;x;[],a.B:c,'d':<e>,[];4294967295 => of Main: m at 5, x along [],a.B:c,'d':<e>,[], within 4294967295
+paths;Main;m;5;x;[]:[],ä:ö;1 => of Main: m at 5, x along []:[],ä:ö, within 1
+# a number in another form or too large, a word less or more, or another first word
+paths;Main;m;05;x;A:f;100 => no command
+paths;Main;m;4294967296;x;A:f;100 => no command
+paths;Main;m;5;x;A:f;0100 => no command
+paths;Main;m;5;x;A:f => no command
+paths;Main;m;5;x;100 => no command
+paths;Main;m;5;x;A:f;100; => no command
+Paths;Main;m;5;x;A:f;100 => no command
+path;Main;m;5;x;A:f;100 => no command
+# no field, or five
+paths;Main;m;5;x;;100 => no command
+paths;Main;m;5;x;[],[],[],[],[];100 => no command
+# a part that is no field
+paths;Main;m;5;x;A:f,;100 => no command
+paths;Main;m;5;x;,A:f;100 => no command
+paths;Main;m;5;x;A:f,,A:f;100 => no command
+paths;Main;m;5;x;A;100 => no command
+paths;Main;m;5;x;:f;100 => no command
+paths;Main;m;5;x;A:;100 => no command
+paths;Main;m;5;x;A:f:g;100 => no command
+paths;Main;m;5;x;A: f;100 => no command
+paths;Main;m;5;x;A:f, [];100 => no command
+paths;Main;m;5;x;A:f\t;100 => no command
+paths;Main;m;5;x;\u{c}A:f;100 => no command
+paths;Main;m;5;x;A:f\r;100 => no command
+paths;Main;m;5;x;[ ];100 => no command
+paths;Main;m;5;x;[;100 => no command";
+
+// The same about narrowed programs.
+const REFINED: &str = "refined,Main,m,5,x,0,100 => of Main: m at 5, x in 0 rounds, within 100
+refined,,,0,,8,4294967295 => of :  at 0,  in 8 rounds, within 4294967295
+# a number in another form or too large, too many rounds, a word less or more, or another first word
+refined,Main,m,05,x,1,100 => no command
+refined,Main,m,4294967296,x,1,100 => no command
+refined,Main,m,5,x,9,100 => no command
+refined,Main,m,5,x,10,100 => no command
+refined,Main,m,5,x,01,100 => no command
+refined,Main,m,5,x,,100 => no command
+refined,Main,m,5,x,-1,100 => no command
+refined,Main,m,5,x,1,0100 => no command
+refined,Main,m,5,x,1,4294967296 => no command
+refined,Main,m,5,x,100 => no command
+refined,Main,m,5,x,1,1,100 => no command
+Refined,Main,m,5,x,1,100 => no command
+refine,Main,m,5,x,1,100 => no command";
+
 fn of_one(alloc: Global, a: &Asked<'_>) -> Result<String, AllocError> {
     format!(in alloc;
         "{} at {}, {}, within {}",
@@ -172,6 +223,14 @@ fn asked_of(alloc: Global, query: &Query<'_>) -> Result<String, AllocError> {
             "why {} at {}, {}, within {}",
             a.method, a.index, a.local, a.budget
         ),
+        Query::Paths(a) => format!(in alloc;
+            "{} at {}, {} along {}, within {}",
+            a.method, a.index, a.local, a.fields, a.budget
+        ),
+        Query::Refined(a) => format!(in alloc;
+            "{} at {}, {} in {} rounds, within {}",
+            a.method, a.index, a.local, a.rounds, a.budget
+        ),
         Query::Run(a) => of_run(alloc, a),
         Query::Replay { budget } => format!(in alloc; "a certificate, within {budget}"),
         Query::Typestate(a) => format!(in alloc; "'{}', within {}", a.protocol, a.budget),
@@ -193,9 +252,9 @@ fn asked(alloc: Global, words: &[String]) -> Result<String, AllocError> {
     }
 }
 
-fn words_of(alloc: Global, line: &str) -> Result<Vec<String>, AllocError> {
+fn words_of(alloc: Global, line: &str, mark: char) -> Result<Vec<String>, AllocError> {
     let mut words = Vec::new(alloc);
-    for word in line.split(',') {
+    for word in line.split(mark) {
         words.push(String::from_str(alloc, word)?)?;
     }
     Ok(words)
@@ -207,19 +266,24 @@ fn asks_for(alloc: Global, words: &[String], wanted: &str) -> Result<bool, Alloc
 }
 
 // Whether a row is right. One that begins with `#` says what the next ones show.
-fn is_right(alloc: Global, row: &str) -> Result<bool, AllocError> {
+fn is_right(alloc: Global, row: &str, mark: char) -> Result<bool, AllocError> {
     match row.split_once(" => ") {
         Some((line, wanted)) => {
-            let words = words_of(alloc, line)?;
+            let words = words_of(alloc, line, mark)?;
             asks_for(alloc, &words, wanted)
         }
         None => Ok(row.starts_with("# ")),
     }
 }
 
-fn first_wrong(alloc: Global, rows: &'static str) -> Result<Option<&'static str>, AllocError> {
+// The first row that is wrong, where the mark stands between words.
+fn first_wrong(
+    alloc: Global,
+    rows: &'static str,
+    mark: char,
+) -> Result<Option<&'static str>, AllocError> {
     for row in rows.lines() {
-        if !is_right(alloc, row)? {
+        if !is_right(alloc, row, mark)? {
             return Ok(Some(row));
         }
     }
@@ -228,26 +292,73 @@ fn first_wrong(alloc: Global, rows: &'static str) -> Result<Option<&'static str>
 
 #[test]
 fn reads_words(rt: HostRuntime) -> Result<(), Fail> {
-    assert_eq!(rt; first_wrong(rt.alloc(), ROWS)?, None);
+    assert_eq!(rt; first_wrong(rt.alloc(), ROWS, ',')?, None);
     assert!(rt; asks_for(rt.alloc(), &[], OTHER)?);
     Ok(())
 }
 
 #[test]
 fn reads_words_of_replays(rt: HostRuntime) -> Result<(), Fail> {
-    assert_eq!(rt; first_wrong(rt.alloc(), REPLAYS)?, None);
+    assert_eq!(rt; first_wrong(rt.alloc(), REPLAYS, ',')?, None);
     Ok(())
 }
 
 #[test]
 fn reads_words_of_batches(rt: HostRuntime) -> Result<(), Fail> {
-    assert_eq!(rt; first_wrong(rt.alloc(), BATCHES)?, None);
+    assert_eq!(rt; first_wrong(rt.alloc(), BATCHES, ',')?, None);
     Ok(())
 }
 
 #[test]
 fn reads_words_of_typestates(rt: HostRuntime) -> Result<(), Fail> {
-    assert_eq!(rt; first_wrong(rt.alloc(), TYPESTATES)?, None);
+    assert_eq!(rt; first_wrong(rt.alloc(), TYPESTATES, ',')?, None);
+    Ok(())
+}
+
+#[test]
+fn reads_words_of_paths(rt: HostRuntime) -> Result<(), Fail> {
+    assert_eq!(rt; first_wrong(rt.alloc(), PATHS, ';')?, None);
+    Ok(())
+}
+
+#[test]
+fn reads_words_of_narrowed_programs(rt: HostRuntime) -> Result<(), Fail> {
+    assert_eq!(rt; first_wrong(rt.alloc(), REFINED, ',')?, None);
+    Ok(())
+}
+
+// The fields that a word spells, each with a blank before it.
+fn fields_of(alloc: Global, word: &str) -> Result<String, AllocError> {
+    let mut text = String::new(alloc);
+    let Some(fields) = read_fields(alloc, word)? else {
+        return String::from_str(alloc, OTHER);
+    };
+    for field in fields.as_slice() {
+        match field {
+            FieldWord::Cells => text.push_str(" cells")?,
+            FieldWord::Named { class, name } => {
+                text.push_str(" ")?;
+                text.push_str(name)?;
+                text.push_str(" of ")?;
+                text.push_str(class)?;
+            }
+        }
+    }
+    Ok(text)
+}
+
+#[test]
+fn reads_fields(rt: HostRuntime) -> Result<(), Fail> {
+    for (word, expected) in [
+        ("[]", " cells"),
+        ("A:f", " f of A"),
+        ("a.B:c,[],x:y,[]", " c of a.B cells y of x cells"),
+        ("[]:[]", " [] of []"),
+        ("A:f,A", OTHER),
+        ("", OTHER),
+    ] {
+        assert_eq!(rt; fields_of(rt.alloc(), word)?.as_str(), expected, "{word}");
+    }
     Ok(())
 }
 
@@ -257,7 +368,7 @@ fn names_choices(alloc: Global, count: u32) -> Result<bool, AllocError> {
     for _ in 0..count {
         line.push('7')?;
     }
-    let words = words_of(alloc, line.as_str())?;
+    let words = words_of(alloc, line.as_str(), ',')?;
     Ok(!asks_for(alloc, &words, OTHER)?)
 }
 

@@ -10,6 +10,10 @@ mod explains;
 #[cfg(test)]
 mod gates;
 #[cfg(test)]
+mod paths;
+#[cfg(test)]
+mod refined;
+#[cfg(test)]
 mod refusals;
 #[cfg(test)]
 mod replays;

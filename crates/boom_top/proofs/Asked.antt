@@ -23,7 +23,7 @@ use Rattle.query_core.proofs.Sound.{answer_sound, shared_sound}
 use Rattle.report_text.specs.Aliases.{IsSharedLine, verdict_lines}
 use Rattle.report_text.specs.Answers.{IsAcceptedText, IsAnswerText, IsSiteLine, count_lines}
 use Rattle.report_text.specs.Lines.{text_of}
-use Rattle.boom_words.specs.Requests.{Alias, PointsTo, Question, Request, Typestate, alias, batch, demo, explain, points_to, replay, run, typestate}
+use Rattle.boom_words.specs.Requests.{Alias, PointsTo, Question, Request, Typestate, alias, batch, demo, explain, paths, points_to, refined, replay, run, typestate}
 use Rattle.boom_top.specs.Demo.{IsDemoText, demo_asked}
 use Rattle.cert_rules.specs.declared.certificate.Certificate.{Certificate}
 use Rattle.cert_laws.proofs.Complete.{answered_certified}
@@ -48,16 +48,10 @@ use Rattle.boom_top.proofs.Batched.{batch_answers, batch_enough, own_lines, text
 use Rattle.boom_top.proofs.Ending.{says_none}
 use Rattle.boom_top.proofs.Judged.{demand_within, safe_verdict}
 use Rattle.boom_top.proofs.Once.{not_refused, prelude_one, spelled_read}
+use Rattle.boom_top.proofs.Pathed.{has_middle, path_covered, path_enough}
+use Rattle.boom_top.proofs.Narrower.{refined_covered, refined_enough, refined_evident}
 use Rattle.boom_top.proofs.Replayed.{explanation_accepted}
 use Rattle.boom_top.proofs.Worded.{protocol_one, protocol_there}
-
-has_middle : {X : Type 0} (first : X) (xs ys : List X) (x : X) → Has xs x → Has (first ∷ (xs ++ ys)) x
-has_middle {X} first xs ys x h = (suc h.0, left xs h.0 h.1)
-  where
-    left : (xs : List X) (i : ℕ) → slice_get xs i ≡ Some x → slice_get (xs ++ ys) i ≡ Some x
-    left [] i e = cc
-    left (z ∷ zs) zero e = e
-    left (z ∷ zs) (suc i) e = left zs i e
 
 -- where a site is shared, the locals are said to be aliases
 says_yes : (query : List ℕ) (lines : List (List ℕ)) (sites : List Site) (demanded : ℕ) (o : Site) → Has sites o
@@ -116,10 +110,12 @@ module _ (p : LinkedProgram) (s : Status) (lines : List (List ℕ)) where
   linked_enough entry rest (points_to asked) has reply = place_enough asked (IsAnswerText p) has reply
   linked_enough entry rest (explain asked) has reply = place_enough asked (IsExplainText p) has reply
   linked_enough entry rest (alias asked) has reply = alias_enough asked has reply
+  linked_enough entry rest (paths asked) has reply = path_enough p asked s lines has reply
   linked_enough entry rest (run asked) has reply = reply.1
   linked_enough entry rest (replay budget) has reply = replay_enough budget rest has reply
   linked_enough entry rest (typestate asked) has reply = typestate_enough entry asked has reply
   linked_enough entry rest (batch budget) has reply = batch_enough p budget rest s lines has reply
+  linked_enough entry rest (refined asked) has reply = refined_enough p asked s lines has reply
   linked_enough entry rest (demo boxes) has reply = place_enough (demo_asked boxes) (λ n. IsDemoText p boxes) has reply
 
 -- the answer about a node has the line of the site of each object that a run brings
@@ -246,10 +242,12 @@ module _ (p : LinkedProgram) (well : IsWellLinked p) (covered : IsCovered p) (ol
   linked_covered entry rest (points_to asked) reply = place_covered asked reply
   linked_covered entry rest (explain asked) reply = explain_covered asked reply
   linked_covered entry rest (alias asked) reply = alias_covered asked reply
+  linked_covered entry rest (paths asked) reply = path_covered p well covered asked old new lines wrote reply
   linked_covered entry rest (run asked) reply = tt
   linked_covered entry rest (replay budget) reply = tt
   linked_covered entry rest (typestate asked) reply = tt
   linked_covered entry rest (batch budget) reply = λ queries are. each_covered p well covered budget queries lines (batch_answers p budget rest lines reply queries are) old new wrote
+  linked_covered entry rest (refined asked) reply = refined_covered p well covered asked old new lines wrote reply
   linked_covered entry rest (demo boxes) reply = tt
 
   -- and where it says safe, no run breaks the protocol
@@ -332,9 +330,11 @@ module _ (p : LinkedProgram) (old new : Option (List ℕ)) (lines : List (List �
   linked_evident entry rest (explain asked) reply = explain_evident rest asked reply
   linked_evident entry rest (replay budget) reply = replay_evident budget rest reply
   linked_evident entry rest (alias asked) reply = tt
+  linked_evident entry rest (paths asked) reply = tt
   linked_evident entry rest (run asked) reply = tt
   linked_evident entry rest (typestate asked) reply = tt
   linked_evident entry rest (batch budget) reply = λ queries are. each_evident p budget queries lines (batch_answers p budget rest lines reply queries are) old new wrote
+  linked_evident entry rest (refined asked) reply = refined_evident p asked old new lines wrote reply
   linked_evident entry rest (demo boxes) reply = tt
 
 module _ (r : Request) (bytes : List ℕ) (q : Accepted r bytes) where

@@ -9,6 +9,8 @@ pub mod Judged
 pub mod Noded
 pub mod Once
 pub mod OneText
+pub mod Pathed
+pub mod Narrower
 pub mod Replayed
 pub mod Replied
 pub mod Sent

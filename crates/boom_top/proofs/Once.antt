@@ -11,7 +11,7 @@ use Rattle.link_rules.specs.declared.refusal.LinkError.TheVariants as link
 use Rattle.link_once.proofs.OneLink.{link_one}
 use Rattle.link_once.proofs.OneRefusal.{refused_one}
 use Rattle.link_sites.specs.declared.site.Site.{Site}
-use Rattle.boom_words.specs.Requests.{Alias, PointsTo, Question, Request, Typestate, alias, batch, demo, explain, points_to, replay, run, typestate}
+use Rattle.boom_words.specs.Requests.{Alias, PointsTo, Question, Request, Typestate, alias, batch, demo, explain, paths, points_to, refined, replay, run, typestate}
 use Rattle.boom_top.specs.Demo.{IsDemoText, demo_asked}
 use Rattle.boom_top.specs.Parts.{IsGiven}
 use Rattle.boom_top.specs.Replies.{AreAliased, IsAliasReply, IsAnswered, IsBudgetReply, IsCertificateReply, IsJoinedReply, IsLinkedReply, IsNotLinked, IsPlaceReply, IsProgramReply, IsProtocolReply, IsReplayReply, IsSourceReply, IsTextReply, IsTypestateReply, IsUnread}
@@ -31,6 +31,8 @@ use Rattle.track_rules.specs.Protocols.{ProtocolParts}
 use Rattle.boom_top.specs.Queries.{IsPrelude, program_in, rest_in}
 use Rattle.boom_top.proofs.Batched.{batch_given, batch_status}
 use Rattle.boom_top.proofs.Judged.{judged_within}
+use Rattle.boom_top.proofs.Pathed.{path_given, path_status}
+use Rattle.boom_top.proofs.Narrower.{refined_given, refined_status}
 use Rattle.boom_top.proofs.Worded.{no_protocol_one, protocol_one, protocol_there}
 
 -- bytes that spell a program have no reason to be unread
@@ -186,20 +188,24 @@ module _ (p : LinkedProgram) where
     linked_one (points_to asked) s t xs ys a b = place_status asked (IsAnswerText p) s t xs ys a b
     linked_one (explain asked) s t xs ys a b = place_status asked (IsExplainText p) s t xs ys a b
     linked_one (alias asked) s t xs ys a b = alias_status asked s t xs ys a b
+    linked_one (paths asked) s t xs ys a b = path_status p asked s t xs ys a b
     linked_one (run asked) s t xs ys a b = a.1 ∙ sym b.1
     linked_one (replay budget) s t xs ys a b = replay_status budget rest s t xs ys a b
     linked_one (typestate asked) s t xs ys a b = typestate_status entry asked s t xs ys a b
     linked_one (batch budget) s t xs ys a b = batch_status p budget rest s t xs ys a b
+    linked_one (refined asked) s t xs ys a b = refined_status p asked s t xs ys a b
     linked_one (demo boxes) s t xs ys a b = place_status (demo_asked boxes) (λ n. IsDemoText p boxes) s t xs ys a b
 
     linked_given : (q : Question) (s : Status) (lines : List (List ℕ)) → IsLinkedReply p entry rest q s lines → IsGiven s
     linked_given (points_to asked) s lines a = place_given asked (IsAnswerText p) s lines a
     linked_given (explain asked) s lines a = place_given asked (IsExplainText p) s lines a
     linked_given (alias asked) s lines a = alias_given asked s lines a
+    linked_given (paths asked) s lines a = path_given p asked s lines a
     linked_given (run asked) s lines a = subst IsGiven (sym a.1) tt
     linked_given (replay budget) s lines a = replay_given budget rest s lines a
     linked_given (typestate asked) s lines a = typestate_given entry asked s lines a
     linked_given (batch budget) s lines a = batch_given p budget rest s lines a
+    linked_given (refined asked) s lines a = refined_given p asked s lines a
     linked_given (demo boxes) s lines a = place_given (demo_asked boxes) (λ n. IsDemoText p boxes) s lines a
 
 module _ (r : Request) (rest : List ℕ) where

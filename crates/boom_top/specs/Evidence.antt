@@ -17,7 +17,8 @@ use Rattle.batch_lines.specs.Queries.{AreQueries, QueryParts}
 use Rattle.query_core.specs.Answers.{IsAffordable}
 use Rattle.query_core.specs.Places.{IsPlaceOf}
 use Rattle.report_text.specs.Answers.{IsAcceptedText, IsAnswerText}
-use Rattle.boom_words.specs.Requests.{PointsTo, Question, alias, batch, demo, explain, points_to, replay, run, typestate}
+use Rattle.boom_words.specs.Requests.{PointsTo, Question, alias, batch, demo, explain, paths, points_to, refined, replay, run, typestate}
+use Rattle.boom_top.specs.Refined.{PrintsRefinedShown}
 use Rattle.boom_top.specs.Runs.{WritesEach}
 
 -- The answer about the place was written, and for each site that it prints some list of lines is certified: step by step, that an object of the site may be
@@ -79,7 +80,9 @@ HasEvidence p rest (points_to asked) old new = PrintsShown p asked old new
 HasEvidence p rest (explain asked) old new = PrintsExplained p asked old new
 HasEvidence p rest (replay budget) old new = PrintsCertified p rest old new
 HasEvidence p rest (alias asked) old new = Unit {0}
+HasEvidence p rest (paths asked) old new = Unit {0}
 HasEvidence p rest (run asked) old new = Unit {0}
 HasEvidence p rest (typestate asked) old new = Unit {0}
 HasEvidence p rest (batch budget) old new = (queries : List QueryParts) → AreQueries rest queries → PrintsEachShown p budget queries old new
+HasEvidence p rest (refined asked) old new = PrintsRefinedShown p asked old new
 HasEvidence p rest (demo boxes) old new = Unit {0}

@@ -1,7 +1,9 @@
 pub mod Batches
 pub mod Demo
 pub mod Evidence
+pub mod Paths
 pub mod Queries
+pub mod Refined
 pub mod Refusals
 pub mod Replies
 pub mod Runs

@@ -6,7 +6,8 @@ use Rattle.jim_parse.specs.Derives.{Spells}
 use Rattle.jim_prelude.specs.Text.{prelude_text}
 use Rattle.link_rules.specs.Conditions.{DeclaresNine}
 use Rattle.link_rules.specs.Linked.{LinkedProgram, Links}
-use Rattle.boom_words.specs.Requests.{Question, Request, alias, batch, demo, explain, points_to, replay, run, typestate}
+use Rattle.boom_words.specs.Fields.{AreFields, FieldName}
+use Rattle.boom_words.specs.Requests.{Question, Request, alias, batch, demo, explain, paths, points_to, refined, replay, run, typestate}
 use Rattle.demo_text.specs.Demo.{demo_source}
 use Rattle.batch_lines.specs.Cuts.{before_mark, behind_mark, lines_of}
 
@@ -19,10 +20,12 @@ abbrev pub source_of : Question → List ℕ → List ℕ
 source_of (points_to asked) bytes = bytes
 source_of (explain asked) bytes = bytes
 source_of (alias asked) bytes = bytes
+source_of (paths asked) bytes = bytes
 source_of (run asked) bytes = bytes
 source_of (replay budget) bytes = bytes
 source_of (typestate asked) bytes = bytes
 source_of (batch budget) bytes = bytes
+source_of (refined asked) bytes = bytes
 source_of (demo boxes) bytes = demo_source boxes
 
 -- the lines behind which a certificate stands, and the queries of a batch
@@ -39,8 +42,10 @@ program_in (batch budget) text = before_mark queries_mark (lines_of text)
 program_in (points_to asked) text = text
 program_in (explain asked) text = text
 program_in (alias asked) text = text
+program_in (paths asked) text = text
 program_in (run asked) text = text
 program_in (typestate asked) text = text
+program_in (refined asked) text = text
 program_in (demo boxes) text = text
 
 -- what stands behind it: for a replay the certificate, for a batch the queries
@@ -50,8 +55,10 @@ rest_in (batch budget) text = behind_mark queries_mark (lines_of text)
 rest_in (points_to asked) text = []
 rest_in (explain asked) text = []
 rest_in (alias asked) text = []
+rest_in (paths asked) text = []
 rest_in (run asked) text = []
 rest_in (typestate asked) text = []
+rest_in (refined asked) text = []
 rest_in (demo boxes) text = []
 
 -- the question needs no bytes
@@ -60,21 +67,25 @@ IsDemo (demo boxes) = Unit {0}
 IsDemo (points_to asked) = ⊥
 IsDemo (explain asked) = ⊥
 IsDemo (alias asked) = ⊥
+IsDemo (paths asked) = ⊥
 IsDemo (run asked) = ⊥
 IsDemo (replay budget) = ⊥
 IsDemo (typestate asked) = ⊥
 IsDemo (batch budget) = ⊥
+IsDemo (refined asked) = ⊥
 
--- what the parts of a question keep: the choices of a run are digits, and the demo has from 1 to 400 boxes
+-- what the parts of a question keep: the choices of a run are digits, a word spells the fields of a path, and the demo has from 1 to 400 boxes
 abbrev pub IsFit : Question → Type 0
 IsFit (run asked) = All IsAsciiDigit asked.choices
 IsFit (demo boxes) = (0 < boxes) × (boxes ≤ 400)
 IsFit (points_to asked) = Unit {0}
 IsFit (explain asked) = Unit {0}
 IsFit (alias asked) = Unit {0}
+IsFit (paths asked) = (names : List FieldName) × AreFields asked.fields names
 IsFit (replay budget) = Unit {0}
 IsFit (typestate asked) = Unit {0}
 IsFit (batch budget) = Unit {0}
+IsFit (refined asked) = Unit {0}
 
 -- the stand-ins for Java's own classes: the program that their text spells. It declares the nine classes that linking needs
 pub record IsPrelude (prelude : Program) : Type 0 where

@@ -1,5 +1,5 @@
 -- The numbers of the statuses, and the lines of the refusals.
-use Rattle.std.specs.Prelude.{ℕ, List, [], ◌++◌, codes}
+use Rattle.std.specs.Prelude.{◌≡◌, ℕ, List, [], ◌∷◌, ◌++◌, codes}
 use Rattle.std.specs.Fmt.{decimal}
 use Rattle.link_rules.specs.declared.refusal.LinkError.{LinkError}
 use Rattle.link_rules.specs.declared.refusal.LinkError.TheVariants as link
@@ -8,7 +8,7 @@ use Rattle.link_rules.specs.declared.refusal.LinkKind.TheVariants as rule
 use Rattle.protocol_words.specs.declared.error.ProtocolError.{ProtocolError}
 use Rattle.protocol_words.specs.declared.error.ProtocolError.TheVariants as protocol
 use Rattle.query_core.specs.declared.places.Which.{Which}
-use Rattle.query_core.specs.declared.places.Which.TheVariants.{Method, Index, Local, Second}
+use Rattle.query_core.specs.declared.places.Which.TheVariants.{Method, Index, Local, Second, Field}
 use Rattle.boom_top.specs.declared.status.Status.{Status}
 use Rattle.boom_top.specs.declared.status.Status.TheVariants.{Done, Usage, ReadFault, TooLong, NotText, NotJimple, NotLinked, NoSuchPlace, NotProtocol, NotCertificate, Rejected, OverBudget, WriteFault, NoMemory, NotBatch, BadPrelude}
 
@@ -31,12 +31,13 @@ number_of NoMemory = 13
 number_of (NotBatch at) = 15
 number_of BadPrelude = 16
 
--- the word for the part of a place that isn't there
+-- the word for the part of a place that isn't there, or for a field
 abbrev pub which_text : Which → List ℕ
 which_text Method = codes "method"
 which_text Index = codes "index"
 which_text Local = codes "local"
 which_text Second = codes "second"
+which_text Field = codes "field"
 
 -- the word for a rule of linking
 abbrev pub kind_text : LinkKind → List ℕ
@@ -118,3 +119,7 @@ refusal Done = []
 refusal ReadFault = []
 refusal WriteFault = []
 refusal NoMemory = []
+
+-- the status is this one, and its refusal is the only line
+abbrev pub IsRefusedBy : Status → Status → List (List ℕ) → Type 0
+IsRefusedBy by status lines = (status ≡ by) × (lines ≡ refusal by ∷ [])

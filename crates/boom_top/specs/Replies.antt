@@ -30,16 +30,14 @@ use Rattle.explain_text.specs.Explanations.{IsExplainText}
 use Rattle.run_report.specs.Named.{digits_of}
 use Rattle.run_report.specs.Reports.{IsRunText}
 use Rattle.batch_lines.specs.Queries.{AreQueries, IsFirstBad, QueryParts}
-use Rattle.boom_words.specs.Requests.{Alias, PointsTo, Question, Request, RunFor, Typestate, IsRequest, NoRequest, alias, batch, demo, explain, points_to, replay, run, typestate}
 use Rattle.boom_top.specs.Demo.{IsDemoText, demo_asked}
 use Rattle.boom_top.specs.Queries.{HasNoPrelude, IsPrelude, limit, program_in, rest_in, source_of}
-use Rattle.boom_top.specs.Refusals.{refusal}
+use Rattle.boom_top.specs.Paths.{IsPathReply}
+use Rattle.boom_top.specs.Refusals.{IsRefusedBy, refusal}
+use Rattle.boom_words.specs.Requests.{Alias, PointsTo, Question, Request, RunFor, Typestate, IsRequest, NoRequest, alias, batch, demo, explain, paths, points_to, refined, replay, run, typestate}
+use Rattle.boom_top.specs.Refined.{IsRefinedReply}
 use Rattle.boom_top.specs.declared.status.Status.{Status}
 use Rattle.boom_top.specs.declared.status.Status.TheVariants.{Done, Usage, ReadFault, TooLong, NotText, NotJimple, NotLinked, NoSuchPlace, NotProtocol, NotCertificate, Rejected, OverBudget, WriteFault, NoMemory, NotBatch, BadPrelude}
-
--- the status is this one, and its refusal is the only line
-abbrev pub IsRefusedBy : Status → Status → List (List ℕ) → Type 0
-IsRefusedBy by status lines = (status ≡ by) × (lines ≡ refusal by ∷ [])
 
 -- the answer about a node within the budget, which is told by its sites and the size of its demand
 pub record IsAnswered (p : LinkedProgram) (Tells : Node → List Site → ℕ → List ℕ → Type 0) (budget : ℕ) (n : Node) (lines : List (List ℕ)) : Type 0 where
@@ -148,10 +146,12 @@ abbrev pub IsLinkedReply : LinkedProgram → List ℕ → List ℕ → Question 
 IsLinkedReply p entry rest (points_to asked) = IsPlaceReply p asked (IsAnswerText p)
 IsLinkedReply p entry rest (explain asked) = IsPlaceReply p asked (IsExplainText p)
 IsLinkedReply p entry rest (alias asked) = IsAliasReply p asked
+IsLinkedReply p entry rest (paths asked) = IsPathReply p asked
 IsLinkedReply p entry rest (run asked) = IsRunReply p entry asked
 IsLinkedReply p entry rest (replay budget) = IsReplayReply p budget rest
 IsLinkedReply p entry rest (typestate asked) = IsTypestateReply p entry asked
 IsLinkedReply p entry rest (batch budget) = IsBatchReply p budget rest
+IsLinkedReply p entry rest (refined asked) = IsRefinedReply p asked
 IsLinkedReply p entry rest (demo boxes) = IsPlaceReply p (demo_asked boxes) (λ n. IsDemoText p boxes)
 
 -- a rule of linking refuses the program with the stand-ins, and this is told of it

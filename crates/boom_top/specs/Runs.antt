@@ -10,7 +10,9 @@ use Rattle.link_sites.specs.declared.site.Site.{Site}
 use Rattle.spds_rules.specs.declared.node.Node.{Node}
 use Rattle.spds_rules.specs.declared.node.Var.TheVariants.{Local}
 use Rattle.spds_rules.specs.Nodes.{at}
+use Rattle.step_rules.specs.declared.parts.Slot.TheVariants as slot
 use Rattle.step_rules.specs.Runs.{Run}
+use Rattle.step_rules.specs.Slots.{Path}
 use Rattle.step_rules.specs.States.{Frame, HeapObject, State, place_of}
 use Rattle.run_sound.specs.Simulated.{Holds}
 use Rattle.cert_rules.specs.declared.certificate.Certificate.{Certificate}
@@ -18,15 +20,18 @@ use Rattle.cert_rules.specs.Spelled.{SpellsCertificate}
 use Rattle.cert_query.specs.Replays.{IsAccepted}
 use Rattle.query_core.specs.Answers.{IsAffordable}
 use Rattle.query_core.specs.Places.{ArePlacesOf, IsPlaceOf}
+use Rattle.path_query.specs.Fields.{ArePathFields}
 use Rattle.report_text.specs.Aliases.{IsSharedLine}
 use Rattle.report_text.specs.Answers.{IsSiteLine}
 use Rattle.report_text.specs.Lines.{text_of}
 use Rattle.batch_lines.specs.Queries.{AreQueries, QueryParts}
-use Rattle.boom_words.specs.Requests.{PointsTo, Question, Request, Typestate, IsRequest, alias, batch, demo, explain, points_to, replay, run, typestate}
+use Rattle.boom_words.specs.Requests.{PointsTo, Question, Request, Typestate, IsRequest, alias, batch, demo, explain, paths, points_to, refined, replay, run, typestate}
 use Rattle.track_rules.specs.Protocols.{IsProtocolOf, ProtocolParts}
 use Rattle.track_verdicts.specs.Verdicts as verdict
 use Rattle.boom_top.specs.Demo.{demo_asked}
+use Rattle.boom_top.specs.Paths.{IsPathWithin}
 use Rattle.boom_top.specs.Queries.{Accepted, IsDemo, rest_in, source_of}
+use Rattle.boom_top.specs.Refined.{IsRefinedWithin}
 use Rattle.boom_top.specs.Replies.{AnswersQuery}
 
 -- one of the lines of a text
@@ -76,18 +81,29 @@ PrintsAllAliases p a b old new = (count : ℕ) (s : State) (number : ℕ) (frame
     → Prints old new (codes "aliases yes")
     × ((object : HeapObject) × (slice_get s.heap o ≡ Some object) × (line : List ℕ) × IsSharedLine p object.site line × Prints old new line)
 
+-- In each run, of any length: where a frame, the top one or one that waits, stands at the node's place and the fields lead from what its local holds to an
+-- object, whether a load of them is demanded or not, the line of the object's site is among those that were written.
+abbrev pub PrintsAllPaths : LinkedProgram → Node → List ℕ → Option (List ℕ) → Option (List ℕ) → Type 0
+PrintsAllPaths p n fields old new = (count : ℕ) (s : State) (number x o : ℕ) → Run p count s → (path : Path s number (slot.Local x) fields o)
+    → n ≡ at (place_of path.frame) (Local x)
+    → (object : HeapObject) × (slice_get s.heap o ≡ Some object) × (line : List ℕ) × IsSiteLine p object.site line × Prints old new line
+
 -- The headline of the top call, by what was asked, of a program and of what stands behind its text: the site of each object that a run brings to the local
--- is printed, for each query of a batch in the text that answers it, and locals that hold one object are printed as aliases. What is said of a run is
--- exact, a replay tells one site, and what is said of the demo tells none. When a protocol is met by all runs stands in `Safety`.
+-- is printed, for each query of a batch in the text that answers it, and for a path that of each object at its end, and locals that hold one object are
+-- printed as aliases. The runs are those of the program that was read, also where its calls are refined. What is said of a run is exact, a replay tells one
+-- site, and what is said of the demo tells none. When a protocol is met by all runs stands in `Safety`.
 abbrev pub CoversAllRuns : LinkedProgram → List ℕ → Question → Option (List ℕ) → Option (List ℕ) → Type 0
 CoversAllRuns p rest (points_to asked) old new = (n : Node) → IsPlaceOf p asked.method asked.index asked.local n → PrintsAllRuns p n old new
 CoversAllRuns p rest (explain asked) old new = (n : Node) → IsPlaceOf p asked.method asked.index asked.local n → PrintsAllRuns p n old new
 CoversAllRuns p rest (alias asked) old new = (a b : Node) → ArePlacesOf p asked.method asked.index asked.first asked.second a b
     → PrintsAllAliases p a b old new
+CoversAllRuns p rest (paths asked) old new = (n : Node) (fields : List ℕ) → IsPlaceOf p asked.method asked.index asked.local n
+    → ArePathFields p asked.fields fields → PrintsAllPaths p n fields old new
 CoversAllRuns p rest (run asked) old new = Unit {0}
 CoversAllRuns p rest (replay budget) old new = Unit {0}
 CoversAllRuns p rest (typestate asked) old new = Unit {0}
 CoversAllRuns p rest (batch budget) old new = (queries : List QueryParts) → AreQueries rest queries → PrintsEachAllRuns p budget queries old new
+CoversAllRuns p rest (refined asked) old new = (n : Node) → IsPlaceOf p asked.method asked.index asked.local n → PrintsAllRuns p n old new
 CoversAllRuns p rest (demo boxes) old new = Unit {0}
 
 -- the place is there, and the budget is at least the size of its demand
@@ -108,10 +124,12 @@ HasAnswer p rest (points_to asked) = IsWithin p asked
 HasAnswer p rest (explain asked) = IsWithin p asked
 HasAnswer p rest (alias asked) = (a : Node) × (b : Node) × ArePlacesOf p asked.method asked.index asked.first asked.second a b
     × IsAffordable p (a ∷ b ∷ []) asked.budget
+HasAnswer p rest (paths asked) = IsPathWithin p asked
 HasAnswer p rest (run asked) = Unit {0}
 HasAnswer p rest (replay budget) = IsCertificateOf p budget rest
 HasAnswer p rest (typestate asked) = IsJudgeable p asked
 HasAnswer p rest (batch budget) = (queries : List QueryParts) × AreQueries rest queries
+HasAnswer p rest (refined asked) = IsRefinedWithin p asked
 HasAnswer p rest (demo boxes) = IsWithin p (demo_asked boxes)
 
 -- the words ask for what can be answered, of a program that the bytes spell and that is linked

@@ -16,6 +16,8 @@ use super::aliases::alias_reply;
 use super::batches::batch_reply;
 use super::demo::demo_reply;
 use super::explaining::explain_reply;
+use super::paths::path_reply;
+use super::refined::refined_reply;
 use super::refusal::refusal_text;
 use super::replays::replay_reply;
 use super::status::Status;
@@ -162,10 +164,12 @@ pub(crate) fn linked_reply<R: Threads + Sync, G: Gate>(
         Query::PointsTo(asked) => points_to_reply(hands, asked, linked),
         Query::Explain(asked) => explain_reply(hands, asked, linked),
         Query::Alias(asked) => alias_reply(hands, asked, linked),
+        Query::Paths(asked) => path_reply(hands, asked, linked),
         Query::Run(asked) => run_reply(hands.alloc, command.entry, asked, linked),
         Query::Replay { budget } => replay_reply(hands.alloc, *budget, rest, linked),
         Query::Typestate(asked) => typestate_reply(hands, command.entry, asked, linked),
         Query::Batch { budget } => batch_reply(hands, *budget, rest, linked),
+        Query::Refined(asked) => refined_reply(hands, asked, linked),
         Query::Demo { boxes } => demo_reply(hands, *boxes, linked),
     }
 }

@@ -21,6 +21,7 @@ fn word_of(which: Which) -> &'static str
         Which::Index => "index",
         Which::Local => "local",
         Which::Second => "second",
+        Which::Field => "field",
     }
 }
 

@@ -135,12 +135,18 @@ fn words_reply<R: Threads + Sync, S: Source, G: Gate>(
 /// - `explain ENTRY METHOD INDEX LOCAL BUDGET`: the same, and for each site a certificate that shows it, by a derivation in the system of fields than which
 ///   none is shorter.
 /// - `alias ENTRY METHOD INDEX LOCAL LOCAL BUDGET`: which sites may be those of one object that both locals hold there?
+/// - `paths ENTRY METHOD INDEX LOCAL FIELDS BUDGET`: which sites may be those of the object to which the fields lead, one after the other, from what LOCAL
+///   holds there? FIELDS is 1 to 4 parts with a comma between each two, `[]` for the elements of an array or `CLASS:NAME` for the first instance field
+///   that the class itself declares under the name.
 /// - `run ENTRY STEPS CHOICES`: how does the machine stand after so many steps of the run that the digits name?
 /// - `replay ENTRY BUDGET`: does the certificate behind the program show that a local may hold an object of a site? The program is what stands before the
 ///   first line that is `%certificate`, and the certificate is what stands behind it; the length is that of the whole.
 /// - `typestate ENTRY PROTOCOL BUDGET`: at which statements may an event come on an object in a state in which the protocol doesn't allow it?
 /// - `batch ENTRY BUDGET`: what is answered to each query behind the program, as to a `points-to` command with this budget? The program is what stands
 ///   before the first line that is `%queries`, and each line behind it is a query, `INDEX LOCAL METHOD`, at most 1,000. The length is that of the whole.
+/// - `refined ENTRY METHOD INDEX LOCAL ROUNDS BUDGET`: which sites may be those of the object that LOCAL holds there, where each call on an object keeps
+///   only the targets to which the answer of its receiver leads? This is done ROUNDS times, each over the program that the one before it left, and each
+///   query may demand BUDGET nodes; a call whose receiver's query demands more keeps its targets. The place is one of the program that was read.
 /// - `demo BOXES`: how large is a program of so many boxes, and what does a query of it demand? It reads nothing; its own text stands in the place of
 ///   the bytes.
 ///

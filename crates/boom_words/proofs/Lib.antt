@@ -1,1 +1,4 @@
+pub mod Elements
+pub mod Inverted
+pub mod Parts
 pub mod Words

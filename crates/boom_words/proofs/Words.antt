@@ -1,46 +1,10 @@
 -- The words of a command line, one by one.
-use Rattle.std.proofs.Common.{◌≡◌, ℕ, ◌^◌, ◌<◌, ◌≤◌, List, [], ◌∷◌, Some, sym, ap, ◌∙◌, map, length, get_or, codes, arith, refl}
+use Rattle.std.proofs.Common.{◌≡◌, ℕ, ◌^◌, ◌<◌, ◌≤◌, List, [], ◌∷◌, Some, sym, ◌∙◌, map, length, codes, arith, refl}
 use Rattle.std.proofs.lemmas.List.{length-map}
 use Rattle.std.specs.Fmt.{decimal}
-use Rattle.boom_words.specs.Requests.{AreChoices, IsQuestion, IsRequest, PointsTo, Question, Request, alias, batch, demo, explain, points_to, replay, run, typestate}
-
--- a list of one element is its element
-pub one : {X : Type 0} (xs : List X) (a : X) → length xs ≡ 1 → a ≡ get_or xs 0 a → xs ≡ a ∷ []
-one [] a h p = absurd (omega arith)
-one (x0 ∷ []) a h p = cc
-one (x0 ∷ x1 ∷ xs) a h p = absurd (omega arith)
-
--- a list of two elements is its elements
-pub two : {X : Type 0} (xs : List X) (a b : X) → length xs ≡ 2 → a ≡ get_or xs 0 a → b ≡ get_or xs 1 b → xs ≡ a ∷ b ∷ []
-two [] a b h p q = absurd (omega arith)
-two (x0 ∷ []) a b h p q = absurd (omega arith)
-two (x0 ∷ x1 ∷ []) a b h p q = cc
-two (x0 ∷ x1 ∷ x2 ∷ xs) a b h p q = absurd (omega arith)
-
--- a list of four elements is its elements
-pub four : {X : Type 0} (xs : List X) (a b c d : X) → length xs ≡ 4 → a ≡ get_or xs 0 a → b ≡ get_or xs 1 b → c ≡ get_or xs 2 c → d ≡ get_or xs 3 d
-    → xs ≡ a ∷ b ∷ c ∷ d ∷ []
-four [] a b c d h p q r s = absurd (omega arith)
-four (x0 ∷ []) a b c d h p q r s = absurd (omega arith)
-four (x0 ∷ x1 ∷ []) a b c d h p q r s = absurd (omega arith)
-four (x0 ∷ x1 ∷ x2 ∷ []) a b c d h p q r s = absurd (omega arith)
-four (x0 ∷ x1 ∷ x2 ∷ x3 ∷ []) a b c d h p q r s = cc
-four (x0 ∷ x1 ∷ x2 ∷ x3 ∷ x4 ∷ xs) a b c d h p q r s = absurd (omega arith)
-
--- a list of five elements is its elements
-pub five : {X : Type 0} (xs : List X) (a b c d e : X) → length xs ≡ 5 → a ≡ get_or xs 0 a → b ≡ get_or xs 1 b → c ≡ get_or xs 2 c → d ≡ get_or xs 3 d
-    → e ≡ get_or xs 4 e → xs ≡ a ∷ b ∷ c ∷ d ∷ e ∷ []
-five [] a b c d e h p q r s t = absurd (omega arith)
-five (x0 ∷ []) a b c d e h p q r s t = absurd (omega arith)
-five (x0 ∷ x1 ∷ []) a b c d e h p q r s t = absurd (omega arith)
-five (x0 ∷ x1 ∷ x2 ∷ []) a b c d e h p q r s t = absurd (omega arith)
-five (x0 ∷ x1 ∷ x2 ∷ x3 ∷ []) a b c d e h p q r s t = absurd (omega arith)
-five (x0 ∷ x1 ∷ x2 ∷ x3 ∷ x4 ∷ []) a b c d e h p q r s t = cc
-five (x0 ∷ x1 ∷ x2 ∷ x3 ∷ x4 ∷ x5 ∷ xs) a b c d e h p q r s t = absurd (omega arith)
-
--- the first letter of the first word
-abbrev letter : List (List ℕ) → ℕ
-letter words = get_or (get_or words 0 []) 0 0
+use Rattle.boom_words.specs.Fields.{AreFields, FieldName}
+use Rattle.boom_words.specs.Requests.{Alias, AreChoices, IsAlias, IsExplain, IsPaths, IsPointsTo, IsQuestion, IsRefined, IsRequest, IsRun, IsTypestate, Paths, PointsTo, Question, Refined, Request, RunFor, Typestate, alias, batch, explain, paths, points_to, refined, replay, run, typestate}
+use Rattle.boom_words.proofs.Inverted.{alias_asked, batch_asked, explain_asked, paths_asked, points_to_asked, refined_asked, replay_asked, run_asked, typestate_asked}
 
 -- a word spells this number, and no other below 2^32
 abbrev pub Spells : List ℕ → ℕ → Type 0
@@ -65,53 +29,45 @@ record PlaceNumbers (ask : PointsTo → Question) (entry method index local budg
 points_to_numbers : (entry method index local budget : List ℕ) (named : List ℕ) (q : Question)
     → IsQuestion (codes "points-to" ∷ entry ∷ method ∷ index ∷ local ∷ budget ∷ []) named q
     → PlaceNumbers points_to entry method index local budget named q
-points_to_numbers entry method index local budget named (points_to asked) h =
-    let same = h.in_order in
-    let method_same : method ≡ asked.method = cc in
-    let local_same : local ≡ asked.local = cc in
-    record {
-      at = asked.index;
-      most = asked.budget;
-      small_index = h.small_index;
-      small_budget = h.small_budget;
-      is_index = cc;
-      is_budget = cc;
-      is_entry = cc;
-      asks = rw (method_same, local_same) refl;
-    }
-points_to_numbers entry method index local budget named (explain asked) h = absurd (let same = h.in_order in cc)
-points_to_numbers entry method index local budget named (alias asked) h = absurd (let same = h.in_order in cc)
-points_to_numbers entry method index local budget named (run asked) h = absurd (let same = h.in_order in cc)
-points_to_numbers entry method index local budget named (replay most) h = absurd (let same = h.in_order in cc)
-points_to_numbers entry method index local budget named (typestate asked) h = absurd (let same = h.in_order in cc)
-points_to_numbers entry method index local budget named (batch most) h = absurd (let same : 112 ≡ 98 = ap letter h.in_order in omega (arith, same))
-points_to_numbers entry method index local budget named (demo count) h = absurd (let same = h.in_order in cc)
+points_to_numbers entry method index local budget named q h = let found = points_to_asked (entry ∷ method ∷ index ∷ local ∷ budget ∷ []) named q h in by found.0 found.1 found.2
+  where
+    by : (asked : PointsTo) → IsPointsTo (codes "points-to" ∷ entry ∷ method ∷ index ∷ local ∷ budget ∷ []) named asked → points_to asked ≡ q → PlaceNumbers points_to entry method index local budget named q
+    by asked is asks =
+        let same = is.in_order in
+        let method_same : method ≡ asked.method = cc in
+        let local_same : local ≡ asked.local = cc in
+        record {
+          at = asked.index;
+          most = asked.budget;
+          small_index = is.small_index;
+          small_budget = is.small_budget;
+          is_index = cc;
+          is_budget = cc;
+          is_entry = cc;
+          asks = rw (method_same, local_same) asks;
+        }
 
 -- words that begin with `explain` ask for what shows that a local may hold it
 explain_numbers : (entry method index local budget : List ℕ) (named : List ℕ) (q : Question)
     → IsQuestion (codes "explain" ∷ entry ∷ method ∷ index ∷ local ∷ budget ∷ []) named q
     → PlaceNumbers explain entry method index local budget named q
-explain_numbers entry method index local budget named (points_to asked) h = absurd (let same = h.in_order in cc)
-explain_numbers entry method index local budget named (explain asked) h =
-    let same = h.in_order in
-    let method_same : method ≡ asked.method = cc in
-    let local_same : local ≡ asked.local = cc in
-    record {
-      at = asked.index;
-      most = asked.budget;
-      small_index = h.small_index;
-      small_budget = h.small_budget;
-      is_index = cc;
-      is_budget = cc;
-      is_entry = cc;
-      asks = rw (method_same, local_same) refl;
-    }
-explain_numbers entry method index local budget named (alias asked) h = absurd (let same = h.in_order in cc)
-explain_numbers entry method index local budget named (run asked) h = absurd (let same = h.in_order in cc)
-explain_numbers entry method index local budget named (replay most) h = absurd (let same = h.in_order in cc)
-explain_numbers entry method index local budget named (typestate asked) h = absurd (let same = h.in_order in cc)
-explain_numbers entry method index local budget named (batch most) h = absurd (let same : 101 ≡ 98 = ap letter h.in_order in omega (arith, same))
-explain_numbers entry method index local budget named (demo count) h = absurd (let same = h.in_order in cc)
+explain_numbers entry method index local budget named q h = let found = explain_asked (entry ∷ method ∷ index ∷ local ∷ budget ∷ []) named q h in by found.0 found.1 found.2
+  where
+    by : (asked : PointsTo) → IsExplain (codes "explain" ∷ entry ∷ method ∷ index ∷ local ∷ budget ∷ []) named asked → explain asked ≡ q → PlaceNumbers explain entry method index local budget named q
+    by asked is asks =
+        let same = is.in_order in
+        let method_same : method ≡ asked.method = cc in
+        let local_same : local ≡ asked.local = cc in
+        record {
+          at = asked.index;
+          most = asked.budget;
+          small_index = is.small_index;
+          small_budget = is.small_budget;
+          is_index = cc;
+          is_budget = cc;
+          is_entry = cc;
+          asks = rw (method_same, local_same) asks;
+        }
 
 -- the command with the numbers that its words spell is what the words ask for
 place_only : (ask : PointsTo → Question) (entry method index local budget : List ℕ) (at most : ℕ) (r : Request)
@@ -179,28 +135,24 @@ record AliasNumbers (entry method index first second budget : List ℕ) (named :
 alias_numbers : (entry method index first second budget : List ℕ) (named : List ℕ) (q : Question)
     → IsQuestion (codes "alias" ∷ entry ∷ method ∷ index ∷ first ∷ second ∷ budget ∷ []) named q
     → AliasNumbers entry method index first second budget named q
-alias_numbers entry method index first second budget named (points_to asked) h = absurd (let same = h.in_order in cc)
-alias_numbers entry method index first second budget named (explain asked) h = absurd (let same = h.in_order in cc)
-alias_numbers entry method index first second budget named (alias asked) h =
-    let same = h.in_order in
-    let method_same : method ≡ asked.method = cc in
-    let first_same : first ≡ asked.first = cc in
-    let second_same : second ≡ asked.second = cc in
-    record {
-      at = asked.index;
-      most = asked.budget;
-      small_index = h.small_index;
-      small_budget = h.small_budget;
-      is_index = cc;
-      is_budget = cc;
-      is_entry = cc;
-      asks = rw (method_same, first_same, second_same) refl;
-    }
-alias_numbers entry method index first second budget named (run asked) h = absurd (let same = h.in_order in cc)
-alias_numbers entry method index first second budget named (replay most) h = absurd (let same = h.in_order in cc)
-alias_numbers entry method index first second budget named (typestate asked) h = absurd (let same = h.in_order in cc)
-alias_numbers entry method index first second budget named (batch most) h = absurd (let same : 97 ≡ 98 = ap letter h.in_order in omega (arith, same))
-alias_numbers entry method index first second budget named (demo count) h = absurd (let same = h.in_order in cc)
+alias_numbers entry method index first second budget named q h = let found = alias_asked (entry ∷ method ∷ index ∷ first ∷ second ∷ budget ∷ []) named q h in by found.0 found.1 found.2
+  where
+    by : (asked : Alias) → IsAlias (codes "alias" ∷ entry ∷ method ∷ index ∷ first ∷ second ∷ budget ∷ []) named asked → alias asked ≡ q → AliasNumbers entry method index first second budget named q
+    by asked is asks =
+        let same = is.in_order in
+        let method_same : method ≡ asked.method = cc in
+        let first_same : first ≡ asked.first = cc in
+        let second_same : second ≡ asked.second = cc in
+        record {
+          at = asked.index;
+          most = asked.budget;
+          small_index = is.small_index;
+          small_budget = is.small_budget;
+          is_index = cc;
+          is_budget = cc;
+          is_entry = cc;
+          asks = rw (method_same, first_same, second_same) asks;
+        }
 
 -- the `alias` command with the numbers that its words spell is what the words ask for
 pub alias_only : (entry method index first second budget : List ℕ) (at most : ℕ) (r : Request)
@@ -239,25 +191,21 @@ record RunNumbers (entry steps word : List ℕ) (named : List ℕ) (q : Question
 -- words that begin with `run` ask for a run
 run_numbers : (entry steps word : List ℕ) (named : List ℕ) (q : Question)
     → IsQuestion (codes "run" ∷ entry ∷ steps ∷ word ∷ []) named q → RunNumbers entry steps word named q
-run_numbers entry steps word named (points_to asked) h = absurd (let same = h.in_order in cc)
-run_numbers entry steps word named (explain asked) h = absurd (let same = h.in_order in cc)
-run_numbers entry steps word named (alias asked) h = absurd (let same = h.in_order in cc)
-run_numbers entry steps word named (run asked) h =
-    let same = h.in_order in
-    let word_same : h.word ≡ word = cc in
-    record {
-      count = asked.steps;
-      chosen = asked.choices;
-      few_steps = h.few_steps;
-      is_steps = cc;
-      are_choices = rw word_same at h.are_choices;
-      is_entry = cc;
-      asks = refl;
-    }
-run_numbers entry steps word named (replay most) h = absurd (let same = h.in_order in cc)
-run_numbers entry steps word named (typestate asked) h = absurd (let same = h.in_order in cc)
-run_numbers entry steps word named (batch most) h = absurd (let same : 114 ≡ 98 = ap letter h.in_order in omega (arith, same))
-run_numbers entry steps word named (demo count) h = absurd (let same = h.in_order in cc)
+run_numbers entry steps word named q h = let found = run_asked (entry ∷ steps ∷ word ∷ []) named q h in by found.0 found.1 found.2
+  where
+    by : (asked : RunFor) → IsRun (codes "run" ∷ entry ∷ steps ∷ word ∷ []) named asked → run asked ≡ q → RunNumbers entry steps word named q
+    by asked is asks =
+        let same = is.in_order in
+        let word_same : is.word ≡ word = cc in
+        record {
+          count = asked.steps;
+          chosen = asked.choices;
+          few_steps = is.few_steps;
+          is_steps = cc;
+          are_choices = rw word_same at is.are_choices;
+          is_entry = cc;
+          asks = asks;
+        }
 
 -- the `run` command with the steps and the choices that its words spell is what the words ask for
 pub run_only : (entry steps word : List ℕ) (count : ℕ) (chosen : List ℕ) (r : Request) → IsRequest (codes "run" ∷ entry ∷ steps ∷ word ∷ []) r
@@ -291,17 +239,13 @@ run_has_choices entry steps word r h none = let n = run_numbers entry steps word
 
 -- the words behind the entry of `points-to`, by the question
 points_to_counted : (entry : List ℕ) (words : List (List ℕ)) (named : List ℕ) (q : Question) → IsQuestion (codes "points-to" ∷ entry ∷ words) named q → length words ≡ 4
-points_to_counted entry words named (points_to asked) h =
-    let same = h.in_order in
+points_to_counted entry words named q h =
+    let found = points_to_asked (entry ∷ words) named q h in
+    let asked = found.0 in
+    let is = found.1 in
+    let same = is.in_order in
     let behind : words ≡ asked.method ∷ decimal asked.index ∷ asked.local ∷ decimal asked.budget ∷ [] = cc in
     rw behind refl
-points_to_counted entry words named (explain asked) h = absurd (let same = h.in_order in cc)
-points_to_counted entry words named (alias asked) h = absurd (let same = h.in_order in cc)
-points_to_counted entry words named (run asked) h = absurd (let same = h.in_order in cc)
-points_to_counted entry words named (replay most) h = absurd (let same = h.in_order in cc)
-points_to_counted entry words named (typestate asked) h = absurd (let same : 112 ≡ 116 = ap letter h.in_order in omega (arith, same))
-points_to_counted entry words named (batch most) h = absurd (let same : 112 ≡ 98 = ap letter h.in_order in omega (arith, same))
-points_to_counted entry words named (demo count) h = absurd (let same = h.in_order in cc)
 
 -- a `points-to` command has four words behind its entry
 pub points_to_count : {X : Type 0} (bytes : X → List ℕ) (entry : List ℕ) (words : List X) (r : Request)
@@ -310,17 +254,13 @@ points_to_count bytes entry words r h = sym (length-map words bytes) ∙ points_
 
 -- the words behind the entry of `explain`, by the question
 explain_counted : (entry : List ℕ) (words : List (List ℕ)) (named : List ℕ) (q : Question) → IsQuestion (codes "explain" ∷ entry ∷ words) named q → length words ≡ 4
-explain_counted entry words named (explain asked) h =
-    let same = h.in_order in
+explain_counted entry words named q h =
+    let found = explain_asked (entry ∷ words) named q h in
+    let asked = found.0 in
+    let is = found.1 in
+    let same = is.in_order in
     let behind : words ≡ asked.method ∷ decimal asked.index ∷ asked.local ∷ decimal asked.budget ∷ [] = cc in
     rw behind refl
-explain_counted entry words named (points_to asked) h = absurd (let same = h.in_order in cc)
-explain_counted entry words named (alias asked) h = absurd (let same = h.in_order in cc)
-explain_counted entry words named (run asked) h = absurd (let same = h.in_order in cc)
-explain_counted entry words named (replay most) h = absurd (let same = h.in_order in cc)
-explain_counted entry words named (typestate asked) h = absurd (let same = h.in_order in cc)
-explain_counted entry words named (batch most) h = absurd (let same : 101 ≡ 98 = ap letter h.in_order in omega (arith, same))
-explain_counted entry words named (demo count) h = absurd (let same = h.in_order in cc)
 
 -- an `explain` command has four words behind its entry
 pub explain_count : {X : Type 0} (bytes : X → List ℕ) (entry : List ℕ) (words : List X) (r : Request)
@@ -329,17 +269,13 @@ explain_count bytes entry words r h = sym (length-map words bytes) ∙ explain_c
 
 -- the words behind the entry of `alias`, by the question
 alias_counted : (entry : List ℕ) (words : List (List ℕ)) (named : List ℕ) (q : Question) → IsQuestion (codes "alias" ∷ entry ∷ words) named q → length words ≡ 5
-alias_counted entry words named (points_to asked) h = absurd (let same = h.in_order in cc)
-alias_counted entry words named (explain asked) h = absurd (let same = h.in_order in cc)
-alias_counted entry words named (alias asked) h =
-    let same = h.in_order in
+alias_counted entry words named q h =
+    let found = alias_asked (entry ∷ words) named q h in
+    let asked = found.0 in
+    let is = found.1 in
+    let same = is.in_order in
     let behind : words ≡ asked.method ∷ decimal asked.index ∷ asked.first ∷ asked.second ∷ decimal asked.budget ∷ [] = cc in
     rw behind refl
-alias_counted entry words named (run asked) h = absurd (let same = h.in_order in cc)
-alias_counted entry words named (replay most) h = absurd (let same = h.in_order in cc)
-alias_counted entry words named (typestate asked) h = absurd (let same = h.in_order in cc)
-alias_counted entry words named (batch most) h = absurd (let same : 97 ≡ 98 = ap letter h.in_order in omega (arith, same))
-alias_counted entry words named (demo count) h = absurd (let same = h.in_order in cc)
 
 -- an `alias` command has five words behind its entry
 pub alias_count : {X : Type 0} (bytes : X → List ℕ) (entry : List ℕ) (words : List X) (r : Request)
@@ -348,17 +284,13 @@ alias_count bytes entry words r h = sym (length-map words bytes) ∙ alias_count
 
 -- the words behind the entry of `run`, by the question
 run_counted : (entry : List ℕ) (words : List (List ℕ)) (named : List ℕ) (q : Question) → IsQuestion (codes "run" ∷ entry ∷ words) named q → length words ≡ 2
-run_counted entry words named (points_to asked) h = absurd (let same = h.in_order in cc)
-run_counted entry words named (explain asked) h = absurd (let same = h.in_order in cc)
-run_counted entry words named (alias asked) h = absurd (let same = h.in_order in cc)
-run_counted entry words named (run asked) h =
-    let same = h.in_order in
-    let behind : words ≡ decimal asked.steps ∷ h.word ∷ [] = cc in
+run_counted entry words named q h =
+    let found = run_asked (entry ∷ words) named q h in
+    let asked = found.0 in
+    let is = found.1 in
+    let same = is.in_order in
+    let behind : words ≡ decimal asked.steps ∷ is.word ∷ [] = cc in
     rw behind refl
-run_counted entry words named (replay most) h = absurd (let same = h.in_order in cc)
-run_counted entry words named (typestate asked) h = absurd (let same = h.in_order in cc)
-run_counted entry words named (batch most) h = absurd (let same : 114 ≡ 98 = ap letter h.in_order in omega (arith, same))
-run_counted entry words named (demo count) h = absurd (let same = h.in_order in cc)
 
 -- a `run` command has two words behind its entry
 pub run_count : {X : Type 0} (bytes : X → List ℕ) (entry : List ℕ) (words : List X) (r : Request)
@@ -376,22 +308,18 @@ record ReplayNumbers (entry budget : List ℕ) (named : List ℕ) (q : Question)
 -- words that begin with `replay` ask for a replay
 replay_numbers : (entry budget : List ℕ) (named : List ℕ) (q : Question) → IsQuestion (codes "replay" ∷ entry ∷ budget ∷ []) named q
     → ReplayNumbers entry budget named q
-replay_numbers entry budget named (points_to asked) h = absurd (let same = h.in_order in cc)
-replay_numbers entry budget named (explain asked) h = absurd (let same = h.in_order in cc)
-replay_numbers entry budget named (alias asked) h = absurd (let same = h.in_order in cc)
-replay_numbers entry budget named (run asked) h = absurd (let same = h.in_order in cc)
-replay_numbers entry budget named (replay most) h =
-    let same = h.in_order in
+replay_numbers entry budget named q h =
+    let found = replay_asked (entry ∷ budget ∷ []) named q h in
+    let asked = found.0 in
+    let is = found.1 in
+    let same = is.in_order in
     record {
-      most = most;
-      small_budget = h.small_budget;
+      most = asked;
+      small_budget = is.small_budget;
       is_budget = cc;
       is_entry = cc;
-      asks = refl;
+      asks = found.2;
     }
-replay_numbers entry budget named (typestate asked) h = absurd (let same = h.in_order in cc)
-replay_numbers entry budget named (batch most) h = absurd (let same : 114 ≡ 98 = ap letter h.in_order in omega (arith, same))
-replay_numbers entry budget named (demo count) h = absurd (let same = h.in_order in cc)
 
 -- the `replay` command with the budget that its word spells is what the words ask for
 pub replay_only : (entry budget : List ℕ) (most : ℕ) (r : Request) → IsRequest (codes "replay" ∷ entry ∷ budget ∷ []) r → Spells budget most
@@ -410,17 +338,13 @@ replay_has_budget entry budget r h none =
 
 -- the words behind the entry of `replay`, by the question
 replay_counted : (entry : List ℕ) (words : List (List ℕ)) (named : List ℕ) (q : Question) → IsQuestion (codes "replay" ∷ entry ∷ words) named q → length words ≡ 1
-replay_counted entry words named (points_to asked) h = absurd (let same = h.in_order in cc)
-replay_counted entry words named (explain asked) h = absurd (let same = h.in_order in cc)
-replay_counted entry words named (alias asked) h = absurd (let same = h.in_order in cc)
-replay_counted entry words named (run asked) h = absurd (let same = h.in_order in cc)
-replay_counted entry words named (replay most) h =
-    let same = h.in_order in
-    let behind : words ≡ decimal most ∷ [] = cc in
+replay_counted entry words named q h =
+    let found = replay_asked (entry ∷ words) named q h in
+    let asked = found.0 in
+    let is = found.1 in
+    let same = is.in_order in
+    let behind : words ≡ decimal asked ∷ [] = cc in
     rw behind refl
-replay_counted entry words named (typestate asked) h = absurd (let same = h.in_order in cc)
-replay_counted entry words named (batch most) h = absurd (let same : 114 ≡ 98 = ap letter h.in_order in omega (arith, same))
-replay_counted entry words named (demo count) h = absurd (let same = h.in_order in cc)
 
 -- a `replay` command has one word behind its entry
 pub replay_count : {X : Type 0} (bytes : X → List ℕ) (entry : List ℕ) (words : List X) (r : Request)
@@ -438,23 +362,19 @@ record TypestateNumbers (entry protocol budget : List ℕ) (named : List ℕ) (q
 -- words that begin with `typestate` ask whether a protocol is met
 typestate_numbers : (entry protocol budget : List ℕ) (named : List ℕ) (q : Question) → IsQuestion (codes "typestate" ∷ entry ∷ protocol ∷ budget ∷ []) named q
     → TypestateNumbers entry protocol budget named q
-typestate_numbers entry protocol budget named (points_to asked) h = absurd (let same = h.in_order in cc)
-typestate_numbers entry protocol budget named (explain asked) h = absurd (let same = h.in_order in cc)
-typestate_numbers entry protocol budget named (alias asked) h = absurd (let same = h.in_order in cc)
-typestate_numbers entry protocol budget named (run asked) h = absurd (let same = h.in_order in cc)
-typestate_numbers entry protocol budget named (replay most) h = absurd (let same = h.in_order in cc)
-typestate_numbers entry protocol budget named (typestate asked) h =
-    let same = h.in_order in
-    let protocol_same : protocol ≡ asked.protocol = cc in
-    record {
-      most = asked.budget;
-      small_budget = h.small_budget;
-      is_budget = cc;
-      is_entry = cc;
-      asks = rw protocol_same refl;
-    }
-typestate_numbers entry protocol budget named (batch most) h = absurd (let same : 116 ≡ 98 = ap letter h.in_order in omega (arith, same))
-typestate_numbers entry protocol budget named (demo count) h = absurd (let same = h.in_order in cc)
+typestate_numbers entry protocol budget named q h = let found = typestate_asked (entry ∷ protocol ∷ budget ∷ []) named q h in by found.0 found.1 found.2
+  where
+    by : (asked : Typestate) → IsTypestate (codes "typestate" ∷ entry ∷ protocol ∷ budget ∷ []) named asked → typestate asked ≡ q → TypestateNumbers entry protocol budget named q
+    by asked is asks =
+        let same = is.in_order in
+        let protocol_same : protocol ≡ asked.protocol = cc in
+        record {
+          most = asked.budget;
+          small_budget = is.small_budget;
+          is_budget = cc;
+          is_entry = cc;
+          asks = rw protocol_same asks;
+        }
 
 -- the `typestate` command with the budget that its word spells is what the words ask for
 pub typestate_only : (entry protocol budget : List ℕ) (most : ℕ) (r : Request) → IsRequest (codes "typestate" ∷ entry ∷ protocol ∷ budget ∷ []) r → Spells budget most
@@ -473,17 +393,13 @@ typestate_has_budget entry protocol budget r h none =
 
 -- the words behind the entry of `typestate`, by the question
 typestate_counted : (entry : List ℕ) (words : List (List ℕ)) (named : List ℕ) (q : Question) → IsQuestion (codes "typestate" ∷ entry ∷ words) named q → length words ≡ 2
-typestate_counted entry words named (points_to asked) h = absurd (let same : 116 ≡ 112 = ap letter h.in_order in omega (arith, same))
-typestate_counted entry words named (explain asked) h = absurd (let same = h.in_order in cc)
-typestate_counted entry words named (alias asked) h = absurd (let same = h.in_order in cc)
-typestate_counted entry words named (run asked) h = absurd (let same = h.in_order in cc)
-typestate_counted entry words named (replay most) h = absurd (let same = h.in_order in cc)
-typestate_counted entry words named (typestate asked) h =
-    let same = h.in_order in
+typestate_counted entry words named q h =
+    let found = typestate_asked (entry ∷ words) named q h in
+    let asked = found.0 in
+    let is = found.1 in
+    let same = is.in_order in
     let behind : words ≡ asked.protocol ∷ decimal asked.budget ∷ [] = cc in
     rw behind refl
-typestate_counted entry words named (batch most) h = absurd (let same : 116 ≡ 98 = ap letter h.in_order in omega (arith, same))
-typestate_counted entry words named (demo count) h = absurd (let same = h.in_order in cc)
 
 -- a `typestate` command has two words behind its entry
 pub typestate_count : {X : Type 0} (bytes : X → List ℕ) (entry : List ℕ) (words : List X) (r : Request)
@@ -501,22 +417,18 @@ record BatchNumbers (entry budget : List ℕ) (named : List ℕ) (q : Question) 
 -- words that begin with `batch` ask for a batch of queries
 batch_numbers : (entry budget : List ℕ) (named : List ℕ) (q : Question) → IsQuestion (codes "batch" ∷ entry ∷ budget ∷ []) named q
     → BatchNumbers entry budget named q
-batch_numbers entry budget named (points_to asked) h = absurd (let same : 98 ≡ 112 = ap letter h.in_order in omega (arith, same))
-batch_numbers entry budget named (explain asked) h = absurd (let same : 98 ≡ 101 = ap letter h.in_order in omega (arith, same))
-batch_numbers entry budget named (alias asked) h = absurd (let same : 98 ≡ 97 = ap letter h.in_order in omega (arith, same))
-batch_numbers entry budget named (run asked) h = absurd (let same : 98 ≡ 114 = ap letter h.in_order in omega (arith, same))
-batch_numbers entry budget named (replay most) h = absurd (let same : 98 ≡ 114 = ap letter h.in_order in omega (arith, same))
-batch_numbers entry budget named (batch most) h =
-    let same = h.in_order in
+batch_numbers entry budget named q h =
+    let found = batch_asked (entry ∷ budget ∷ []) named q h in
+    let asked = found.0 in
+    let is = found.1 in
+    let same = is.in_order in
     record {
-      most = most;
-      small_budget = h.small_budget;
+      most = asked;
+      small_budget = is.small_budget;
       is_budget = cc;
       is_entry = cc;
-      asks = refl;
+      asks = found.2;
     }
-batch_numbers entry budget named (typestate asked) h = absurd (let same : 98 ≡ 116 = ap letter h.in_order in omega (arith, same))
-batch_numbers entry budget named (demo count) h = absurd (let same : 98 ≡ 100 = ap letter h.in_order in omega (arith, same))
 
 -- the `batch` command with the budget that its word spells is what the words ask for
 pub batch_only : (entry budget : List ℕ) (most : ℕ) (r : Request) → IsRequest (codes "batch" ∷ entry ∷ budget ∷ []) r → Spells budget most
@@ -535,19 +447,196 @@ batch_has_budget entry budget r h none =
 
 -- the words behind the entry of `batch`, by the question
 batch_counted : (entry : List ℕ) (words : List (List ℕ)) (named : List ℕ) (q : Question) → IsQuestion (codes "batch" ∷ entry ∷ words) named q → length words ≡ 1
-batch_counted entry words named (points_to asked) h = absurd (let same : 98 ≡ 112 = ap letter h.in_order in omega (arith, same))
-batch_counted entry words named (explain asked) h = absurd (let same : 98 ≡ 101 = ap letter h.in_order in omega (arith, same))
-batch_counted entry words named (alias asked) h = absurd (let same : 98 ≡ 97 = ap letter h.in_order in omega (arith, same))
-batch_counted entry words named (run asked) h = absurd (let same : 98 ≡ 114 = ap letter h.in_order in omega (arith, same))
-batch_counted entry words named (replay most) h = absurd (let same : 98 ≡ 114 = ap letter h.in_order in omega (arith, same))
-batch_counted entry words named (batch most) h =
-    let same = h.in_order in
-    let behind : words ≡ decimal most ∷ [] = cc in
+batch_counted entry words named q h =
+    let found = batch_asked (entry ∷ words) named q h in
+    let asked = found.0 in
+    let is = found.1 in
+    let same = is.in_order in
+    let behind : words ≡ decimal asked ∷ [] = cc in
     rw behind refl
-batch_counted entry words named (typestate asked) h = absurd (let same : 98 ≡ 116 = ap letter h.in_order in omega (arith, same))
-batch_counted entry words named (demo count) h = absurd (let same : 98 ≡ 100 = ap letter h.in_order in omega (arith, same))
 
 -- a `batch` command has one word behind its entry
 pub batch_count : {X : Type 0} (bytes : X → List ℕ) (entry : List ℕ) (words : List X) (r : Request)
     → IsRequest (codes "batch" ∷ entry ∷ map bytes words) r → length words ≡ 1
 batch_count bytes entry words r h = sym (length-map words bytes) ∙ batch_counted entry (map bytes words) r.entry r.question h
+
+-- the numbers and the fields of a `paths` command, by its words
+record PathsNumbers (entry method index local fields budget : List ℕ) (named : List ℕ) (q : Question) : Type 0 where
+  pub at : ℕ
+  pub most : ℕ
+  pub small_index : at < 2 ^ 32
+  pub small_budget : most < 2 ^ 32
+  pub is_index : index ≡ decimal at
+  pub is_budget : budget ≡ decimal most
+  pub names : List FieldName
+  pub are_fields : AreFields fields names
+  pub is_entry : entry ≡ named
+  pub asks : paths (record { method = method; index = at; local = local; fields = fields; budget = most }) ≡ q
+
+-- words that begin with `paths` ask for what is at the end of a path
+paths_numbers : (entry method index local fields budget : List ℕ) (named : List ℕ) (q : Question)
+    → IsQuestion (codes "paths" ∷ entry ∷ method ∷ index ∷ local ∷ fields ∷ budget ∷ []) named q
+    → PathsNumbers entry method index local fields budget named q
+paths_numbers entry method index local fields budget named q h = let found = paths_asked (entry ∷ method ∷ index ∷ local ∷ fields ∷ budget ∷ []) named q h in by found.0 found.1 found.2
+  where
+    by : (asked : Paths) → IsPaths (codes "paths" ∷ entry ∷ method ∷ index ∷ local ∷ fields ∷ budget ∷ []) named asked → paths asked ≡ q → PathsNumbers entry method index local fields budget named q
+    by asked is asks =
+        let same = is.in_order in
+        let method_same : method ≡ asked.method = cc in
+        let local_same : local ≡ asked.local = cc in
+        let fields_same : fields ≡ asked.fields = cc in
+        record {
+          at = asked.index;
+          most = asked.budget;
+          small_index = is.small_index;
+          small_budget = is.small_budget;
+          is_index = cc;
+          is_budget = cc;
+          names = is.names;
+          are_fields = rw fields_same is.are_fields;
+          is_entry = cc;
+          asks = rw (method_same, local_same, fields_same) asks;
+        }
+
+-- the `paths` command with the numbers that its words spell is what the words ask for
+pub paths_only : (entry method index local fields budget : List ℕ) (at most : ℕ) (r : Request)
+    → IsRequest (codes "paths" ∷ entry ∷ method ∷ index ∷ local ∷ fields ∷ budget ∷ []) r → Spells index at → Spells budget most
+    → record { entry = entry; question = paths (record { method = method; index = at; local = local; fields = fields; budget = most }) } ≡ r
+paths_only entry method index local fields budget at most r h spells_index spells_budget =
+    let n = paths_numbers entry method index local fields budget r.entry r.question h in
+    let at_same : at ≡ n.at = (let e = spells_index n.at n.small_index n.is_index in cc) in
+    let most_same : most ≡ n.most = (let e = spells_budget n.most n.small_budget n.is_budget in cc) in
+    request_same entry _ r n.is_entry (rw (at_same, most_same) n.asks)
+
+-- a `paths` command has an index
+pub paths_has_index : (entry method index local fields budget : List ℕ) (r : Request)
+    → IsRequest (codes "paths" ∷ entry ∷ method ∷ index ∷ local ∷ fields ∷ budget ∷ []) r → ((n : ℕ) → n < 2 ^ 32 → ¬ (index ≡ decimal n)) → ⊥
+paths_has_index entry method index local fields budget r h none =
+    let n = paths_numbers entry method index local fields budget r.entry r.question h in
+    none n.at n.small_index n.is_index
+
+-- a `paths` command has a budget
+pub paths_has_budget : (entry method index local fields budget : List ℕ) (r : Request)
+    → IsRequest (codes "paths" ∷ entry ∷ method ∷ index ∷ local ∷ fields ∷ budget ∷ []) r → ((n : ℕ) → n < 2 ^ 32 → ¬ (budget ≡ decimal n)) → ⊥
+paths_has_budget entry method index local fields budget r h none =
+    let n = paths_numbers entry method index local fields budget r.entry r.question h in
+    none n.most n.small_budget n.is_budget
+
+-- a `paths` command has fields
+pub paths_has_fields : (entry method index local fields budget : List ℕ) (r : Request)
+    → IsRequest (codes "paths" ∷ entry ∷ method ∷ index ∷ local ∷ fields ∷ budget ∷ []) r → ((names : List FieldName) → AreFields fields names → ⊥) → ⊥
+paths_has_fields entry method index local fields budget r h none =
+    let n = paths_numbers entry method index local fields budget r.entry r.question h in
+    none n.names n.are_fields
+
+-- the words behind the entry of `paths`, by the question
+paths_counted : (entry : List ℕ) (words : List (List ℕ)) (named : List ℕ) (q : Question) → IsQuestion (codes "paths" ∷ entry ∷ words) named q → length words ≡ 5
+paths_counted entry words named q h =
+    let found = paths_asked (entry ∷ words) named q h in
+    let asked = found.0 in
+    let is = found.1 in
+    let same = is.in_order in
+    let behind : words ≡ asked.method ∷ decimal asked.index ∷ asked.local ∷ asked.fields ∷ decimal asked.budget ∷ [] = cc in
+    rw behind refl
+
+-- a `paths` command has five words behind its entry
+pub paths_count : {X : Type 0} (bytes : X → List ℕ) (entry : List ℕ) (words : List X) (r : Request)
+    → IsRequest (codes "paths" ∷ entry ∷ map bytes words) r → length words ≡ 5
+paths_count bytes entry words r h = sym (length-map words bytes) ∙ paths_counted entry (map bytes words) r.entry r.question h
+
+-- the numbers of a `refined` command, by its words
+record RefinedNumbers (entry method index local rounds budget : List ℕ) (named : List ℕ) (q : Question) : Type 0 where
+  pub at : ℕ
+  pub times : ℕ
+  pub most : ℕ
+  pub small_index : at < 2 ^ 32
+  pub few_rounds : times ≤ 8
+  pub small_budget : most < 2 ^ 32
+  pub is_index : index ≡ decimal at
+  pub is_rounds : rounds ≡ decimal times
+  pub is_budget : budget ≡ decimal most
+  pub is_entry : entry ≡ named
+  pub asks : refined (record { method = method; index = at; local = local; rounds = times; budget = most }) ≡ q
+
+-- words that begin with `refined` ask what a local may hold in a narrowed program
+refined_numbers : (entry method index local rounds budget : List ℕ) (named : List ℕ) (q : Question)
+    → IsQuestion (codes "refined" ∷ entry ∷ method ∷ index ∷ local ∷ rounds ∷ budget ∷ []) named q
+    → RefinedNumbers entry method index local rounds budget named q
+refined_numbers entry method index local rounds budget named q h = let found = refined_asked (entry ∷ method ∷ index ∷ local ∷ rounds ∷ budget ∷ []) named q h in by found.0 found.1 found.2
+  where
+    by : (asked : Refined) → IsRefined (codes "refined" ∷ entry ∷ method ∷ index ∷ local ∷ rounds ∷ budget ∷ []) named asked → refined asked ≡ q → RefinedNumbers entry method index local rounds budget named q
+    by asked is asks =
+        let same = is.in_order in
+        let method_same : method ≡ asked.method = cc in
+        let local_same : local ≡ asked.local = cc in
+        record {
+          at = asked.index;
+          times = asked.rounds;
+          most = asked.budget;
+          small_index = is.small_index;
+          few_rounds = is.few_rounds;
+          small_budget = is.small_budget;
+          is_index = cc;
+          is_rounds = cc;
+          is_budget = cc;
+          is_entry = cc;
+          asks = rw (method_same, local_same) asks;
+        }
+
+-- the `refined` command with the numbers that its words spell is what the words ask for
+pub refined_only : (entry method index local rounds budget : List ℕ) (at times most : ℕ) (r : Request)
+    → IsRequest (codes "refined" ∷ entry ∷ method ∷ index ∷ local ∷ rounds ∷ budget ∷ []) r → Spells index at → Spells rounds times → Spells budget most
+    → record { entry = entry; question = refined (record { method = method; index = at; local = local; rounds = times; budget = most }) } ≡ r
+refined_only entry method index local rounds budget at times most r h spells_index spells_rounds spells_budget =
+    let n = refined_numbers entry method index local rounds budget r.entry r.question h in
+    let small : n.times < 2 ^ 32 = (let few = n.few_rounds in omega arith) in
+    let at_same : at ≡ n.at = (let e = spells_index n.at n.small_index n.is_index in cc) in
+    let times_same : times ≡ n.times = (let e = spells_rounds n.times small n.is_rounds in cc) in
+    let most_same : most ≡ n.most = (let e = spells_budget n.most n.small_budget n.is_budget in cc) in
+    request_same entry _ r n.is_entry (rw (at_same, times_same, most_same) n.asks)
+
+-- a `refined` command has an index
+pub refined_has_index : (entry method index local rounds budget : List ℕ) (r : Request)
+    → IsRequest (codes "refined" ∷ entry ∷ method ∷ index ∷ local ∷ rounds ∷ budget ∷ []) r → ((n : ℕ) → n < 2 ^ 32 → ¬ (index ≡ decimal n)) → ⊥
+refined_has_index entry method index local rounds budget r h none =
+    let n = refined_numbers entry method index local rounds budget r.entry r.question h in
+    none n.at n.small_index n.is_index
+
+-- a `refined` command has a number of rounds
+pub refined_has_rounds : (entry method index local rounds budget : List ℕ) (r : Request)
+    → IsRequest (codes "refined" ∷ entry ∷ method ∷ index ∷ local ∷ rounds ∷ budget ∷ []) r → ((n : ℕ) → n < 2 ^ 32 → ¬ (rounds ≡ decimal n)) → ⊥
+refined_has_rounds entry method index local rounds budget r h none =
+    let n = refined_numbers entry method index local rounds budget r.entry r.question h in
+    let few = n.few_rounds in
+    none n.times (omega arith) n.is_rounds
+
+-- a `refined` command has a budget
+pub refined_has_budget : (entry method index local rounds budget : List ℕ) (r : Request)
+    → IsRequest (codes "refined" ∷ entry ∷ method ∷ index ∷ local ∷ rounds ∷ budget ∷ []) r → ((n : ℕ) → n < 2 ^ 32 → ¬ (budget ≡ decimal n)) → ⊥
+refined_has_budget entry method index local rounds budget r h none =
+    let n = refined_numbers entry method index local rounds budget r.entry r.question h in
+    none n.most n.small_budget n.is_budget
+
+-- a `refined` command has at most eight rounds
+pub refined_few : (entry method index local rounds budget : List ℕ) (times : ℕ) (r : Request)
+    → IsRequest (codes "refined" ∷ entry ∷ method ∷ index ∷ local ∷ rounds ∷ budget ∷ []) r → Spells rounds times → times ≤ 8
+refined_few entry method index local rounds budget times r h spells =
+    let n = refined_numbers entry method index local rounds budget r.entry r.question h in
+    let few = n.few_rounds in
+    let same : times ≡ n.times = (let e = spells n.times (omega (arith, few)) n.is_rounds in cc) in
+    omega (arith, few, same)
+
+-- the words behind the entry of `refined`, by the question
+refined_counted : (entry : List ℕ) (words : List (List ℕ)) (named : List ℕ) (q : Question) → IsQuestion (codes "refined" ∷ entry ∷ words) named q → length words ≡ 5
+refined_counted entry words named q h =
+    let found = refined_asked (entry ∷ words) named q h in
+    let asked = found.0 in
+    let is = found.1 in
+    let same = is.in_order in
+    let behind : words ≡ asked.method ∷ decimal asked.index ∷ asked.local ∷ decimal asked.rounds ∷ decimal asked.budget ∷ [] = cc in
+    rw behind refl
+
+-- a `refined` command has five words behind its entry
+pub refined_count : {X : Type 0} (bytes : X → List ℕ) (entry : List ℕ) (words : List X) (r : Request)
+    → IsRequest (codes "refined" ∷ entry ∷ map bytes words) r → length words ≡ 5
+refined_count bytes entry words r h = sym (length-map words bytes) ∙ refined_counted entry (map bytes words) r.entry r.question h

@@ -1,7 +1,9 @@
 -- What a command's fields are.
-use Rattle.boom_words.specs.Requests.{Alias, PointsTo, Question, Request, RunFor, Typestate, alias, batch, demo, explain, points_to, replay, run, typestate}
+use Rattle.boom_words.specs.Requests.{Alias, Paths, PointsTo, Question, Refined, Request, RunFor, Typestate, alias, batch, demo, explain, paths, points_to, refined, replay, run, typestate}
 use Rattle.boom_words.specs.declared.request.Asked.{Asked}
 use Rattle.boom_words.specs.declared.request.AskedBoth.{AskedBoth}
+use Rattle.boom_words.specs.declared.request.AskedPath.{AskedPath}
+use Rattle.boom_words.specs.declared.request.Refining.{Refining}
 use Rattle.boom_words.specs.declared.request.Command.{Command}
 use Rattle.boom_words.specs.declared.request.Query.{Query}
 use Rattle.boom_words.specs.declared.request.Query.TheVariants as query
@@ -16,6 +18,14 @@ points_to_of a = record { method = a.method.now; index = a.index; local = a.loca
 abbrev pub alias_of : AskedBoth → Alias
 alias_of a = record { method = a.method.now; index = a.index; first = a.first.now; second = a.second.now; budget = a.budget }
 
+-- what a `paths` command asks for
+abbrev pub paths_of : AskedPath → Paths
+paths_of a = record { method = a.method.now; index = a.index; local = a.local.now; fields = a.fields.now; budget = a.budget }
+
+-- what a `refined` command asks for
+abbrev pub refined_of : Refining → Refined
+refined_of a = record { method = a.method.now; index = a.index; local = a.local.now; rounds = a.rounds; budget = a.budget }
+
 -- what a `run` command asks for
 abbrev pub run_of : Running → RunFor
 run_of a = record { steps = a.steps; choices = a.choices.now }
@@ -29,6 +39,8 @@ abbrev pub question_of : Query → Question
 question_of (query.PointsTo asked) = points_to (points_to_of asked)
 question_of (query.Explain asked) = explain (points_to_of asked)
 question_of (query.Alias asked) = alias (alias_of asked)
+question_of (query.Paths asked) = paths (paths_of asked)
+question_of (query.Refined asked) = refined (refined_of asked)
 question_of (query.Run asked) = run (run_of asked)
 question_of (query.Replay budget) = replay budget
 question_of (query.Typestate asked) = typestate (typestate_of asked)

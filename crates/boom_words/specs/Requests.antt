@@ -2,6 +2,7 @@
 use Rattle.std.specs.Prelude.{◌≡◌, ℕ, ◌^◌, ◌<◌, ◌≤◌, ◌⊎◌, List, [], ◌∷◌, All, codes, length}
 use Rattle.std.specs.Fmt.{decimal}
 use Rattle.std.specs.Char.{IsAsciiDigit}
+use Rattle.boom_words.specs.Fields.{AreFields, FieldName}
 
 -- what may a local hold: a method, an index, a local of it, and how many nodes may be demanded
 pub record PointsTo : Type 0 where
@@ -16,6 +17,24 @@ pub record Alias : Type 0 where
   pub index : ℕ
   pub first : List ℕ
   pub second : List ℕ
+  pub budget : ℕ
+
+-- what may be at the end of a path of fields from a local: a method, an index, a local of it, the word that spells the fields, and how many nodes may be
+-- demanded
+pub record Paths : Type 0 where
+  pub method : List ℕ
+  pub index : ℕ
+  pub local : List ℕ
+  pub fields : List ℕ
+  pub budget : ℕ
+
+-- what may a local hold, where the targets of calls are narrowed so many times by what their receivers may hold: a method, an index, a local of it, the
+-- times, and how many nodes may be demanded
+pub record Refined : Type 0 where
+  pub method : List ℕ
+  pub index : ℕ
+  pub local : List ℕ
+  pub rounds : ℕ
   pub budget : ℕ
 
 -- how a run stands after so many steps, of which these characters name the choices
@@ -34,6 +53,8 @@ pub data Question : Type 0 where
   points_to : PointsTo → Question
   explain : PointsTo → Question
   alias : Alias → Question
+  paths : Paths → Question
+  refined : Refined → Question
   run : RunFor → Question
   replay : ℕ → Question
   typestate : Typestate → Question
@@ -62,6 +83,23 @@ pub record IsAlias (words : List (List ℕ)) (entry : List ℕ) (asked : Alias) 
   pub in_order : words
       ≡ codes "alias" ∷ entry ∷ asked.method ∷ decimal asked.index ∷ asked.first ∷ asked.second ∷ decimal asked.budget ∷ []
   pub small_index : asked.index < 2 ^ 32
+  pub small_budget : asked.budget < 2 ^ 32
+
+-- the words of a `paths` command, by position: the two numbers are as those of a `points-to` command, and a word spells 1 to 4 fields
+pub record IsPaths (words : List (List ℕ)) (entry : List ℕ) (asked : Paths) : Type 0 where
+  pub names : List FieldName
+  pub in_order : words
+      ≡ codes "paths" ∷ entry ∷ asked.method ∷ decimal asked.index ∷ asked.local ∷ asked.fields ∷ decimal asked.budget ∷ []
+  pub small_index : asked.index < 2 ^ 32
+  pub are_fields : AreFields asked.fields names
+  pub small_budget : asked.budget < 2 ^ 32
+
+-- the words of a `refined` command, by position: index and budget are as those of a `points-to` command, and the rounds are one digit, at most 8
+pub record IsRefined (words : List (List ℕ)) (entry : List ℕ) (asked : Refined) : Type 0 where
+  pub in_order : words
+      ≡ codes "refined" ∷ entry ∷ asked.method ∷ decimal asked.index ∷ asked.local ∷ decimal asked.rounds ∷ decimal asked.budget ∷ []
+  pub small_index : asked.index < 2 ^ 32
+  pub few_rounds : asked.rounds ≤ 8
   pub small_budget : asked.budget < 2 ^ 32
 
 -- the word for choices: a dash for none, or decimal digits, at most a thousand
@@ -103,6 +141,8 @@ abbrev pub IsQuestion : List (List ℕ) → List ℕ → Question → Type 0
 IsQuestion words entry (points_to asked) = IsPointsTo words entry asked
 IsQuestion words entry (explain asked) = IsExplain words entry asked
 IsQuestion words entry (alias asked) = IsAlias words entry asked
+IsQuestion words entry (paths asked) = IsPaths words entry asked
+IsQuestion words entry (refined asked) = IsRefined words entry asked
 IsQuestion words entry (run asked) = IsRun words entry asked
 IsQuestion words entry (replay budget) = IsReplay words entry budget
 IsQuestion words entry (typestate asked) = IsTypestate words entry asked

@@ -1,6 +1,10 @@
 //! The words of a command line: which command they are, and what it asks for.
 #![tactic(auto)]
 
+mod fields;
 mod request;
 
-pub use request::{Asked, AskedBoth, Command, Query, Running, Tracking, number, read_words};
+pub use fields::{FieldWord, read_fields};
+pub use request::{
+    Asked, AskedBoth, AskedPath, Command, Query, Refining, Running, Tracking, number, read_words,
+};

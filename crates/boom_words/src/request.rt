@@ -5,6 +5,7 @@ ghost use Rattle.std.specs.Char.{IsAsciiDigit};
 ghost use Rattle.boom_words.specs.Requests.{AreChoices, IsRequest, Request};
 ghost use Rattle.boom_words.specs.Commands.{request_of};
 
+use super::fields::read_fields;
 use jim_ast::NoMemory;
 use std::alloc::Global;
 
@@ -24,6 +25,26 @@ pub struct AskedBoth<'a> {
     pub index: u32,
     pub first: &'a str,
     pub second: &'a str,
+    pub budget: u32,
+}
+
+/// What a `paths` command asks for: the fields as the word spells them.
+#[derive(Clone, Copy)]
+pub struct AskedPath<'a> {
+    pub method: &'a str,
+    pub index: u32,
+    pub local: &'a str,
+    pub fields: &'a str,
+    pub budget: u32,
+}
+
+/// What a `refined` command asks for: the targets of calls are narrowed in 0 to 8 rounds.
+#[derive(Clone, Copy)]
+pub struct Refining<'a> {
+    pub method: &'a str,
+    pub index: u32,
+    pub local: &'a str,
+    pub rounds: u32,
     pub budget: u32,
 }
 
@@ -50,6 +71,10 @@ pub enum Query<'a> {
     Explain(Asked<'a>),
     /// Which sites may two locals both hold?
     Alias(AskedBoth<'a>),
+    /// Which sites may be at the end of a path of fields from a local?
+    Paths(AskedPath<'a>),
+    /// Which sites may a local hold, where calls have the targets alone that their receivers leave them?
+    Refined(Refining<'a>),
     /// How does a run stand after some steps?
     Run(Running<'a>),
     /// Is the certificate behind the program one, where no more nodes may be demanded?
@@ -68,6 +93,9 @@ pub struct Command<'a> {
     pub entry: &'a str,
     pub query: Query<'a>,
 }
+
+/// The most rounds in which calls are narrowed.
+const MOST_ROUNDS: u32 = 8;
 
 /// The most steps of a run.
 const MOST_STEPS: u32 = 1_000_000;
@@ -216,6 +244,82 @@ fn alias<'a>(
     }))
 }
 
+// The `paths` command with this entry and these words behind it.
+fn paths<'a>(
+    alloc: Global,
+    entry: &'a str,
+    words: &'a [String],
+) -> Result<Option<Command<'a>>, NoMemory>
+    ensures some { IfOk result (λ found. IfSome found (λ c.
+        IsRequest (codes "paths" ∷ entry.now ∷ map string_bytes words.now) (request_of c))) }
+    ensures only { IfOk result (λ found. (r : Request) → IsRequest (codes "paths" ∷ entry.now ∷ map string_bytes words.now) r
+        → IsSomeAnd found (λ c. request_of c ≡ r)) }
+{
+    let [method, index, local, fields, budget] = words else {
+        return Ok(None);
+    };
+    let Some(index) = number(alloc, index.as_str())? else {
+        return Ok(None);
+    };
+    let Some(budget) = number(alloc, budget.as_str())? else {
+        return Ok(None);
+    };
+    let fields = fields.as_str();
+    if read_fields(alloc, fields)?.is_none() {
+        return Ok(None);
+    }
+    let asked = AskedPath {
+        method: method.as_str(),
+        index,
+        local: local.as_str(),
+        fields,
+        budget,
+    };
+    Ok(Some(Command {
+        entry,
+        query: Query::Paths(asked),
+    }))
+}
+
+// The `refined` command with this entry and these words behind it.
+fn refined<'a>(
+    alloc: Global,
+    entry: &'a str,
+    words: &'a [String],
+) -> Result<Option<Command<'a>>, NoMemory>
+    ensures some { IfOk result (λ found. IfSome found (λ c.
+        IsRequest (codes "refined" ∷ entry.now ∷ map string_bytes words.now) (request_of c))) }
+    ensures only { IfOk result (λ found. (r : Request) → IsRequest (codes "refined" ∷ entry.now ∷ map string_bytes words.now) r
+        → IsSomeAnd found (λ c. request_of c ≡ r)) }
+{
+    let [method, index, local, rounds, budget] = words else {
+        return Ok(None);
+    };
+    let Some(index) = number(alloc, index.as_str())? else {
+        return Ok(None);
+    };
+    let Some(rounds) = number(alloc, rounds.as_str())? else {
+        return Ok(None);
+    };
+    if rounds > MOST_ROUNDS {
+        return Ok(None);
+    }
+    let Some(budget) = number(alloc, budget.as_str())? else {
+        return Ok(None);
+    };
+    let asked = Refining {
+        method: method.as_str(),
+        index,
+        local: local.as_str(),
+        rounds,
+        budget,
+    };
+    Ok(Some(Command {
+        entry,
+        query: Query::Refined(asked),
+    }))
+}
+
 // The `run` command with this entry and these words behind it.
 fn run<'a>(
     alloc: Global,
@@ -342,11 +446,12 @@ fn demo<'a>(
 }
 
 /// The command that the words are, if they are one: `points-to ENTRY METHOD INDEX LOCAL BUDGET`,
-/// `explain ENTRY METHOD INDEX LOCAL BUDGET`, `alias ENTRY METHOD INDEX LOCAL LOCAL BUDGET`, `run ENTRY STEPS CHOICES`, `replay ENTRY BUDGET`,
-/// `typestate ENTRY PROTOCOL BUDGET`, `batch ENTRY BUDGET` or `demo BOXES`.
+/// `explain ENTRY METHOD INDEX LOCAL BUDGET`, `alias ENTRY METHOD INDEX LOCAL LOCAL BUDGET`, `paths ENTRY METHOD INDEX LOCAL FIELDS BUDGET`,
+/// `refined ENTRY METHOD INDEX LOCAL ROUNDS BUDGET`, `run ENTRY STEPS CHOICES`, `replay ENTRY BUDGET`, `typestate ENTRY PROTOCOL BUDGET`,
+/// `batch ENTRY BUDGET` or `demo BOXES`.
 ///
-/// INDEX, BUDGET, STEPS and BOXES are decimal digits without a leading zero, at most 4,294,967,295, STEPS at most 1,000,000 and BOXES from 1 to 400.
-/// CHOICES is a dash for none, or 1 to 1,000 decimal digits. The other words are any texts. The entry of `demo` is its program's class `Demo`.
+/// INDEX, BUDGET, STEPS, ROUNDS and BOXES are decimal digits without a leading zero, at most 4,294,967,295, STEPS at most 1,000,000, ROUNDS at most 8 and
+/// BOXES from 1 to 400. FIELDS is as for [`read_fields`]. CHOICES is a dash for none, or 1 to 1,000 decimal digits. The other words are any texts. The entry of `demo` is its program's class `Demo`.
 pub fn read_words(alloc: Global, words: &[String]) -> Result<Option<Command<'_>>, NoMemory>
     ensures some { IfOk result (λ found. IfSome found (λ c. IsRequest (map string_bytes words.now) (request_of c))) }
     ensures only { IfOk result (λ found. (r : Request) → IsRequest (map string_bytes words.now) r → IsSomeAnd found (λ c. request_of c ≡ r)) }
@@ -358,6 +463,8 @@ pub fn read_words(alloc: Global, words: &[String]) -> Result<Option<Command<'_>>
         "points-to" => points_to(alloc, second.as_str(), rest),
         "explain" => explain(alloc, second.as_str(), rest),
         "alias" => alias(alloc, second.as_str(), rest),
+        "paths" => paths(alloc, second.as_str(), rest),
+        "refined" => refined(alloc, second.as_str(), rest),
         "run" => run(alloc, second.as_str(), rest),
         "replay" => replay(alloc, second.as_str(), rest),
         "typestate" => typestate(alloc, second.as_str(), rest),

@@ -27,9 +27,23 @@ fn reads_and_writes_of_queries_fail(rt: HostRuntime) -> Result<(), Fail> {
 }
 
 #[test]
+fn reads_and_writes_of_paths_fail(rt: HostRuntime) -> Result<(), Fail> {
+    let words = ["paths", "Main", METHOD, "4", "x", "[]", "100"];
+    assert!(rt; fails(&rt, &words, CALLS)?);
+    Ok(())
+}
+
+#[test]
 fn reads_and_writes_of_other_commands_fail(rt: HostRuntime) -> Result<(), Fail> {
     assert!(rt; fails(&rt, &["run", "Main", "3", "-"], CALLS)?);
     assert!(rt; fails(&rt, &["typestate", "Main", PROTOCOL, "100"], FILES)?);
+    assert!(rt;
+        fails(
+            &rt,
+            &["refined", "Main", METHOD, "4", "x", "2", "100"],
+            CALLS
+        )?
+    );
     Ok(())
 }
 

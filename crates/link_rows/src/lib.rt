@@ -10,3 +10,5 @@ mod codes;
 mod indexes;
 #[cfg(test)]
 mod linking;
+#[cfg(test)]
+mod narrowing;

@@ -1,7 +1,10 @@
 pub mod Asking
+pub mod Determined
+pub mod Sited
+pub mod Sound
 mod Standing
 mod Collecting
 mod Numbering
 mod Ends
 mod Ways
-mod Sound
+mod Numbered

@@ -4,9 +4,11 @@
 #![tactic(auto)]
 
 mod answer;
+mod fields;
 mod hops;
 mod posed;
 mod sites;
 mod targets;
 
 pub use answer::{PathAnswer, path_sites};
+pub use fields::fields_named;

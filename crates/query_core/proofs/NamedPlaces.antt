@@ -49,6 +49,7 @@ module _ (p : LinkedProgram) (text : List ℕ) (index : ℕ) where
         let methods = method_one here.number i here.method m here.is_method is in
         none (here.local, subst (λ (m : LinkedMethod). slice_get m.locals here.local ≡ Some name) methods.1 here.is_local.holds)
     place_there n here which.Second none = none
+    place_there n here which.Field none = none
 
     -- one part is the first that is missing
     pub missing_one : (part other : Which) → IsMissing p text index name part → IsMissing p text index name other → part ≡ other
@@ -68,7 +69,9 @@ module _ (p : LinkedProgram) (text : List ℕ) (index : ℕ) where
         absurd (omega arith)
     missing_one which.Local which.Local a b = refl
     missing_one which.Second other a b = absurd a
+    missing_one which.Field other a b = absurd a
     missing_one part which.Second a b = absurd b
+    missing_one part which.Field a b = absurd b
 
   -- the places of two locals
   module _ (first second : List ℕ) where
@@ -82,6 +85,7 @@ module _ (p : LinkedProgram) (text : List ℕ) (index : ℕ) where
     places_there a b here which.Method none = place_there first a here.is_first which.Method none
     places_there a b here which.Index none = place_there first a here.is_first which.Index none
     places_there a b here which.Local none = place_there first a here.is_first which.Local none
+    places_there a b here which.Field none = none
 
     -- one part is the first that is missing
     pub missing_one_of_two : (part other : Which) → IsMissingOfTwo p text index first second part → IsMissingOfTwo p text index first second other → part ≡ other
@@ -101,6 +105,8 @@ module _ (p : LinkedProgram) (text : List ℕ) (index : ℕ) where
     missing_one_of_two which.Local which.Method a b = missing_one first which.Local which.Method a b
     missing_one_of_two which.Local which.Index a b = missing_one first which.Local which.Index a b
     missing_one_of_two which.Local which.Local a b = missing_one first which.Local which.Local a b
+    missing_one_of_two which.Field other a b = absurd a
+    missing_one_of_two part which.Field a b = absurd b
 
     -- where the first local is there, what is missing of the second's place is the second local
     pub second_missing : (a : Node) → IsPlaceOf p text index first a → (part : Which) → IsMissing p text index second part
@@ -109,3 +115,4 @@ module _ (p : LinkedProgram) (text : List ℕ) (index : ℕ) where
     second_missing a here which.Index none = absurd (place_there first a here which.Index none)
     second_missing a here which.Local none = (a, here, none)
     second_missing a here which.Second none = absurd none
+    second_missing a here which.Field none = absurd none

@@ -27,13 +27,14 @@ pub record IsPlaceOf (p : LinkedProgram) (text : List ℕ) (index : ℕ) (name :
   pub is_local : IsFirstPlace method.locals name local
   pub is : n ≡ at (before number index) (Local local)
 
--- the first part of the place that isn't there; a place of one local has no second one
+-- the first part of the place that isn't there; a place of one local has no second one, and no field
 abbrev pub IsMissing : LinkedProgram → List ℕ → ℕ → List ℕ → Which → Type 0
 IsMissing p text index name which.Method = (number : ℕ) → HasText p text number → ⊥
 IsMissing p text index name which.Index = (number : ℕ) × (m : LinkedMethod) × IsMethodOf p text number m × (length m.code ≤ index)
 IsMissing p text index name which.Local =
     (number : ℕ) × (m : LinkedMethod) × IsMethodOf p text number m × (index < length m.code) × (Has m.locals name → ⊥)
 IsMissing p text index name which.Second = ⊥
+IsMissing p text index name which.Field = ⊥
 
 -- the nodes of two locals just before one statement
 pub record ArePlacesOf (p : LinkedProgram) (text : List ℕ) (index : ℕ) (first second : List ℕ) (a b : Node) : Type 0 where
@@ -46,3 +47,4 @@ IsMissingOfTwo p text index first second which.Second = (n : Node) × IsPlaceOf 
 IsMissingOfTwo p text index first second which.Method = IsMissing p text index first which.Method
 IsMissingOfTwo p text index first second which.Index = IsMissing p text index first which.Index
 IsMissingOfTwo p text index first second which.Local = IsMissing p text index first which.Local
+IsMissingOfTwo p text index first second which.Field = ⊥

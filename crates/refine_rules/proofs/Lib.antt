@@ -1,2 +1,3 @@
 pub mod Dispatched
+pub mod Once
 pub mod Whole

@@ -31,7 +31,8 @@ use Rattle.step_rules.specs.Effects.{Effect, calls}
 use Rattle.step_rules.specs.Offers.{Offers}
 use Rattle.step_rules.specs.Runs.{Run}
 use Rattle.step_rules.specs.States.{Frame, HeapObject, Point, state_of}
-use Rattle.refine_rules.specs.Refined.{AreKeptBy, AreToKeep, GoesByObject, IsRefined, IsRefinedBy, IsSelected, RefinedKeepsRuns, none, query_of, receiver_at, round}
+use Rattle.refine_rules.specs.Refined.{AreToKeep, GoesByObject, IsRefined, IsRefinedBy, IsSelected, none, query_of, receiver_at, round}
+use Rattle.refine_rules.specs.Laws.{AreKeptBy, RefinedKeepsRuns}
 use Rattle.refine_rules.proofs.Dispatched.{IsDispatched, dispatched}
 
 -- a call on an object has a receiver

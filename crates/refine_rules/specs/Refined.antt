@@ -6,14 +6,12 @@ use Rattle.class_tree.specs.Rows.{Sub}
 use Rattle.jim_ast.specs.declared.syntax.Mode.{Mode}
 use Rattle.jim_ast.specs.declared.syntax.Mode.TheVariants.{Special, Virtual, Interface, Static}
 use Rattle.link_rules.specs.Linked.{LinkedProgram}
-use Rattle.link_rules.specs.WellLinked.{HasTarget, IsWellLinked}
+use Rattle.link_rules.specs.WellLinked.{HasTarget}
 use Rattle.link_sites.specs.declared.site.Site.{Site}
 use Rattle.link_sites.specs.Places.{before}
 use Rattle.link_sites.specs.Sites.{IsSiteClass}
-use Rattle.narrow_covers.specs.SameRuns.{HaveSameRuns}
 use Rattle.narrow_rules.specs.declared.kept.Kept.{Kept}
 use Rattle.narrow_rules.specs.Narrowed.{IsKept, IsNarrowed}
-use Rattle.run_covers.specs.Covers.{IsCovered}
 use Rattle.spds_rules.specs.declared.node.Node.{Node}
 use Rattle.spds_rules.specs.declared.node.Var.TheVariants.{Local}
 use Rattle.spds_rules.specs.declared.reach.Reach.TheVariants.{Plain}
@@ -67,13 +65,3 @@ IsRefined p budget q = (kept : List Kept) × AreToKeep p budget kept × IsNarrow
 pub data IsRefinedBy (budget : ℕ) (p : LinkedProgram) : ℕ → LinkedProgram → Type 0 where
   none : IsRefinedBy budget p zero p
   round : {rounds : ℕ} {q r : LinkedProgram} → IsRefinedBy budget p rounds q → IsRefined q budget r → IsRefinedBy budget p (suc rounds) r
-
--- what rounds keep of a program
-pub record AreKeptBy (p q : LinkedProgram) : Type 0 where
-  pub well : IsWellLinked q
-  pub covered : IsCovered q
-  pub runs : HaveSameRuns p q
-
--- rounds keep runs
-abbrev pub RefinedKeepsRuns : Type 0
-RefinedKeepsRuns = (p q : LinkedProgram) (budget rounds : ℕ) → IsWellLinked p → IsCovered p → IsRefinedBy budget p rounds q → AreKeptBy p q

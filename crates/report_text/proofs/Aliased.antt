@@ -8,7 +8,7 @@ use Rattle.report_text.specs.Lines.{AddsLine}
 use Rattle.report_text.specs.Texts.{AddsText}
 
 -- five parts behind a text, one after another
-parted : (old a x s y n : List ℕ) → old ++ a ++ x ++ s ++ y ++ n ≡ old ++ (a ++ x ++ s ++ y ++ n)
+pub parted : (old a x s y n : List ℕ) → old ++ a ++ x ++ s ++ y ++ n ≡ old ++ (a ++ x ++ s ++ y ++ n)
 parted old a x s y n = simp append_assoc
 
 -- a text that grew by the parts of the line

@@ -77,3 +77,16 @@ pub record IsAcceptedText (p : LinkedProgram) (n : Node) (site : Site) (demanded
   pub query_is : IsQueryLine p (codes "accepted") n query
   pub line_is : IsSiteLine p site line
   pub text_is : text ≡ text_of (query ∷ line ∷ (codes "demanded " ++ decimal demanded) ∷ [])
+
+-- the line with the number of pairs of a call and a target that are gone
+abbrev pub narrowed_line : ℕ → List ℕ
+narrowed_line narrowed = codes "narrowed " ++ decimal narrowed
+
+-- the reply that answers which sites a local may hold where calls are refined: a line for the query, one for what is gone, one for each site, two for the
+-- counts
+pub record IsRefinedText (p : LinkedProgram) (n : Node) (narrowed : ℕ) (sites : List Site) (demanded : ℕ) (text : List ℕ) : Type 0 where
+  pub query : List ℕ
+  pub lines : List (List ℕ)
+  pub query_is : IsQueryLine p (codes "refined") n query
+  pub lines_are : Each (IsSiteLine p) sites lines
+  pub text_is : text ≡ text_of (query ∷ narrowed_line narrowed ∷ (lines ++ count_lines (length sites) demanded))

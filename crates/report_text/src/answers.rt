@@ -4,7 +4,7 @@ ghost use Rattle.std.specs.Fmt.{decimal};
 ghost use Rattle.link_rules.specs.Lists.{Each};
 ghost use Rattle.link_sites.specs.Sites.{IsSite};
 ghost use Rattle.report_text.specs.Aliases.{IsAliasLine, IsAliasText, verdict_lines};
-ghost use Rattle.report_text.specs.Answers.{IsAcceptedText, IsAnswerText, IsQueryLine, IsQueryNode, IsTargetText, IsVarName, IsWordedSite, count_lines};
+ghost use Rattle.report_text.specs.Answers.{IsAcceptedText, IsAnswerText, IsQueryLine, IsQueryNode, IsRefinedText, IsTargetText, IsVarName, IsWordedSite, count_lines, narrowed_line};
 ghost use Rattle.report_text.specs.Lines.{AddsLine, AddsLines, text_of};
 ghost use Rattle.report_text.specs.Texts.{AddsText};
 
@@ -28,8 +28,8 @@ fn push_local_name(text: &mut String, linked: &Linked, node: Node) -> Result<(),
     }
 }
 
-// Adds the text of a node that names a local.
-fn push_target(text: &mut String, linked: &Linked, target: Node) -> Result<(), NoMemory>
+/// Adds the text of a node that names a local.
+pub(crate) fn push_target(text: &mut String, linked: &Linked, target: Node) -> Result<(), NoMemory>
     requires { IsQueryNode linked.now target }
     ensures { OnOk result (AddsText (IsTargetText linked.now target) (string_bytes text.old) (string_bytes text.new)) }
 {
@@ -86,8 +86,8 @@ pub fn push_site_line(
     text.push_str("\n")
 }
 
-// Adds the lines of sites, in order, each behind the same word and its space.
-fn push_site_lines(
+/// Adds the lines of sites, in order, each behind the same word and its space.
+pub(crate) fn push_site_lines(
     text: &mut String,
     linked: &Linked,
     word: &str,
@@ -187,4 +187,34 @@ pub fn accepted_text(
     push_site_line(&mut text, linked, "site ", site)?;
     push_demanded(&mut text, demanded)?;
     Ok(text.into_bytes())
+}
+
+// Adds the line with the number of pairs of a call and a target that are gone.
+fn push_narrowed(text: &mut String, narrowed: usize) -> Result<(), NoMemory>
+    ensures { OnOk result (string_bytes text.new ≡ string_bytes text.old ++ text_of (narrowed_line narrowed ∷ [])) }
+{
+    write!(text, "narrowed {narrowed}\n")
+}
+
+/// The reply that answers which sites a local may hold just before a statement where calls are refined: `refined PLACE LOCAL`, `narrowed` with the given
+/// number of pairs of a call and a target that are gone, `site S` for each site in the given order, `sites` with their number and `demanded` with the given
+/// size of the demand. Each line ends with a line feed. The place and the sites are those of the first program.
+pub fn refined_text(
+    alloc: Global,
+    linked: &Linked,
+    target: Node,
+    narrowed: usize,
+    sites: &[Site],
+    demanded: u32,
+) -> Result<Vec<u8>, NoMemory>
+    requires target { IsQueryNode linked.now target }
+    requires sites { All (IsSite linked.now) sites.now }
+    ensures { IfOk result (λ text. IsRefinedText linked.now target narrowed sites.now demanded text.items) }
+{
+    let mut reply = String::new(alloc);
+    push_query_line(&mut reply, linked, "refined", target)?;
+    push_narrowed(&mut reply, narrowed)?;
+    push_site_lines(&mut reply, linked, "site ", sites)?;
+    push_counts(&mut reply, sites.len(), demanded)?;
+    Ok(reply.into_bytes())
 }

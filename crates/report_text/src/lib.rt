@@ -4,11 +4,14 @@
 #![tactic(auto)]
 
 mod answers;
+mod paths;
 mod places;
 mod sites;
 
 pub use answers::{
     accepted_text, alias_text, answer_text, push_counts, push_query_line, push_site_line,
+    refined_text,
 };
+pub use paths::path_text;
 pub use places::{place_text, push_place_text};
 pub use sites::{push_site_text, site_text};

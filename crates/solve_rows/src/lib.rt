@@ -7,3 +7,5 @@ mod pieces;
 mod programs;
 #[cfg(test)]
 mod queries;
+#[cfg(test)]
+mod refining;

@@ -1,5 +1,6 @@
 use Rattle.std.proofs.Common.{◌≡◌, [], ◌∷◌, map, string_bytes, ap, ◌∙◌, arith, refl}
-use Rattle.boom_words.proofs.Words.{alias_count, alias_has_budget, alias_has_index, alias_only, five}
+use Rattle.boom_words.proofs.Elements.{five}
+use Rattle.boom_words.proofs.Words.{alias_count, alias_has_budget, alias_has_index, alias_only}
 use Rattle.boom_words.proofs.request.alias.Goals as goal
 
 pub returns-in_default-clause-only : goal.returns-in_default-clause-only

@@ -1,5 +1,6 @@
 use Rattle.std.proofs.Common.{◌≡◌, [], ◌∷◌, map, string_bytes, ap, ◌∙◌, arith, refl}
-use Rattle.boom_words.proofs.Words.{one, batch_count, batch_has_budget, batch_only}
+use Rattle.boom_words.proofs.Elements.{one}
+use Rattle.boom_words.proofs.Words.{batch_count, batch_has_budget, batch_only}
 use Rattle.boom_words.proofs.request.batch.Goals as goal
 
 pub returns-in_default-clause-only : goal.returns-in_default-clause-only

@@ -1,5 +1,6 @@
 use Rattle.std.proofs.Common.{◌≡◌, [], ◌∷◌, map, string_bytes, ap, ◌∙◌, arith, refl}
-use Rattle.boom_words.proofs.Words.{four, explain_count, explain_has_budget, explain_has_index, explain_only}
+use Rattle.boom_words.proofs.Elements.{four}
+use Rattle.boom_words.proofs.Words.{explain_count, explain_has_budget, explain_has_index, explain_only}
 use Rattle.boom_words.proofs.request.explain.Goals as goal
 
 pub returns-in_default-clause-only : goal.returns-in_default-clause-only

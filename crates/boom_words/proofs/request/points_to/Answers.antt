@@ -1,5 +1,6 @@
 use Rattle.std.proofs.Common.{◌≡◌, [], ◌∷◌, map, string_bytes, ap, ◌∙◌, arith, refl}
-use Rattle.boom_words.proofs.Words.{four, points_to_count, points_to_has_budget, points_to_has_index, points_to_only}
+use Rattle.boom_words.proofs.Elements.{four}
+use Rattle.boom_words.proofs.Words.{points_to_count, points_to_has_budget, points_to_has_index, points_to_only}
 use Rattle.boom_words.proofs.request.points_to.Goals as goal
 
 pub returns-in_default-clause-only : goal.returns-in_default-clause-only

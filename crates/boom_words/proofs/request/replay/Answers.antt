@@ -1,5 +1,6 @@
 use Rattle.std.proofs.Common.{◌≡◌, [], ◌∷◌, map, string_bytes, ap, ◌∙◌, arith, refl}
-use Rattle.boom_words.proofs.Words.{one, replay_count, replay_has_budget, replay_only}
+use Rattle.boom_words.proofs.Elements.{one}
+use Rattle.boom_words.proofs.Words.{replay_count, replay_has_budget, replay_only}
 use Rattle.boom_words.proofs.request.replay.Goals as goal
 
 pub returns-in_default-clause-only : goal.returns-in_default-clause-only

@@ -1,5 +1,6 @@
 use Rattle.std.proofs.Common.{◌≡◌, [], ◌∷◌, map, string_bytes, ap, ◌∙◌, arith, refl}
-use Rattle.boom_words.proofs.Words.{run_count, run_few, run_has_choices, run_has_steps, run_only, two}
+use Rattle.boom_words.proofs.Elements.{two}
+use Rattle.boom_words.proofs.Words.{run_count, run_few, run_has_choices, run_has_steps, run_only}
 use Rattle.boom_words.proofs.request.run.Goals as goal
 
 pub returns-in_default-clause-only : goal.returns-in_default-clause-only

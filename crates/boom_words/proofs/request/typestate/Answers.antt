@@ -1,5 +1,6 @@
 use Rattle.std.proofs.Common.{◌≡◌, [], ◌∷◌, map, string_bytes, ap, ◌∙◌, arith, refl}
-use Rattle.boom_words.proofs.Words.{two, typestate_count, typestate_has_budget, typestate_only}
+use Rattle.boom_words.proofs.Elements.{two}
+use Rattle.boom_words.proofs.Words.{typestate_count, typestate_has_budget, typestate_only}
 use Rattle.boom_words.proofs.request.typestate.Goals as goal
 
 pub returns-in_default-clause-only : goal.returns-in_default-clause-only

@@ -1,4 +1,4 @@
-use Rattle.std.proofs.Common.{refl, rules, append_assoc}
+use Rattle.std.proofs.Common.{rules, append_assoc}
 use Rattle.report_text.proofs.sites.push_array.Goals as goal
 
 pub returns : goal.returns

@@ -1,4 +1,4 @@
-use Rattle.std.proofs.Common.{refl, rules, arith}
+use Rattle.std.proofs.Common.{refl, rules}
 use Rattle.std.proofs.lemmas.Result.{on_ok_weaker}
 use Rattle.report_text.proofs.Growing.{AddsText-weaker}
 use Rattle.report_text.proofs.Made.{fits_code, made_array, made_class, makes_array, makes_one, read_there}

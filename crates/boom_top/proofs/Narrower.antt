@@ -1,0 +1,113 @@
+-- The reply where calls are refined: its one status, and what it says of runs.
+use Rattle.std.proofs.Common.{◌≡◌, ℕ, zero, suc, List, [], ◌∷◌, ◌++◌, Option, Some, length, slice_get, sym, ap, ◌∙◌, subst, arith, inl, inr}
+use Rattle.std.specs.Io.KnownBytes.{Appends}
+use Rattle.jim_ast.specs.Lists.{Has}
+use Rattle.link_rules.specs.Linked.{LinkedProgram}
+use Rattle.link_rules.specs.WellLinked.{IsWellLinked}
+use Rattle.link_laws.proofs.Lists.{each_left}
+use Rattle.spds_rules.specs.declared.node.Node.{Node}
+use Rattle.run_covers.specs.Covers.{IsCovered}
+use Rattle.cert_laws.proofs.Complete.{answered_certified}
+use Rattle.query_core.specs.Places.{IsPlaceOf}
+use Rattle.query_core.proofs.NamedPlaces.{missing_one, place_one, place_there}
+use Rattle.refined_query.specs.Answers.{IsRefinedAffordable, IsRefinedOver}
+use Rattle.refined_query.proofs.Determined.{affordable_over, answer_over}
+use Rattle.refined_query.proofs.Sound.{refined_holds}
+use Rattle.report_text.specs.Answers.{IsSiteLine, count_lines, narrowed_line}
+use Rattle.report_text.specs.Lines.{text_of}
+use Rattle.boom_words.specs.Requests.{Refined}
+use Rattle.boom_top.specs.Parts.{IsGiven}
+use Rattle.boom_top.specs.Refined.{IsRefinedNodeReply, IsRefinedReply, IsRefinedTold, IsRefinedWithin, PrintsRefinedShown}
+use Rattle.boom_top.specs.Runs.{PrintsAllRuns}
+use Rattle.boom_top.proofs.Pathed.{has_middle}
+use Rattle.boom_top.specs.declared.status.Status.{Status}
+use Rattle.boom_top.specs.declared.status.Status.TheVariants.{Done, NoSuchPlace, OverBudget}
+
+-- an element of a list stands behind two others
+has_behind : {X : Type 0} (first second : X) (xs ys : List X) (x : X) → Has xs x → Has (first ∷ second ∷ (xs ++ ys)) x
+has_behind first second xs ys x h = let behind = has_middle second xs ys x h in (suc behind.0, behind.1)
+
+module _ (p : LinkedProgram) (asked : Refined) where
+  -- what is answered of a node isn't over the budget
+  told_within : (n : Node) (lines : List (List ℕ)) → IsRefinedTold p asked n lines → IsRefinedOver p asked.rounds asked.budget n → ⊥
+  told_within n lines a over =
+      let most = a.affordable in
+      omega (arith, most, answer_over p asked.rounds asked.budget n a.narrowed a.sites a.demanded a.answer over)
+
+  -- a node has one status
+  node_status : (n : Node) (s t : Status) (xs ys : List (List ℕ)) → IsRefinedNodeReply p asked n s xs → IsRefinedNodeReply p asked n t ys → s ≡ t
+  node_status n s t xs ys (inl a) (inl b) = a.1.0 ∙ sym b.1.0
+  node_status n s t xs ys (inl a) (inr b) = absurd (told_within n ys b.0 a.0)
+  node_status n s t xs ys (inr a) (inl b) = absurd (told_within n xs a.0 b.0)
+  node_status n s t xs ys (inr a) (inr b) = a.1 ∙ sym b.1
+
+  -- so has a place
+  pub refined_status : (s t : Status) (xs ys : List (List ℕ)) → IsRefinedReply p asked s xs → IsRefinedReply p asked t ys → s ≡ t
+  refined_status s t xs ys (inl a) (inl b) = a.2.0 ∙ ap NoSuchPlace (missing_one p asked.method asked.index asked.local a.0 b.0 a.1 b.1) ∙ sym b.2.0
+  refined_status s t xs ys (inl a) (inr b) = absurd (place_there p asked.method asked.index asked.local b.0 b.1 a.0 a.1)
+  refined_status s t xs ys (inr a) (inl b) = absurd (place_there p asked.method asked.index asked.local a.0 a.1 b.0 b.1)
+  refined_status s t xs ys (inr a) (inr b) =
+      node_status b.0 s t xs ys
+      (subst (λ (n : Node). IsRefinedNodeReply p asked n s xs) (place_one p asked.method asked.index asked.local a.0 b.0 a.1 b.1) a.2) b.2
+
+  pub refined_given : (s : Status) (lines : List (List ℕ)) → IsRefinedReply p asked s lines → IsGiven s
+  refined_given s lines (inl a) = subst IsGiven (sym a.2.0) tt
+  refined_given s lines (inr (n, place, inl a)) = subst IsGiven (sym a.1.0) tt
+  refined_given s lines (inr (n, place, inr a)) = subst IsGiven (sym a.1) tt
+
+  -- a budget of at least the demand's size over the program that is left is enough
+  pub refined_enough : (s : Status) (lines : List (List ℕ)) → IsRefinedWithin p asked → IsRefinedReply p asked s lines → s ≡ Done
+  refined_enough s lines (n, place, affordable) (inl a) = absurd (place_there p asked.method asked.index asked.local n place a.0 a.1)
+  refined_enough s lines (n, place, affordable) (inr (m, here, inl over)) =
+      let same = place_one p asked.method asked.index asked.local n m place here in
+      absurd (affordable_over p asked.rounds asked.budget m
+      (subst (λ (n : Node). IsRefinedAffordable p asked.rounds asked.budget n) same affordable) over.0)
+  refined_enough s lines (n, place, affordable) (inr (m, here, inr a)) = a.1
+
+module _ (p : LinkedProgram) (well : IsWellLinked p) where
+  -- the answer about a node has the line of the site of each object that a run brings
+  node_covered : IsCovered p → (asked : Refined) (old new : Option (List ℕ)) (lines : List (List ℕ)) → Appends old new (text_of lines) → (n : Node)
+      → IsRefinedTold p asked n lines → PrintsAllRuns p n old new
+  node_covered covered asked old new lines wrote n a = λ count state number frame x o run holds is.
+      let found = refined_holds p well asked.rounds asked.budget n a.narrowed a.sites a.demanded a.answer covered count state number frame x o run holds is in
+      let line = each_left (IsSiteLine p) a.sites a.told.lines found.2.0 found.0.site a.told.lines_are found.2.1 in (
+        found.0,
+        found.1,
+        line.0,
+        line.2,
+        (
+          text_of lines,
+          wrote,
+          record {
+            lines = a.told.query ∷ narrowed_line a.narrowed ∷ (a.told.lines ++ count_lines (length a.sites) a.demanded);
+            text_is = a.told.text_is;
+            has = has_behind a.told.query (narrowed_line a.narrowed) a.told.lines (count_lines (length a.sites) a.demanded) line.0 (found.2.0, line.1);
+          },
+        ),
+      )
+
+  pub refined_covered : IsCovered p → (asked : Refined) (old new : Option (List ℕ)) (lines : List (List ℕ)) → Appends old new (text_of lines)
+      → IsRefinedReply p asked Done lines → (n : Node) → IsPlaceOf p asked.method asked.index asked.local n → PrintsAllRuns p n old new
+  refined_covered covered asked old new lines wrote (inl a) n place = absurd (place_there p asked.method asked.index asked.local n place a.0 a.1)
+  refined_covered covered asked old new lines wrote (inr (m, here, inl over)) n place = absurd (let no : Done ≡ OverBudget asked.budget = over.1.0 in cc)
+  refined_covered covered asked old new lines wrote (inr (m, here, inr a)) n place =
+      node_covered covered asked old new lines wrote n
+      (subst (λ (n : Node). IsRefinedTold p asked n lines) (place_one p asked.method asked.index asked.local m n here place) a.0)
+
+-- each site is shown by some list of lines over the program that is left
+pub refined_evident : (p : LinkedProgram) (asked : Refined) (old new : Option (List ℕ)) (lines : List (List ℕ)) → Appends old new (text_of lines)
+    → IsRefinedReply p asked Done lines → PrintsRefinedShown p asked old new
+refined_evident p asked old new lines wrote (inl a) = absurd (let no : Done ≡ NoSuchPlace a.0 = a.2.0 in cc)
+refined_evident p asked old new lines wrote (inr (m, here, inl over)) = absurd (let no : Done ≡ OverBudget asked.budget = over.1.0 in cc)
+refined_evident p asked old new lines wrote (inr (m, here, inr a)) = record {
+  node = m;
+  place = here;
+  narrowed = a.0.narrowed;
+  sites = a.0.sites;
+  demanded = a.0.demanded;
+  answer = a.0.answer;
+  text = text_of lines;
+  told = a.0.told;
+  wrote = wrote;
+  shown = λ o has. answered_certified a.0.answer.left m o ((a.0.answer.answer.answer.each o).0 has);
+}
