@@ -1,0 +1,87 @@
+//! Steps of the machine.
+use jim_ast::NoMemory;
+use jim_step::{Machine, start};
+use link_program::Linked;
+use link_sites::Place;
+use linked_text::linked_of;
+use std::alloc::Global;
+use std::test::Fail;
+
+// A list that gets longer in a loop, each cell by a call.
+const TEXT: &str = "class Cell { Cell next; }
+class Main { static Cell more(Cell) { Cell c, d; c := @parameter0: Cell; d = new Cell; d.<Cell: Cell next> = c; return d; }
+static void main(java.lang.String[]) { Cell c; c = null; again: c = staticinvoke <Main: Cell more(Cell)>(c); goto again; } }";
+
+// The program, looked at once more where there was no memory.
+fn linked(alloc: Global) -> Option<Linked> {
+    match linked_of(alloc, TEXT) {
+        Some(Ok(linked)) => Some(linked),
+        _ => linked_of(alloc, TEXT)?.ok(),
+    }
+}
+
+// How many frames there are, and where the top one stands.
+fn top(machine: &Machine<'_>) -> Option<(u32, Place)> {
+    let frames = machine.frames();
+    if frames == 0 {
+        return None;
+    }
+    Some((frames, machine.place(frames - 1)))
+}
+
+// Makes a step, once more where there was no memory; whether all was as before then. None where the run has ended.
+fn stepped(alloc: Global, machine: &mut Machine<'_>) -> Result<Option<bool>, NoMemory> {
+    if machine.choices() == 0 {
+        return Ok(None);
+    }
+    let before = top(machine);
+    if machine.step(alloc, 0).is_ok() {
+        return Ok(Some(true));
+    }
+    let kept = top(machine) == before && machine.choices() > 0;
+    if machine.choices() == 0 {
+        return Ok(None);
+    }
+    machine.step(alloc, 0)?;
+    Ok(Some(kept))
+}
+
+// Makes so many steps; whether all went on.
+fn goes_on(alloc: Global, machine: &mut Machine<'_>, steps: u32) -> Result<bool, NoMemory> {
+    for _ in 0..steps {
+        if stepped(alloc, machine)? != Some(true) {
+            return Ok(false);
+        }
+    }
+    Ok(true)
+}
+
+// So many steps of the program, and where they lead.
+fn place_behind(
+    alloc: Global,
+    linked: &Linked,
+    steps: u32,
+) -> Result<Option<(u32, Place)>, NoMemory> {
+    let mut machine = match start(alloc, linked) {
+        Ok(machine) => machine,
+        Err(_) => start(alloc, linked)?,
+    };
+    if goes_on(alloc, &mut machine, steps)? {
+        Ok(top(&machine))
+    } else {
+        Ok(None)
+    }
+}
+
+#[test]
+fn machines_go_on(rt: HostRuntime) -> Result<(), Fail> {
+    let linked = linked(rt.alloc());
+    assert!(rt; linked.is_some());
+    if let Some(linked) = &linked {
+        for steps in [40, 200] {
+            let place = place_behind(rt.alloc(), linked, steps)?;
+            assert!(rt; place.is_some());
+        }
+    }
+    Ok(())
+}
