@@ -11,7 +11,7 @@ use Rattle.link_rules.specs.Lists.{AreIncreasing, Each}
 use Rattle.link_rules.specs.Names.{brackets}
 use Rattle.link_rules.specs.WellLinked.{FitsMethod, IsInForm}
 use Rattle.link_laws.proofs.Lists.{all_at, at_all, map_at}
-use Rattle.link_program.specs.Accessed.{HasElementText}
+use Rattle.link_rules.specs.Accessed.{HasElementText}
 use Rattle.link_sites.specs.declared.place.Place.{Place}
 use Rattle.link_sites.specs.declared.site.Site.{Site}
 use Rattle.link_sites.specs.declared.site.Site.TheVariants as site

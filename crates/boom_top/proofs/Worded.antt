@@ -2,7 +2,7 @@
 use Rattle.std.proofs.Common.{◌≡◌, ℕ, ◌<◌, List, length, refl, sym, ap, ◌∙◌, subst, arith}
 use Rattle.std.proofs.lemmas.List.{length-map}
 use Rattle.jim_ast.proofs.Places.{slice_get-below}
-use Rattle.link_program.specs.Classes.{names_of}
+use Rattle.link_rules.specs.Accessed.{linked_class_names}
 use Rattle.link_rules.specs.Linked.{LinkedProgram}
 use Rattle.protocol_words.specs.declared.error.ProtocolError.{ProtocolError}
 use Rattle.protocol_words.specs.declared.error.ProtocolError.TheVariants as protocol
@@ -56,5 +56,5 @@ module _ (p : LinkedProgram) (word : List ℕ) where
   -- its class is one of the program
   pub protocol_class : (k : ProtocolParts) → IsProtocolOf p word k → k.class < length p.classes
   protocol_class k x =
-      let below = slice_get-below (names_of p.classes) k.class x.named.class x.class.holds in
+      let below = slice_get-below (linked_class_names p.classes) k.class x.named.class x.class.holds in
       omega (arith, below, length-map p.classes (λ c. c.name))

@@ -11,7 +11,7 @@ use Rattle.link_indexes.specs.Rows.{AreThePlaces, Precedes}
 use Rattle.link_indexes.specs.Tables.{IsAt}
 use Rattle.link_indexes.proofs.Filed.{AreExactly-push, AreExactly-same}
 use Rattle.link_indexes.proofs.Grown.{Has-push, take-next}
-use Rattle.link_program.specs.Accessed.{codes_in}
+use Rattle.link_rules.specs.Accessed.{codes_in}
 use Rattle.link_sites.specs.declared.place.Place.{Place}
 use Rattle.link_sites.specs.Places.{ComesBefore, before}
 use Rattle.post_star.specs.declared.bases.BaseStep.{BaseStep}

@@ -10,7 +10,7 @@ use Rattle.link_rules.specs.Linked.{LinkedMethod, LinkedProgram}
 use Rattle.link_rules.specs.WellLinked.{FitsCode, FitsMethod, HasTarget, IsInForm, IsWellLinked, IsWellLinkedCode, SuitsCall}
 use Rattle.link_indexes.specs.Facts.{Calls}
 use Rattle.link_indexes.specs.Tables.{IsInMethod}
-use Rattle.link_program.specs.Accessed.{codes_in}
+use Rattle.link_rules.specs.Accessed.{codes_in}
 use Rattle.call_side.specs.Bases.{HasStatements}
 
 module _ {X : Type 0} (P : X → Type 0) where

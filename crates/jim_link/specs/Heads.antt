@@ -1,7 +1,7 @@
 -- What a method of the linked program is besides its code.
 use Rattle.std.specs.Prelude.{◌≡◌, ℕ, ◌<◌, ◌^◌, List, length, map, not}
 use Rattle.jim_ast.specs.declared.syntax.Body.{Body}
-use Rattle.link_codes.specs.declared.elements.ElementText.{ElementText}
+use Rattle.link_program.specs.declared.elements.ElementText.{ElementText}
 use Rattle.link_program.specs.declared.method.MethodHead.{MethodHead}
 use Rattle.link_rules.specs.Classes.{DeclaredMethod}
 use Rattle.link_rules.specs.Names.{text_of}

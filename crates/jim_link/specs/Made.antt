@@ -3,7 +3,7 @@ use Rattle.std.specs.Prelude.{◌≡◌, ℕ, ◌<◌, ◌++◌, List, [], ◌�
 use Rattle.class_tree.specs.Rows.{Step}
 use Rattle.jim_ast.specs.declared.syntax.Body.{Body}
 use Rattle.link_codes.specs.Contexts.{context_in}
-use Rattle.link_codes.specs.Elements.{elements_in}
+use Rattle.link_program.specs.Elements.{elements_in}
 use Rattle.link_codes.specs.Made.{MakesCatches, MakesCodes}
 use Rattle.link_codes.specs.Methods.{UsesMethod}
 use Rattle.link_codes.specs.declared.constants.Constants.{Constants}

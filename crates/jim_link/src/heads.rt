@@ -10,8 +10,7 @@ ghost use Rattle.jim_link.specs.Texts.{own_names};
 use super::texts::{name_text, owned};
 use jim_ast::{Body, List, Name, NoMemory};
 use link_classes::MethodIn;
-use link_codes::ElementText;
-use link_program::MethodHead;
+use link_program::{ElementText, MethodHead};
 use std::alloc::{AllocError, Global};
 
 // The names of the locals of a method's body.

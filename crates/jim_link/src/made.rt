@@ -18,9 +18,9 @@ use super::texts::{method_text, owned};
 use jim_ast::{List, Name, NoMemory};
 use link_calls::Targets;
 use link_classes::{Classes, MethodIn, root_method};
-use link_codes::{Constants, FieldNumbers, MethodCode, Numbering, method_code};
+use link_codes::{Constants, FieldNumbers, MethodCode, method_code};
 use link_indexes::MethodCode as Body;
-use link_program::Methods;
+use link_program::{Methods, Numbering};
 use std::alloc::Global;
 
 /// The methods that are made so far, and the constants that they use.

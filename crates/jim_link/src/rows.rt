@@ -11,8 +11,8 @@ use super::members::member_part;
 use super::texts::owned_all;
 use jim_ast::NoMemory;
 use link_calls::Targets;
-use link_codes::{Constants, Numbering};
-use link_program::{CodePart, ConstantTexts, MemberPart};
+use link_codes::Constants;
+use link_program::{CodePart, ConstantTexts, MemberPart, Numbering};
 use link_reach::Reachable;
 use std::alloc::Global;
 

@@ -1,7 +1,7 @@
 -- The class that declares a field is one of the program's.
 use Rattle.std.proofs.Common.{◌≡◌, ℕ, zero, suc, ◌<◌, List, [], ◌∷◌, All, Some, length, map, slice_get, arith}
 use Rattle.link_rules.specs.Linked.{LinkedField, LinkedProgram}
-use Rattle.link_program.specs.Accessed.{field_class}
+use Rattle.link_rules.specs.Accessed.{field_class}
 
 within : (n : ℕ) (fs : List LinkedField) (k d : ℕ) → All (λ (f : LinkedField). f.class < n) fs → slice_get (map (λ (f : LinkedField). f.class) fs) k ≡ Some d
     → d < n

@@ -1,6 +1,6 @@
 //! The machine.
 ghost use Rattle.std.specs.Prelude.{◌≡◌, ◌-◌, ◌<◌, IfOk, OnErr, length, min};
-ghost use Rattle.link_program.specs.Accessed.{At};
+ghost use Rattle.link_rules.specs.Accessed.{At};
 ghost use Rattle.step_rules.specs.Runs.{IsFirstState};
 ghost use Rattle.step_rules.specs.Shapes.{FitsSlot, IsKnown};
 ghost use Rattle.step_rules.specs.Slots.{slot_of};

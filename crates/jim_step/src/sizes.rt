@@ -1,7 +1,7 @@
 //! Whether what a machine counts has numbers.
 ghost use Rattle.std.specs.Prelude.{◌≡◌, ◌<◌, length, true};
 ghost use Rattle.jim_step.specs.Sizes.{HasFewJumps, IsSmall, IsSmallMethod};
-ghost use Rattle.link_program.specs.Accessed.{At};
+ghost use Rattle.link_rules.specs.Accessed.{At};
 ghost use Rattle.step_rules.specs.Shapes.{EachOf};
 
 use link_program::Linked;

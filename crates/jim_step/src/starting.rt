@@ -5,7 +5,7 @@ ghost use Rattle.jim_step.specs.Keeping.{state_in};
 ghost use Rattle.jim_step.specs.Named.{AreNamed};
 ghost use Rattle.jim_step.specs.Sizes.{IsSmall};
 ghost use Rattle.jim_step.specs.Steady.{IsSteady};
-ghost use Rattle.link_program.specs.Accessed.{At};
+ghost use Rattle.link_rules.specs.Accessed.{At};
 ghost use Rattle.step_rules.specs.Runs.{IsFirstState, constants};
 ghost use Rattle.step_rules.specs.States.{new_frame as first_frame};
 

@@ -9,9 +9,10 @@ use Rattle.jim_ast.specs.declared.syntax.Ty.{Ty}
 use Rattle.link_rules.specs.Conditions.{AreWithin, type_names}
 use Rattle.link_rules.specs.Linked.{element_at, elements_of}
 use Rattle.link_rules.specs.Names.{type_text}
-use Rattle.link_codes.specs.declared.elements.ElementText.{ElementText}
+use Rattle.link_program.specs.declared.elements.ElementText.{ElementText}
 use Rattle.link_codes.specs.Contexts.{Context}
-use Rattle.link_codes.specs.Elements.{NamesType, element_of, elements_in}
+use Rattle.link_codes.specs.Elements.{NamesType}
+use Rattle.link_program.specs.Elements.{element_of, elements_in}
 use Rattle.link_codes.specs.Needs.{HasExpr, HasParts}
 use Rattle.link_codes.proofs.Texts.{numbered_more}
 

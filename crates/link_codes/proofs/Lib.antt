@@ -3,7 +3,6 @@ pub mod Arrays
 pub mod Called
 pub mod Contained
 pub mod Decided
-pub mod Increasing
 pub mod Linking
 pub mod Numbered
 pub mod Present

@@ -11,7 +11,7 @@ use Rattle.link_rules.specs.World.{World}
 use Rattle.link_codes.specs.declared.constants.Constants.{Constants}
 use Rattle.link_codes.specs.declared.method.MethodCode.{MethodCode}
 use Rattle.link_codes.specs.Constants.{Extends}
-use Rattle.link_codes.specs.Elements.{elements_in}
+use Rattle.link_program.specs.Elements.{elements_in}
 use Rattle.link_codes.specs.Methods.{IsMethodCode, UsesMethod}
 
 -- with all constants in place, a method with its code is one of the linked program

@@ -5,4 +5,3 @@ pub mod Fields
 pub mod Made
 pub mod Methods
 pub mod Needs
-pub mod Numbers

@@ -10,7 +10,7 @@ use Rattle.link_codes.specs.declared.constants.Constants.{Constants}
 use Rattle.link_codes.specs.declared.method.MethodCode.{MethodCode}
 use Rattle.link_codes.specs.Contexts.{context_in}
 use Rattle.link_codes.specs.Constants.{Extends}
-use Rattle.link_codes.specs.Elements.{elements_in}
+use Rattle.link_program.specs.Elements.{elements_in}
 use Rattle.link_codes.specs.Made.{MakesCatches, MakesCodes}
 
 -- the code of the method, while each constant keeps its number

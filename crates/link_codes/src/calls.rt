@@ -14,10 +14,10 @@ ghost use Rattle.link_codes.specs.Needs.{HasCall, HasLocal, HasOperand, HasTarge
 
 use super::args::args;
 use super::constants::Constants;
-use super::numbering::Numbering;
 use super::scope::MethodScope;
 use jim_ast::{Imm, Invoke, List, MethodSig, Mode, NameId, NoMemory};
 use link_calls::Targets;
+use link_program::Numbering;
 use link_rules::{Arg, Code};
 use std::alloc::Global;
 

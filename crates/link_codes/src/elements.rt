@@ -4,20 +4,15 @@ ghost use Rattle.link_rules.specs.Conditions.{AreWithin, type_names};
 ghost use Rattle.link_rules.specs.Linked.{element_at, elements_of};
 ghost use Rattle.link_rules.specs.Names.{type_text};
 ghost use Rattle.link_codes.specs.Contexts.{context_of};
-ghost use Rattle.link_codes.specs.Elements.{NamesType, elements_in};
+ghost use Rattle.link_codes.specs.Elements.{NamesType};
 ghost use Rattle.link_codes.specs.Needs.{HasParts};
+ghost use Rattle.link_program.specs.Elements.{elements_in};
 
 use super::scope::MethodScope;
 use super::types::push_type;
 use jim_ast::{Expr, Name, NoMemory, Stmt, Ty};
+use link_program::ElementText;
 use std::alloc::{AllocError, Global};
-
-/// A statement that makes arrays, by its index, and the text of the type of what the innermost ones hold.
-#[derive(Drop)]
-pub struct ElementText {
-    pub index: u32,
-    pub text: Name,
-}
 
 // The type of what the innermost arrays hold that a statement makes, if it makes any.
 fn element_type(stmt: &Stmt) -> Option<Ty>

@@ -12,7 +12,6 @@ mod elements;
 mod exprs;
 mod fields;
 mod method;
-mod numbering;
 mod parts;
 mod scope;
 mod stmts;
@@ -20,8 +19,6 @@ mod stores;
 mod types;
 
 pub use constants::Constants;
-pub use elements::ElementText;
 pub use fields::{FieldNumber, FieldNumbers};
 pub use method::{MethodCode, method_code};
-pub use numbering::Numbering;
 pub use types::push_type;

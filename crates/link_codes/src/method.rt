@@ -15,15 +15,15 @@ ghost use Rattle.link_codes.specs.Methods.{IsMethodCode, UsesMethod};
 ghost use Rattle.link_codes.specs.Needs.{HasParts, HasTrap};
 
 use super::constants::Constants;
-use super::elements::{ElementText, elements};
+use super::elements::elements;
 use super::fields::FieldNumbers;
-use super::numbering::Numbering;
 use super::scope::MethodScope;
 use super::stmts::statement;
 use jim_ast::{NoMemory, Stmt, Trap};
 use link_bodies::BodyIndex;
 use link_calls::Targets;
 use link_classes::MethodIn;
+use link_program::{ElementText, Numbering};
 use link_rules::{Catch, Code};
 use std::alloc::Global;
 

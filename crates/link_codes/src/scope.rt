@@ -5,10 +5,10 @@ ghost use Rattle.link_rules.specs.Classes.{fields_of};
 ghost use Rattle.link_codes.specs.Fields.{field_numbers};
 
 use super::fields::FieldNumbers;
-use super::numbering::Numbering;
 use jim_ast::NameId;
 use link_bodies::BodyIndex;
 use link_classes::Classes;
+use link_program::Numbering;
 
 /// What the code of a method is made over: the classes with the numbers of their fields, the numbers of the methods, the numbers of the names of
 /// the method's program among all names, and its body.

@@ -2,8 +2,8 @@
 use Rattle.std.specs.Prelude.{◌≡◌, ℕ, ◌<◌}
 use Rattle.jim_ast.specs.Lists.{Has}
 use Rattle.link_rules.specs.declared.code.Code.{Code}
-use Rattle.link_rules.specs.declared.code.Code.TheVariants.{NewMulti, Store, StoreCell, StoreStatic, Call, Return, Throw}
-use Rattle.link_rules.specs.Flow.{MayRaise}
+use Rattle.link_rules.specs.declared.code.Code.TheVariants.{NewMulti, Store, StoreCell, StoreStatic, Call}
+use Rattle.link_rules.specs.Flow.{IsRaised, IsReturn}
 use Rattle.link_indexes.specs.declared.facts.Key.{Key}
 use Rattle.link_indexes.specs.declared.facts.Key.TheVariants as key
 use Rattle.link_indexes.specs.declared.facts.Kind.{Kind}
@@ -25,17 +25,6 @@ Stores field _ = ⊥
 abbrev pub StoresStatic : ℕ → Code → Type 0
 StoresStatic field (StoreStatic number arg) = field ≡ number
 StoresStatic field _ = ⊥
-
--- a return from the method
-abbrev pub IsReturn : Code → Type 0
-IsReturn (Return arg) = Unit {0}
-IsReturn _ = ⊥
-
--- a statement that an exception may come out of: a throw, a call, or one that may raise an implicit exception
-abbrev pub IsRaised : Code → Type 0
-IsRaised (Throw arg) = Unit {0}
-IsRaised (Call to mode class key receiver args targets) = Unit {0}
-IsRaised c = (k : ℕ) × MayRaise c k
 
 -- the statement has the number, as a key of this sort
 abbrev pub HasKey : Key → ℕ → Code → Type 0

@@ -1,10 +1,10 @@
 -- The tables of the indexes, and what they say of the code of a program.
 use Rattle.std.specs.Prelude.{◌≡◌, ℕ, List, Some, map, slice_get}
 use Rattle.link_rules.specs.declared.code.Code.{Code}
-use Rattle.link_rules.specs.Flow.{Next}
+use Rattle.link_rules.specs.Flow.{Next, IsRaised, IsReturn}
 use Rattle.link_indexes.specs.declared.method.MethodCode.{MethodCode}
 use Rattle.link_indexes.specs.declared.method.Place.{Place}
-use Rattle.link_indexes.specs.Facts.{Calls, IsRaised, IsReturn, Stores, StoresStatic}
+use Rattle.link_indexes.specs.Facts.{Calls, Stores, StoresStatic}
 use Rattle.link_indexes.specs.Rows.{AreTheIndexes, AreThePlaces, row}
 
 -- the code of each method

@@ -7,9 +7,8 @@ use Rattle.jim_ast.specs.Lists.{Has}
 use Rattle.jim_ast.proofs.Places.{slice_get-below, slice_get-there}
 use Rattle.link_rules.specs.Linked.{LinkedMethod, LinkedProgram}
 use Rattle.link_indexes.specs.declared.method.MethodCode.{MethodCode}
-use Rattle.link_program.specs.Accessed.{HasText}
+use Rattle.link_rules.specs.Accessed.{HasText, IsFirstPlace}
 use Rattle.link_program.specs.Methods.{IsBodyOf, IsHead, IsHeadOf, joined, linked_method, texts_of}
-use Rattle.link_program.specs.Places.{IsFirstPlace}
 use Rattle.link_program.specs.declared.method.MethodHead.{MethodHead}
 use Rattle.link_program.proofs.Joined.{length-joined, slice_get-joined}
 

@@ -1,6 +1,7 @@
 pub mod Arrays
 pub mod Coded
 pub mod Found
+pub mod Increasing
 pub mod Joined
 mod Naming
 pub mod Placing

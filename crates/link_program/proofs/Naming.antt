@@ -8,7 +8,7 @@ use Rattle.jim_ast.proofs.Places.{slice_get-below}
 use Rattle.class_tree.specs.Paths.{IsLeast}
 use Rattle.link_program.specs.declared.parts.FieldEntry.{FieldEntry}
 use Rattle.link_rules.specs.Linked.{LinkedField, LinkedProgram}
-use Rattle.link_program.specs.Accessed.{IsEntryNamed, field_class}
+use Rattle.link_rules.specs.Accessed.{IsEntryNamed, field_class}
 use Rattle.link_program.specs.Parts.{linked_field}
 
 module _ (fs : List FieldEntry) (class : ℕ) (name : List ℕ) where

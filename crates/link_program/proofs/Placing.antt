@@ -6,7 +6,8 @@ use Rattle.std.proofs.lemmas.Option.{slice_get-get_or}
 use Rattle.jim_ast.specs.Lists.{Adds, Has}
 use Rattle.jim_ast.specs.declared.names.NameId.{NameId}
 use Rattle.jim_ast.proofs.Places.{slice_get-append_left, slice_get-below, slice_get-push, slice_get-pushed}
-use Rattle.link_program.specs.Places.{ArePlaces, IsFirstPlace}
+use Rattle.link_program.specs.Places.{ArePlaces}
+use Rattle.link_rules.specs.Accessed.{IsFirstPlace}
 use Rattle.link_program.specs.declared.places.FirstPlaces.{FirstPlaces}
 
 -- a first place stays the first

@@ -6,7 +6,7 @@ use Rattle.jim_ast.proofs.Places.{slice_get-below}
 use Rattle.link_indexes.specs.declared.method.MethodCode.{MethodCode}
 use Rattle.link_program.specs.declared.method.MethodHead.{MethodHead}
 use Rattle.link_program.specs.Methods.{joined, texts_of}
-use Rattle.link_program.specs.Places.{IsFirstPlace}
+use Rattle.link_rules.specs.Accessed.{IsFirstPlace}
 
 module _ (texts : List (List ℕ)) (text : List ℕ) where
   -- the text doesn't stand before a place

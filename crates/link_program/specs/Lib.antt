@@ -1,5 +1,6 @@
-pub mod Accessed
 pub mod Classes
+pub mod Elements
 pub mod Methods
+pub mod Numbers
 pub mod Parts
 pub mod Places

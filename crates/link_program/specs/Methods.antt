@@ -1,7 +1,7 @@
 -- The methods of a linked program as they are kept.
 use Rattle.std.specs.Prelude.{◌≡◌, ℕ, ◌<◌, ◌^◌, List, [], ◌∷◌, All, length, map}
 use Rattle.link_rules.specs.Linked.{LinkedMethod}
-use Rattle.link_codes.specs.Elements.{elements_in}
+use Rattle.link_program.specs.Elements.{elements_in}
 use Rattle.link_indexes.specs.declared.method.MethodCode.{MethodCode}
 use Rattle.link_program.specs.declared.heads.Heads.{Heads}
 use Rattle.link_program.specs.declared.method.MethodHead.{MethodHead}

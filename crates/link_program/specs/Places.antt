@@ -1,12 +1,8 @@
 -- The first place of each text of a list.
 use Rattle.std.specs.Prelude.{◌≡◌, ℕ, List, Some, length, slice_get}
-use Rattle.class_tree.specs.Paths.{IsLeast}
 use Rattle.jim_ast.specs.Lists.{Has}
+use Rattle.link_rules.specs.Accessed.{IsFirstPlace}
 use Rattle.link_program.specs.declared.places.FirstPlaces.{FirstPlaces}
-
--- the text stands there, and at no place before
-abbrev pub IsFirstPlace : List (List ℕ) → List ℕ → ℕ → Type 0
-IsFirstPlace texts text n = IsLeast (λ i. slice_get texts i ≡ Some text) n
 
 -- each text of the list is there, with its first place
 pub record ArePlaces (texts : List (List ℕ)) (t : FirstPlaces) : Type 0 where

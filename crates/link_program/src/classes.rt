@@ -1,8 +1,8 @@
 //! The classes of a linked program.
 ghost use Rattle.std.specs.Prelude.{◌≡◌, ◌<◌, ◌++◌, [], ◌∷◌, ℕ, Some, IfNone, IfSome, OnOk, length, slice_get};
 ghost use Rattle.jim_ast.specs.Lists.{Has};
-ghost use Rattle.link_program.specs.Classes.{AreClasses, classes_in, linked_class, names_of};
-ghost use Rattle.link_program.specs.Places.{IsFirstPlace};
+ghost use Rattle.link_program.specs.Classes.{AreClasses, classes_in, linked_class};
+ghost use Rattle.link_rules.specs.Accessed.{linked_class_names, IsFirstPlace};
 
 use super::places::FirstPlaces;
 use jim_ast::{Name, NoMemory};
@@ -68,8 +68,8 @@ impl ClassTable {
     /// The first class of this name.
     pub fn find(&self, name: &str) -> Option<u32>
         requires { AreClasses self.now }
-        ensures some { IfSome result (IsFirstPlace (names_of (classes_in self.now)) name.now) }
-        ensures none { IfNone result (Has (names_of (classes_in self.now)) name.now → ⊥) }
+        ensures some { IfSome result (IsFirstPlace (linked_class_names (classes_in self.now)) name.now) }
+        ensures none { IfNone result (Has (linked_class_names (classes_in self.now)) name.now → ⊥) }
     {
         self.places.find(name)
     }

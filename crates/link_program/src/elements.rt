@@ -1,10 +1,17 @@
 //! The arrays that a method makes.
 ghost use Rattle.std.specs.Prelude.{◌≡◌, ◌<◌, ℕ, AllPairs, List, false, nat_lt, true};
 ghost use Rattle.std.specs.List.Sorted.{IsPartitionPoint};
-ghost use Rattle.link_codes.specs.Elements.{elements_in};
-ghost use Rattle.link_program.specs.Accessed.{HasElementText};
+ghost use Rattle.link_program.specs.Elements.{elements_in};
+ghost use Rattle.link_rules.specs.Accessed.{HasElementText};
 
-use link_codes::ElementText;
+use jim_ast::Name;
+
+/// A statement that makes arrays, by its index, and the text of the type of what the innermost ones hold.
+#[derive(Drop)]
+pub struct ElementText {
+    pub index: u32,
+    pub text: Name,
+}
 
 // How many of the arrays stand before an index.
 fn count_before(elements: &[ElementText], index: u32) -> usize

@@ -4,7 +4,7 @@ ghost use Rattle.jim_ast.specs.Lists.{Has};
 ghost use Rattle.link_indexes.specs.declared.method.MethodCode.{MethodCode as ACode};
 ghost use Rattle.link_rules.specs.Linked.{LinkedMethod};
 ghost use Rattle.link_program.specs.Methods.{AreMethodsWith, IsHeadOf, methods_with, texts_of};
-ghost use Rattle.link_program.specs.Places.{IsFirstPlace};
+ghost use Rattle.link_rules.specs.Accessed.{IsFirstPlace};
 
 use super::method::MethodHead;
 

@@ -8,12 +8,15 @@ mod heads;
 mod linked;
 mod method;
 mod methods;
+mod numbering;
 mod parts;
 mod places;
 
 pub use classes::{ClassEntry, ClassTable};
+pub use elements::ElementText;
 pub use heads::Heads;
 pub use linked::Linked;
 pub use method::MethodHead;
 pub use methods::Methods;
+pub use numbering::Numbering;
 pub use parts::{CodePart, ConstantTexts, FieldEntry, KeyEntry, MemberPart, Shared};

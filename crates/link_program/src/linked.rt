@@ -3,14 +3,13 @@ ghost use Rattle.std.specs.Prelude.{◌≡◌, ◌+◌, ◌<◌, ◌↔◌, ℕ,
 ghost use Rattle.class_tree.specs.Paths.{IsLeast};
 ghost use Rattle.jim_ast.specs.Lists.{Has};
 ghost use Rattle.link_rules.specs.WellLinked.{IsInForm};
-ghost use Rattle.link_indexes.specs.Facts.{Calls, IsRaised, IsReturn, Stores, StoresStatic};
+ghost use Rattle.link_indexes.specs.Facts.{Calls, Stores, StoresStatic};
+ghost use Rattle.link_rules.specs.Flow.{IsRaised, IsReturn};
 ghost use Rattle.link_indexes.specs.Rows.{AreTheIndexes, AreThePlaces};
 ghost use Rattle.link_indexes.specs.Tables.{GoesOnIn, IsAt, IsInMethod};
-ghost use Rattle.link_program.specs.Accessed.{At, HasElementText, HasText, IsFieldNamed, MakesArray, codes_in, field_class};
-ghost use Rattle.link_program.specs.Classes.{names_of};
+ghost use Rattle.link_rules.specs.Accessed.{At, HasElementText, HasText, IsFieldNamed, MakesArray, codes_in, field_class, linked_class_names, IsFirstPlace};
 ghost use Rattle.link_program.specs.Methods.{IsBodyOf, IsHeadOf};
 ghost use Rattle.link_program.specs.Parts.{AreParts, program_of, with_code};
-ghost use Rattle.link_program.specs.Places.{IsFirstPlace};
 
 use super::elements::element_text;
 use super::fields::find_field;
@@ -246,8 +245,8 @@ impl Linked {
 
     /// The number of the class with this name.
     pub fn class_number(&self, name: &str) -> Option<u32>
-        ensures some { IfSome result (IsFirstPlace (names_of self.now.classes) name.now) }
-        ensures none { IfNone result (Has (names_of self.now.classes) name.now → ⊥) }
+        ensures some { IfSome result (IsFirstPlace (linked_class_names self.now.classes) name.now) }
+        ensures none { IfNone result (Has (linked_class_names self.now.classes) name.now → ⊥) }
     {
         self.shared.members.classes.find(name)
     }

@@ -1,6 +1,6 @@
 //! What a method is besides its code.
+use super::elements::ElementText;
 use jim_ast::{List, Name};
-use link_codes::ElementText;
 
 /// A method without its code: its text, whether it has a receiver, how many parameters it has, the names of its locals in declared order, fewer than
 /// 4,294,967,296, and the arrays that it makes.

@@ -2,9 +2,9 @@
 use super::classes::ClassTable;
 use super::heads::Heads;
 use super::methods::Methods;
+use super::numbering::Numbering;
 use class_tree::Tree;
 use jim_ast::{List, Name};
-use link_codes::Numbering;
 
 /// The constants, each kind in the order of first use.
 #[derive(Drop)]

@@ -1,7 +1,8 @@
 //! The first place of each text of a list.
 ghost use Rattle.std.specs.Prelude.{◌≡◌, ◌++◌, [], ◌∷◌, ◌<◌, ◌^◌, ℕ, List, IfNone, IfOk, IfSome, OnOk, length};
 ghost use Rattle.jim_ast.specs.Lists.{Has};
-ghost use Rattle.link_program.specs.Places.{ArePlaces, IsFirstPlace};
+ghost use Rattle.link_program.specs.Places.{ArePlaces};
+ghost use Rattle.link_rules.specs.Accessed.{IsFirstPlace};
 
 use jim_ast::{Name, Names, NoMemory};
 use std::alloc::{AllocError, Global};

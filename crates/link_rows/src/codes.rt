@@ -1,6 +1,7 @@
 //! The numbers of rows that are linked, and the texts of types.
 use jim_ast::{Base, NameId, Names, NoMemory, Ty};
-use link_codes::{Numbering, push_type};
+use link_codes::push_type;
+use link_program::Numbering;
 use std::alloc::Global;
 use std::test::Fail;
 

@@ -72,3 +72,14 @@ MayRaise (Goto jump) k = ⊥
 MayRaise (Switch jumps) k = ⊥
 MayRaise (Return arg) k = ⊥
 MayRaise Skip k = ⊥
+
+-- a return from the method
+abbrev pub IsReturn : Code → Type 0
+IsReturn (Return arg) = Unit {0}
+IsReturn _ = ⊥
+
+-- a statement that an exception may come out of: a throw, a call, or one that may raise an implicit exception
+abbrev pub IsRaised : Code → Type 0
+IsRaised (Throw arg) = Unit {0}
+IsRaised (Call to mode class key receiver args targets) = Unit {0}
+IsRaised c = (k : ℕ) × MayRaise c k

@@ -14,5 +14,6 @@ pub mod Codes
 pub mod Flow
 pub mod Linked
 pub mod WellLinked
+pub mod Accessed
 pub mod Conditions
 pub mod Laws

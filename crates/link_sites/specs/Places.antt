@@ -2,7 +2,7 @@
 use Rattle.std.specs.Prelude.{◌≡◌, ℕ, ◌<◌, ◌⊎◌, Bool, Some, true, false, slice_get}
 use Rattle.link_rules.specs.declared.code.Code.{Code}
 use Rattle.link_rules.specs.Linked.{LinkedMethod, LinkedProgram}
-use Rattle.link_indexes.specs.Facts.{IsRaised}
+use Rattle.link_rules.specs.Flow.{IsRaised}
 use Rattle.link_sites.specs.declared.place.Place.{Place}
 
 -- the statement at an index of a method

@@ -11,9 +11,7 @@ use Rattle.link_rules.specs.Flow.{MayRaise}
 use Rattle.link_rules.specs.Linked.{LinkedProgram}
 use Rattle.link_rules.specs.Targets.{exception_names}
 use Rattle.link_rules.specs.WellLinked.{MakesArrays}
-use Rattle.link_program.specs.Accessed.{field_class}
-use Rattle.link_program.specs.Classes.{names_of}
-use Rattle.link_program.specs.Places.{IsFirstPlace}
+use Rattle.link_rules.specs.Accessed.{field_class, linked_class_names, IsFirstPlace}
 use Rattle.link_sites.specs.declared.place.Place.{Place}
 use Rattle.link_sites.specs.declared.site.Site.{Site}
 use Rattle.link_sites.specs.declared.site.Site.TheVariants as site
@@ -65,7 +63,7 @@ IsSite p (site.Class number) = number < length p.class_texts
 
 -- the first class with this name
 abbrev pub IsNamedClass : LinkedProgram → List ℕ → ℕ → Type 0
-IsNamedClass p name class = IsFirstPlace (names_of p.classes) name class
+IsNamedClass p name class = IsFirstPlace (linked_class_names p.classes) name class
 
 -- the class of what a statement makes; that of an array is `java.lang.Object`
 abbrev pub IsClassOfMade : LinkedProgram → Code → ℕ → Type 0

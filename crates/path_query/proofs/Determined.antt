@@ -3,7 +3,7 @@ use Rattle.std.proofs.Common.{◌≡◌, ℕ, zero, suc, ◌<◌, List, [], ◌�
 use Rattle.std.specs.List.{AllZip}
 use Rattle.class_tree.specs.Paths.{IsLeast}
 use Rattle.link_rules.specs.Linked.{LinkedProgram}
-use Rattle.link_program.specs.Accessed.{IsFieldNamed}
+use Rattle.link_rules.specs.Accessed.{IsFieldNamed}
 use Rattle.link_sites.specs.declared.site.Site.{Site}
 use Rattle.spds_rules.specs.declared.node.Node.{Node}
 use Rattle.demand_walk.proofs.Counts.{HasMore-not}

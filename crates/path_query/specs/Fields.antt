@@ -4,8 +4,7 @@ use Rattle.std.specs.List.{AllZip}
 use Rattle.class_tree.specs.Paths.{IsLeast}
 use Rattle.jim_ast.specs.Lists.{Has}
 use Rattle.link_rules.specs.Linked.{LinkedProgram}
-use Rattle.link_program.specs.Accessed.{IsFieldNamed}
-use Rattle.link_program.specs.Classes.{names_of}
+use Rattle.link_rules.specs.Accessed.{IsFieldNamed, linked_class_names}
 use Rattle.link_sites.specs.Sites.{IsNamedClass}
 use Rattle.boom_words.specs.Fields.{AreFields, FieldName, cells, named}
 
@@ -17,7 +16,7 @@ IsFieldAt p (named class name) field = (number : ℕ) × IsNamedClass p class nu
 -- the field isn't there: its class isn't declared, or declares no instance field of the name itself
 abbrev pub IsNoField : LinkedProgram → FieldName → Type 0
 IsNoField p cells = ⊥
-IsNoField p (named class name) = (Has (names_of p.classes) class → ⊥)
+IsNoField p (named class name) = (Has (linked_class_names p.classes) class → ⊥)
     ⊎ ((number : ℕ) × IsNamedClass p class number × ((field : ℕ) → IsFieldNamed p number name field → ⊥))
 
 -- the word spells fields with these numbers

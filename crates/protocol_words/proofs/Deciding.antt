@@ -8,7 +8,7 @@ use Rattle.jim_ast.proofs.Places.{IsApart-adds, slice_get-append_left, slice_get
 use Rattle.link_indexes.proofs.Grown.{take-next}
 use Rattle.link_laws.proofs.Lists.{map_at, slice_get-append_right}
 use Rattle.link_once.proofs.OneList.{first_seen_one}
-use Rattle.link_program.specs.Classes.{names_of}
+use Rattle.link_rules.specs.Accessed.{linked_class_names}
 use Rattle.link_rules.specs.Linked.{LinkedProgram}
 use Rattle.link_rules.specs.Lists.{Each, FirstSeen, none, next}
 use Rattle.step_rules.proofs.Deciding.{least_of, same_text_decided}
@@ -210,14 +210,14 @@ at_decided texts text i = by (slice_get texts i)
 module _ (p : LinkedProgram) (word : List ℕ) (k : NamedProtocol) (spells : Spells word k) where
   -- a protocol of no more than 16 states is one of a class, or its class isn't there
   classed : (states events : List (List ℕ)) → FirstSeen (named_states k) states → FirstSeen (named_events k) events → length states ≤ 16 → (one : Outcome) × IsOutcome p word one
-  classed states events in_states in_events few = elim (has_decided same_text_decided (names_of p.classes) k.class) [
+  classed states events in_states in_events few = elim (has_decided same_text_decided (linked_class_names p.classes) k.class) [
     | inl has ↦
         let rows = numbers_some states events k.rows (λ row h. (
           state row h 0 row.from refl,
           seen_has in_events h.0 row.event (map_at (λ (r : NamedRow). r.event) k.rows h.0 row h.1),
           state row h 1 row.to refl,
         )) in
-        let class = least_of (λ i. slice_get (names_of p.classes) i ≡ Some k.class) (at_decided (names_of p.classes) k.class) has.0 has.1 in (
+        let class = least_of (λ i. slice_get (linked_class_names p.classes) i ≡ Some k.class) (at_decided (linked_class_names p.classes) k.class) has.0 has.1 in (
           is_protocol (record { class = class.0; states = states; events = events; rows = rows.0 }),
           record { named = k; spelled = spells; states = in_states; events = in_events; rows = rows.1; few = few; class = class.1 },
         )

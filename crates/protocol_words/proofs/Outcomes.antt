@@ -5,7 +5,7 @@ use Rattle.class_tree.specs.Paths.{IsLeast}
 use Rattle.jim_ast.specs.Lists.{Has, IsApart}
 use Rattle.link_laws.proofs.Lists.{first_seen_apart}
 use Rattle.link_once.proofs.OneList.{each_one, first_seen_one}
-use Rattle.link_program.specs.Classes.{names_of}
+use Rattle.link_rules.specs.Accessed.{linked_class_names}
 use Rattle.link_rules.specs.Linked.{LinkedProgram}
 use Rattle.link_rules.specs.Lists.{Each, FirstSeen}
 use Rattle.link_sites.specs.Sites.{IsNamedClass}
@@ -75,7 +75,7 @@ protocols_one p word a b x y =
     (subst (λ es. Each (IsNumbered a.states es) y.named.rows a.rows) events (subst (λ (k : NamedProtocol). Each (IsNumbered a.states a.events) k.rows a.rows) named x.rows)) in
     let rows = each_one (IsNumbered b.states b.events) y.named.rows a.rows b.rows
     (λ r m n. numbers_one b.states b.events (first_seen_apart y.states) (first_seen_apart y.events) r m n) each y.rows in
-    let class = least_one (λ i. slice_get (names_of p.classes) i ≡ Some y.named.class) a.class b.class
+    let class = least_one (λ i. slice_get (linked_class_names p.classes) i ≡ Some y.named.class) a.class b.class
     (subst (λ (k : NamedProtocol). IsNamedClass p k.class a.class) named x.class) y.class in
     (λ i. record { class = class i; states = states i; events = events i; rows = rows i })
 
@@ -89,7 +89,7 @@ crowded_no_protocol p word k at x y =
 unknown_no_protocol : (p : LinkedProgram) (word : List ℕ) (k : ProtocolParts) → IsProtocolOf p word k → IsOfUnknownClass p word → ⊥
 unknown_no_protocol p word k x y =
     let named = spells_one word x.named y.named x.spelled y.spelled in
-    y.unknown (k.class, subst (λ (n : NamedProtocol). slice_get (names_of p.classes) k.class ≡ Some n.class) named x.class.holds)
+    y.unknown (k.class, subst (λ (n : NamedProtocol). slice_get (linked_class_names p.classes) k.class ≡ Some n.class) named x.class.holds)
 
 -- and no part brings a 17th state
 unknown_uncrowded : (p : LinkedProgram) (word : List ℕ) (at : ℕ) → HasTooManyStates word at → IsOfUnknownClass p word → ⊥

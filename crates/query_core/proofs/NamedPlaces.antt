@@ -2,7 +2,7 @@
 use Rattle.std.proofs.Common.{◌≡◌, ℕ, ◌<◌, ◌≤◌, List, Some, length, slice_get, refl, ap, arith, subst}
 use Rattle.class_tree.specs.Paths.{IsLeast}
 use Rattle.link_rules.specs.Linked.{LinkedMethod, LinkedProgram}
-use Rattle.link_program.specs.Places.{IsFirstPlace}
+use Rattle.link_rules.specs.Accessed.{IsFirstPlace}
 use Rattle.spds_rules.specs.declared.node.Node.{Node}
 use Rattle.query_core.specs.declared.places.Which.{Which}
 use Rattle.query_core.specs.declared.places.Which.TheVariants as which

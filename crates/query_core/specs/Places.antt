@@ -3,8 +3,7 @@ use Rattle.std.specs.Prelude.{◌≡◌, ℕ, ◌<◌, ◌≤◌, List, Some, le
 use Rattle.class_tree.specs.Paths.{IsLeast}
 use Rattle.jim_ast.specs.Lists.{Has}
 use Rattle.link_rules.specs.Linked.{LinkedMethod, LinkedProgram}
-use Rattle.link_program.specs.Accessed.{HasText}
-use Rattle.link_program.specs.Places.{IsFirstPlace}
+use Rattle.link_rules.specs.Accessed.{HasText, IsFirstPlace}
 use Rattle.link_sites.specs.Places.{before}
 use Rattle.spds_rules.specs.declared.node.Node.{Node}
 use Rattle.spds_rules.specs.declared.node.Var.TheVariants.{Local}

@@ -6,7 +6,7 @@ use Rattle.link_rules.specs.declared.code.Code.{Code}
 use Rattle.link_rules.specs.declared.code.Code.TheVariants.{New, NewArray, NewMulti}
 use Rattle.link_rules.specs.Linked.{LinkedClass, LinkedMethod, LinkedProgram}
 use Rattle.link_rules.specs.WellLinked.{FitsCode, FitsMethod, IsInForm, MakesArrays}
-use Rattle.link_program.specs.Accessed.{At, MakesArray}
+use Rattle.link_rules.specs.Accessed.{At, MakesArray}
 use Rattle.link_sites.specs.declared.place.Place.{Place}
 use Rattle.link_sites.specs.Places.{CodeAt, HasCode}
 use Rattle.link_sites.specs.Sites.{HasLevel, IsUnraised, Makes}

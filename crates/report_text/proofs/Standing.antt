@@ -1,7 +1,7 @@
 -- The places of statements, and the nodes of locals.
 use Rattle.std.proofs.Common.{◌≡◌, ℕ, ◌<◌, List, Some, false, length, refl, slice_get, subst, sym}
 use Rattle.jim_ast.proofs.Places.{slice_get-there}
-use Rattle.link_program.specs.Accessed.{At}
+use Rattle.link_rules.specs.Accessed.{At}
 use Rattle.link_rules.specs.declared.code.Code.{Code}
 use Rattle.link_rules.specs.Linked.{LinkedProgram}
 use Rattle.link_sites.specs.declared.place.Place.{Place}

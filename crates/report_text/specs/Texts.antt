@@ -6,7 +6,7 @@ use Rattle.link_rules.specs.declared.code.Code.TheVariants.{New, NewArray, NewMu
 use Rattle.link_rules.specs.Linked.{LinkedClass, LinkedMethod, LinkedProgram}
 use Rattle.link_rules.specs.Names.{brackets}
 use Rattle.link_rules.specs.Targets.{exception_names}
-use Rattle.link_program.specs.Accessed.{HasElementText}
+use Rattle.link_rules.specs.Accessed.{HasElementText}
 use Rattle.link_sites.specs.declared.place.Place.{Place}
 use Rattle.link_sites.specs.declared.site.Site.{Site}
 use Rattle.link_sites.specs.declared.site.Site.TheVariants as site

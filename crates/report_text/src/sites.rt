@@ -3,7 +3,7 @@ ghost use Rattle.std.specs.Prelude.{◌≡◌, ◌++◌, ◌<◌, Some, IfOk, On
 ghost use Rattle.link_rules.specs.Flow.{MayRaise};
 ghost use Rattle.link_rules.specs.Targets.{exception_names};
 ghost use Rattle.link_rules.specs.Names.{brackets};
-ghost use Rattle.link_program.specs.Accessed.{At, MakesArray};
+ghost use Rattle.link_rules.specs.Accessed.{At, MakesArray};
 ghost use Rattle.link_sites.specs.Sites.{IsSite, IsUnraised};
 ghost use Rattle.report_text.specs.Texts.{AddsText, IsArrayText, IsMadeAt, IsNewText, IsRaisedText, IsSiteText, MakesLevel, constant_text};
 

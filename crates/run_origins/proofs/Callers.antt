@@ -6,7 +6,7 @@ use Rattle.link_rules.specs.declared.code.Code.TheVariants as code
 use Rattle.link_rules.specs.Linked.{LinkedMethod, LinkedProgram}
 use Rattle.link_rules.specs.WellLinked.{FitsCode, HasTarget, IsLocalOf, IsWellLinked}
 use Rattle.link_laws.proofs.Lists.{at_all}
-use Rattle.link_indexes.specs.Facts.{IsReturn}
+use Rattle.link_rules.specs.Flow.{IsReturn}
 use Rattle.link_sites.specs.Places.{CodeAt, HasCode, before}
 use Rattle.spds_rules.specs.declared.edge.EdgeKind.TheVariants as edge_kind
 use Rattle.spds_rules.specs.declared.node.Var.{Var}

@@ -5,10 +5,9 @@ use Rattle.link_rules.specs.declared.code.Arg.{Arg}
 use Rattle.link_rules.specs.declared.code.Arg.TheVariants as arg
 use Rattle.link_rules.specs.declared.code.Code.{Code}
 use Rattle.link_rules.specs.declared.code.Code.TheVariants as code
-use Rattle.link_rules.specs.Flow.{MayRaise, Next}
+use Rattle.link_rules.specs.Flow.{MayRaise, Next, IsRaised, IsReturn}
 use Rattle.link_rules.specs.Linked.{LinkedMethod, LinkedProgram}
 use Rattle.link_rules.specs.WellLinked.{FitsArg, HasTarget}
-use Rattle.link_indexes.specs.Facts.{IsRaised, IsReturn}
 use Rattle.link_sites.specs.Sites.{Makes}
 use Rattle.spds_rules.specs.declared.node.Var.{Var}
 use Rattle.spds_rules.specs.declared.node.Var.TheVariants.{Local, Made, Text, Class}

@@ -4,7 +4,7 @@ use Rattle.std.proofs.lemmas.Bool.{cases_order}
 use Rattle.std.proofs.lemmas.List.{append-nil}
 use Rattle.std.proofs.Math.Seq.{append_snoc}
 use Rattle.jim_ast.proofs.Places.{slice_get-below}
-use Rattle.link_program.specs.Classes.{names_of}
+use Rattle.link_rules.specs.Accessed.{linked_class_names}
 use Rattle.link_rules.specs.Linked.{LinkedMethod, LinkedProgram}
 use Rattle.link_rules.specs.WellLinked.{IsInForm}
 use Rattle.step_rules.proofs.Determined.{choices_one, least_one, step_one}
@@ -21,8 +21,8 @@ first_one : (p : LinkedProgram) (s t : State) → IsFirstState p s → IsFirstSt
 first_one p s t x y =
     let number : x.number ≡ y.number = omega (arith, x.is_root.last, y.is_root.last) in
     let root = same_place p.methods y.number x.root y.root (subst (λ n. slice_get p.methods n ≡ Some x.root) number x.is_root.there) y.is_root.there in
-    let string = least_one (λ i. slice_get (names_of p.classes) i ≡ Some (codes "java.lang.String")) x.string y.string x.is_string y.is_string in
-    let class = least_one (λ i. slice_get (names_of p.classes) i ≡ Some (codes "java.lang.Class")) x.class y.class x.is_class y.is_class in
+    let string = least_one (λ i. slice_get (linked_class_names p.classes) i ≡ Some (codes "java.lang.String")) x.string y.string x.is_string y.is_string in
+    let class = least_one (λ i. slice_get (linked_class_names p.classes) i ≡ Some (codes "java.lang.Class")) x.class y.class x.is_class y.is_class in
     x.is_state ∙ ap (λ n. first_state p n x.root x.string x.class) number ∙ ap (λ (m : LinkedMethod). first_state p y.number m x.string x.class) root
     ∙ ap (λ n. first_state p y.number y.root n x.class) string ∙ ap (λ n. first_state p y.number y.root y.string n) class ∙ sym y.is_state
 

@@ -1,6 +1,6 @@
 //! The lines with how a run stands.
 ghost use Rattle.std.specs.Prelude.{◌≡◌, ◌<◌, ◌++◌, ◌∷◌, [], OnOk, length, string_bytes};
-ghost use Rattle.link_program.specs.Accessed.{At};
+ghost use Rattle.link_rules.specs.Accessed.{At};
 ghost use Rattle.report_text.specs.Lines.{AddsLine, AddsLines, text_of};
 ghost use Rattle.report_text.specs.Texts.{AddsText};
 ghost use Rattle.run_report.specs.Reports.{AreEndLines, AreRunningLines, AreSited, IsAtLine, IsFlightText, IsTellable, IsUncaughtLine};

@@ -1,6 +1,6 @@
 //! The lines of the top frame's locals.
 ghost use Rattle.std.specs.Prelude.{◌≡◌, ◌<◌, OnOk, length, string_bytes};
-ghost use Rattle.link_program.specs.Accessed.{At};
+ghost use Rattle.link_rules.specs.Accessed.{At};
 ghost use Rattle.report_text.specs.Lines.{AddsLines};
 ghost use Rattle.run_report.specs.Reports.{AddsLocal, AreLocalLines, AreSited};
 ghost use Rattle.step_rules.specs.Shapes.{FitsFrame};

@@ -5,10 +5,9 @@ use Rattle.jim_ast.proofs.Places.{slice_get-push}
 use Rattle.link_rules.specs.declared.code.Code.{Code}
 use Rattle.link_rules.specs.declared.code.Code.TheVariants as code
 use Rattle.link_rules.specs.Classes.{object_name}
-use Rattle.link_rules.specs.Flow.{MayRaise, Next}
+use Rattle.link_rules.specs.Flow.{MayRaise, Next, IsRaised}
 use Rattle.link_rules.specs.Linked.{LinkedMethod, LinkedProgram}
 use Rattle.link_rules.specs.WellLinked.{HasTarget}
-use Rattle.link_indexes.specs.Facts.{IsRaised}
 use Rattle.link_sites.specs.declared.place.Place.{Place}
 use Rattle.link_sites.specs.declared.site.Site.{Site}
 use Rattle.link_sites.specs.declared.site.Site.TheVariants as site

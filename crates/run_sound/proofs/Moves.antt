@@ -3,9 +3,8 @@ use Rattle.std.proofs.Common.{◌≡◌, ℕ, ◌+◌, ◌<◌, ◌⊎◌, Some,
 use Rattle.std.proofs.lemmas.Option.{same_Some}
 use Rattle.jim_ast.proofs.Places.{slice_get-there}
 use Rattle.link_rules.specs.declared.code.Code.{Code}
-use Rattle.link_rules.specs.Flow.{Next}
+use Rattle.link_rules.specs.Flow.{Next, IsRaised}
 use Rattle.link_rules.specs.Linked.{LinkedMethod, LinkedProgram}
-use Rattle.link_indexes.specs.Facts.{IsRaised}
 use Rattle.link_sites.specs.declared.place.Place.{Place}
 use Rattle.link_sites.specs.Places.{before, in_flight}
 use Rattle.spds_rules.specs.declared.node.Var.TheVariants as var

@@ -1,10 +1,10 @@
 -- Each edge that ends in a node is of one of the parts.
 use Rattle.std.proofs.Common.{◌≡◌, ℕ, ◌+◌, Bool, Some, false, true, refl, sym, ap, subst, ◌∙◌, inl, inr}
 use Rattle.link_rules.specs.declared.code.Code.{Code}
-use Rattle.link_rules.specs.Flow.{Next}
+use Rattle.link_rules.specs.Flow.{Next, IsRaised, IsReturn}
 use Rattle.link_rules.specs.Linked.{LinkedProgram}
 use Rattle.link_rules.specs.WellLinked.{HasTarget}
-use Rattle.link_indexes.specs.Facts.{Calls, IsRaised, IsReturn, StoresStatic as StoresInto}
+use Rattle.link_indexes.specs.Facts.{Calls, StoresStatic as StoresInto}
 use Rattle.link_sites.specs.declared.place.Place.{Place}
 use Rattle.link_sites.specs.Places.{CodeAt, HasCode, before, in_flight}
 use Rattle.spds_rules.specs.declared.edge.Edge.{Edge}

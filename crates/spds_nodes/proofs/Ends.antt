@@ -1,10 +1,10 @@
 -- The parts are all edges that end in a node.
 use Rattle.std.proofs.Common.{◌≡◌, ℕ, ◌+◌, false, refl, sym, ap, subst, ◌∙◌, inl, inr}
 use Rattle.link_rules.specs.declared.code.Code.{Code}
-use Rattle.link_rules.specs.Flow.{Handles, Next}
+use Rattle.link_rules.specs.Flow.{Handles, Next, IsRaised}
 use Rattle.link_rules.specs.Linked.{LinkedMethod, LinkedProgram}
 use Rattle.link_rules.specs.WellLinked.{IsInForm}
-use Rattle.link_indexes.specs.Facts.{Calls, IsRaised}
+use Rattle.link_indexes.specs.Facts.{Calls}
 use Rattle.link_sites.specs.declared.place.Place.{Place}
 use Rattle.link_sites.specs.Places.{CodeAt, before, in_flight}
 use Rattle.spds_rules.specs.declared.edge.Edge.{Edge}

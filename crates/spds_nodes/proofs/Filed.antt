@@ -13,7 +13,7 @@ use Rattle.link_indexes.specs.declared.method.Place.{Place as Indexed}
 use Rattle.link_indexes.specs.Facts.{Stores}
 use Rattle.link_indexes.specs.Rows.{Precedes}
 use Rattle.link_indexes.specs.Tables.{IsAt}
-use Rattle.link_program.specs.Accessed.{codes_in}
+use Rattle.link_rules.specs.Accessed.{codes_in}
 use Rattle.link_sites.specs.declared.place.Place.{Place}
 use Rattle.link_sites.specs.Places.{CodeAt, ComesBefore, HasCode, before}
 use Rattle.spds_rules.specs.declared.node.Var.{Var}

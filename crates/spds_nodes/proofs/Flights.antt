@@ -2,7 +2,7 @@
 use Rattle.std.proofs.Common.{◌≡◌, ℕ, ◌↔◌, Bool, false, true, refl, sym, ap, subst, ◌∙◌, inl, inr}
 use Rattle.link_rules.specs.Linked.{LinkedProgram}
 use Rattle.link_rules.specs.WellLinked.{IsInForm}
-use Rattle.link_indexes.specs.Facts.{IsRaised}
+use Rattle.link_rules.specs.Flow.{IsRaised}
 use Rattle.link_sites.specs.declared.place.Place.{Place}
 use Rattle.link_sites.specs.Places.{CodeAt, HasCode, before, in_flight}
 use Rattle.spds_rules.specs.declared.edge.Edge.{Edge}

@@ -8,7 +8,7 @@ use Rattle.link_rules.specs.declared.code.Code.TheVariants as code
 use Rattle.link_rules.specs.Linked.{LinkedClass, LinkedProgram}
 use Rattle.link_rules.specs.Targets.{exception_names, nine_names}
 use Rattle.link_rules.specs.WellLinked.{FitsCode, FitsMethod, HasClass, IsInForm}
-use Rattle.link_program.specs.Classes.{names_of}
+use Rattle.link_rules.specs.Accessed.{linked_class_names}
 use Rattle.link_program.proofs.Found.{at_map, from_map}
 use Rattle.link_sites.specs.declared.site.Site.{Site}
 use Rattle.link_sites.specs.declared.site.Site.TheVariants as site
@@ -26,10 +26,10 @@ IsNamedClass-below p name class is =
     slice_get-below p.classes class there.0 there.1
 
 -- each of the nine names is that of a class
-pub is_named : (p : LinkedProgram) (name : List ℕ) → IsInForm p → Has nine_names name → Has (names_of p.classes) name
+pub is_named : (p : LinkedProgram) (name : List ℕ) → IsInForm p → Has nine_names name → Has (linked_class_names p.classes) name
 is_named p name form has =
     let class = All-at (HasClass p) nine_names has.0 name has.1 form.nine in
-    (class.0, subst (λ n. slice_get (names_of p.classes) class.0 ≡ Some n) class.3 (at_map (λ (c : LinkedClass). c.name) p.classes class.0 class.1 class.2))
+    (class.0, subst (λ n. slice_get (linked_class_names p.classes) class.0 ≡ Some n) class.3 (at_map (λ (c : LinkedClass). c.name) p.classes class.0 class.1 class.2))
 
 -- the names of the exceptions are among the nine
 pub exceptions_are_named : (kind : ℕ) (name : List ℕ) → slice_get exception_names kind ≡ Some name → Has nine_names name

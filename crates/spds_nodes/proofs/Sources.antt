@@ -6,12 +6,12 @@ use Rattle.link_rules.specs.declared.code.Arg.{Arg}
 use Rattle.link_rules.specs.declared.code.Arg.TheVariants as arg
 use Rattle.link_rules.specs.declared.code.Code.{Code}
 use Rattle.link_rules.specs.declared.code.Code.TheVariants as code
-use Rattle.link_rules.specs.Flow.{Next}
+use Rattle.link_rules.specs.Flow.{Next, IsReturn}
 use Rattle.link_rules.specs.Linked.{LinkedMethod, LinkedProgram}
 use Rattle.link_rules.specs.WellLinked.{FitsArg, FitsCode, HasTarget, IsLocalOf}
-use Rattle.link_indexes.specs.Facts.{Calls, IsReturn, StoresStatic as StoresInto}
+use Rattle.link_indexes.specs.Facts.{Calls, StoresStatic as StoresInto}
 use Rattle.link_indexes.specs.Tables.{IsInMethod}
-use Rattle.link_program.specs.Accessed.{codes_in}
+use Rattle.link_rules.specs.Accessed.{codes_in}
 use Rattle.link_program.proofs.Found.{at_map, from_map}
 use Rattle.link_sites.specs.Places.{CodeAt, HasCode}
 use Rattle.spds_rules.specs.declared.node.Var.{Var}

@@ -5,9 +5,10 @@ use Rattle.link_rules.specs.declared.code.Arg.TheVariants as arg
 use Rattle.link_rules.specs.declared.code.Code.{Code}
 use Rattle.link_rules.specs.declared.code.Code.TheVariants as code
 use Rattle.link_rules.specs.Linked.{LinkedProgram}
-use Rattle.link_indexes.specs.Facts.{Calls, IsRaised, IsReturn}
+use Rattle.link_indexes.specs.Facts.{Calls}
+use Rattle.link_rules.specs.Flow.{IsRaised, IsReturn}
 use Rattle.link_indexes.specs.Tables.{IsInMethod}
-use Rattle.link_program.specs.Accessed.{codes_in}
+use Rattle.link_rules.specs.Accessed.{codes_in}
 use Rattle.link_sites.specs.declared.place.Place.{Place}
 use Rattle.link_sites.specs.Places.{HasCode, before}
 use Rattle.spds_rules.specs.declared.edge.Edge.{Edge}

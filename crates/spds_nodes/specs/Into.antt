@@ -3,9 +3,10 @@ use Rattle.std.specs.Prelude.{◌≡◌, ℕ, ◌+◌, ◌⊎◌}
 use Rattle.link_rules.specs.declared.code.Code.{Code}
 use Rattle.link_rules.specs.Linked.{LinkedProgram}
 use Rattle.link_indexes.specs.declared.method.Place.{Place as Indexed}
-use Rattle.link_indexes.specs.Facts.{Calls, IsRaised, IsReturn, StoresStatic as StoresInto}
+use Rattle.link_indexes.specs.Facts.{Calls, StoresStatic as StoresInto}
+use Rattle.link_rules.specs.Flow.{IsRaised, IsReturn}
 use Rattle.link_indexes.specs.Tables.{GoesOnIn, IsAt, IsInMethod}
-use Rattle.link_program.specs.Accessed.{codes_in}
+use Rattle.link_rules.specs.Accessed.{codes_in}
 use Rattle.link_sites.specs.declared.place.Place.{Place}
 use Rattle.link_sites.specs.Places.{HasCode, before, in_flight}
 use Rattle.spds_rules.specs.declared.edge.Edge.{Edge}

@@ -3,7 +3,7 @@ ghost use Rattle.std.specs.Prelude.{◌≡◌, ◌↔◌, ℕ, OnOk, Some};
 ghost use Rattle.jim_ast.specs.Lists.{Has, IsApart};
 ghost use Rattle.link_indexes.specs.Rows.{AreTheIndexes};
 ghost use Rattle.link_indexes.specs.Tables.{IsInMethod};
-ghost use Rattle.link_program.specs.Accessed.{codes_in};
+ghost use Rattle.link_rules.specs.Accessed.{codes_in};
 ghost use Rattle.spds_rules.specs.declared.node.Var.{Var as Variable};
 ghost use Rattle.spds_rules.specs.Formals.{IsPosition};
 ghost use Rattle.spds_rules.specs.Nodes.{IsNode, at};

@@ -1,8 +1,7 @@
 //! What a statement hands on, makes and raises.
 ghost use Rattle.std.specs.Prelude.{◌≡◌, ◌<◌, ◌≤◌, ◌↔◌, ℕ, IsTrue};
 ghost use Rattle.jim_ast.specs.Lists.{Has};
-ghost use Rattle.link_rules.specs.Flow.{MayRaise};
-ghost use Rattle.link_indexes.specs.Facts.{IsRaised};
+ghost use Rattle.link_rules.specs.Flow.{MayRaise, IsRaised};
 ghost use Rattle.link_rules.specs.WellLinked.{MakesArrays};
 ghost use Rattle.link_sites.specs.Sites.{HasLevel, Makes};
 ghost use Rattle.spds_rules.specs.Nodes.{arg_var, handed};

@@ -1,7 +1,7 @@
 //! The nodes of a program.
 ghost use Rattle.std.specs.Prelude.{◌≡◌, ◌<◌, ◌↔◌, IsTrue, length};
 ghost use Rattle.link_rules.specs.WellLinked.{IsInForm};
-ghost use Rattle.link_program.specs.Accessed.{At};
+ghost use Rattle.link_rules.specs.Accessed.{At};
 ghost use Rattle.spds_rules.specs.Nodes.{HasVar, IsNode, MayStand, site_of};
 
 use super::codes::{hands, has_level, is_raised, makes, may_raise};

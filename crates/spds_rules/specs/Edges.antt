@@ -6,10 +6,9 @@ use Rattle.std.specs.Prelude.{◌≡◌, ℕ, ◌+◌, ◌⊎◌, Bool, List, Op
 use Rattle.link_rules.specs.declared.code.Arg.{Arg}
 use Rattle.link_rules.specs.declared.code.Code.{Code}
 use Rattle.link_rules.specs.declared.code.Code.TheVariants as code
-use Rattle.link_rules.specs.Flow.{Handles, MayRaise, Next}
+use Rattle.link_rules.specs.Flow.{Handles, MayRaise, Next, IsReturn}
 use Rattle.link_rules.specs.Linked.{LinkedMethod, LinkedProgram}
 use Rattle.link_rules.specs.WellLinked.{HasTarget}
-use Rattle.link_indexes.specs.Facts.{IsReturn}
 use Rattle.link_sites.specs.declared.place.Place.{Place}
 use Rattle.link_sites.specs.Places.{HasCode, before, in_flight}
 use Rattle.spds_rules.specs.declared.edge.EdgeKind.{EdgeKind}

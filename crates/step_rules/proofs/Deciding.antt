@@ -6,7 +6,7 @@ use Rattle.class_tree.specs.Lookups.{Resolve}
 use Rattle.class_tree.specs.Paths.{IsLeast}
 use Rattle.class_tree.specs.Rows.{Sub}
 use Rattle.jim_ast.proofs.Places.{slice_get-below}
-use Rattle.link_program.specs.Accessed.{field_class}
+use Rattle.link_rules.specs.Accessed.{field_class}
 use Rattle.link_rules.specs.declared.code.Catch.{Catch}
 use Rattle.link_rules.specs.declared.code.Code.{Code}
 use Rattle.link_rules.specs.declared.code.Code.TheVariants.{NewArray, NewMulti}

@@ -12,7 +12,7 @@ use Rattle.link_rules.specs.declared.code.Code.{Code}
 use Rattle.link_rules.specs.declared.code.Code.TheVariants.{This, Param, Caught, Copy, Cast, New, NewArray, NewMulti, Numeric, Length, Load, Store, LoadCell, StoreCell, LoadStatic, StoreStatic, Call, If, Goto, Switch, Return, Throw, Monitor, Skip}
 use Rattle.link_rules.specs.Lists.{AreIncreasing}
 use Rattle.link_rules.specs.Targets.{exception_names}
-use Rattle.link_program.specs.Classes.{names_of}
+use Rattle.link_rules.specs.Accessed.{linked_class_names}
 use Rattle.link_rules.specs.Linked.{LinkedMethod, LinkedProgram}
 use Rattle.link_rules.specs.WellLinked.{IsInForm}
 use Rattle.link_sites.specs.declared.site.Site.{Site}
@@ -253,7 +253,7 @@ below_choices p s choice form has count h = omega (arith, has.2, choices_one p s
 raised_one : (p : LinkedProgram) (kind a b : ℕ) → IsClassOfRaised p kind a → IsClassOfRaised p kind b → a ≡ b
 raised_one p kind a b x y =
     let same : x.0 ≡ y.0 = same_place exception_names kind x.0 y.0 x.1 y.1 in
-    least_one (λ i. slice_get (names_of p.classes) i ≡ Some y.0) a b (subst (λ (n : List ℕ). IsNamedClass p n a) same x.2) y.2
+    least_one (λ i. slice_get (linked_class_names p.classes) i ≡ Some y.0) a b (subst (λ (n : List ℕ). IsNamedClass p n a) same x.2) y.2
 
 no_last : {X : Type 0} (xs : List X) (x : X) → xs ++ x ∷ [] ≡ [] → ⊥
 no_last [] x e = cc

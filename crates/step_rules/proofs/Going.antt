@@ -4,7 +4,7 @@ use Rattle.class_tree.proofs.Decided.{IsDecided, same_decided, sub_decided}
 use Rattle.jim_ast.proofs.Places.{slice_get-there}
 use Rattle.jim_ast.specs.declared.syntax.Mode.{Mode}
 use Rattle.jim_ast.specs.declared.syntax.Mode.TheVariants.{Special, Virtual, Interface, Static}
-use Rattle.link_program.specs.Classes.{names_of}
+use Rattle.link_rules.specs.Accessed.{linked_class_names}
 use Rattle.link_rules.specs.declared.code.Code.{Code}
 use Rattle.link_rules.specs.declared.code.Code.TheVariants.{This, Param, Caught, Copy, Cast, New, NewArray, NewMulti, Numeric, Length, Load, Store, LoadCell, StoreCell, LoadStatic, StoreStatic, Call, If, Goto, Switch, Return, Throw, Monitor, Skip}
 use Rattle.link_rules.specs.Linked.{LinkedClass, LinkedMethod, LinkedProgram}
@@ -70,16 +70,16 @@ where_met Fact e es (inr other) = (is_ill_typed ∷ [], inr (other, refl), omega
 pub named : (p : LinkedProgram) → IsInForm p → (i : ℕ) (name : List ℕ) → slice_get nine_names i ≡ Some name → (class : ℕ) × IsNamedClass p name class
 named p form i name e =
     let class = at_all (HasClass p) nine_names i name form.nine e in
-    least_of (λ i. slice_get (names_of p.classes) i ≡ Some name) (λ i. name_decided i) class.0 (mapped p.classes class.0 class.1 class.2 class.3)
+    least_of (λ i. slice_get (linked_class_names p.classes) i ≡ Some name) (λ i. name_decided i) class.0 (mapped p.classes class.0 class.1 class.2 class.3)
   where
     mapped : (classes : List LinkedClass) (number : ℕ) (class : LinkedClass) → slice_get classes number ≡ Some class → class.name ≡ name
-        → slice_get (names_of classes) number ≡ Some name
+        → slice_get (linked_class_names classes) number ≡ Some name
     mapped [] number class there is = cc
     mapped (c ∷ cs) zero class there is = let same : c ≡ class = cc in ap Some (ap (λ (c : LinkedClass). c.name) same ∙ is)
     mapped (c ∷ cs) (suc number) class there is = mapped cs number class there is
 
-    name_decided : (i : ℕ) → IsDecided (slice_get (names_of p.classes) i ≡ Some name)
-    name_decided i = by (slice_get (names_of p.classes) i) where
+    name_decided : (i : ℕ) → IsDecided (slice_get (linked_class_names p.classes) i ≡ Some name)
+    name_decided i = by (slice_get (linked_class_names p.classes) i) where
       by : (o : Option (List ℕ)) → IsDecided (o ≡ Some name)
       by None = inr (λ e. cc)
       by (Some text) = same_decided (λ e. ap Some e) inside (same_text_decided text name) where

@@ -4,7 +4,7 @@ use Rattle.std.proofs.lemmas.List.{length-map}
 use Rattle.jim_ast.proofs.Places.{slice_get-below, slice_get-there}
 use Rattle.jim_ast.specs.declared.syntax.Mode.{Mode}
 use Rattle.jim_ast.specs.declared.syntax.Mode.TheVariants.{Special, Virtual, Interface, Static}
-use Rattle.link_program.specs.Classes.{names_of}
+use Rattle.link_rules.specs.Accessed.{linked_class_names}
 use Rattle.link_rules.specs.declared.code.Catch.{Catch}
 use Rattle.link_rules.specs.declared.code.Code.{Code}
 use Rattle.link_rules.specs.declared.code.Code.TheVariants.{This, Param, Caught, Copy, Cast, New, NewArray, NewMulti, Numeric, Length, Load, Store, LoadCell, StoreCell, LoadStatic, StoreStatic, Call, If, Goto, Switch, Return, Throw, Monitor, Skip}
@@ -26,7 +26,7 @@ use Rattle.step_rules.proofs.Listing.{at_all, each_append, each_cons, each_map, 
 
 -- a named class is one of the classes
 pub class_within : (p : LinkedProgram) (name : List ℕ) (class : ℕ) → IsNamedClass p name class → class < length p.classes
-class_within p name class named = omega (arith, slice_get-below (names_of p.classes) class name named.holds, length-map p.classes (λ c. c.name))
+class_within p name class named = omega (arith, slice_get-below (linked_class_names p.classes) class name named.holds, length-map p.classes (λ c. c.name))
 
 module _ (p : LinkedProgram) (at : Point) (form : IsInForm p) (fits : FitsPoint p at) where
   abbrev Fits : Effect → Type 0

@@ -13,7 +13,7 @@ use Rattle.link_indexes.proofs.Grown.{Has-push}
 use Rattle.link_indexes.specs.declared.method.Place.{Place}
 use Rattle.link_indexes.specs.Facts.{Calls}
 use Rattle.link_indexes.specs.Tables.{IsAt}
-use Rattle.link_program.specs.Accessed.{codes_in}
+use Rattle.link_rules.specs.Accessed.{codes_in}
 use Rattle.link_program.proofs.Found.{at_map, from_map}
 use Rattle.link_rules.specs.declared.code.Code.{Code}
 use Rattle.link_rules.specs.declared.code.Code.TheVariants as code

@@ -7,7 +7,7 @@ use Rattle.class_tree.specs.Paths.{IsLeast}
 use Rattle.jim_ast.specs.Lists.{Has, IsApart}
 use Rattle.link_rules.specs.Linked.{LinkedProgram}
 use Rattle.link_rules.specs.Lists.{Each, FirstSeen}
-use Rattle.link_program.specs.Classes.{names_of}
+use Rattle.link_rules.specs.Accessed.{linked_class_names}
 use Rattle.link_sites.specs.Sites.{IsNamedClass}
 use Rattle.track_rules.specs.declared.row.ProtocolRow.{ProtocolRow}
 
@@ -161,4 +161,4 @@ pub record IsOfUnknownClass (p : LinkedProgram) (word : List ℕ) : Type 0 where
   pub named : NamedProtocol
   pub spelled : Spells word named
   pub few : (at : ℕ) → NamesTooMany named at → ⊥
-  pub unknown : Has (names_of p.classes) named.class → ⊥
+  pub unknown : Has (linked_class_names p.classes) named.class → ⊥

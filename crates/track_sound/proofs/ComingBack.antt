@@ -5,7 +5,7 @@ use Rattle.link_rules.specs.declared.code.Arg.{Arg}
 use Rattle.link_rules.specs.declared.code.Code.{Code}
 use Rattle.link_rules.specs.declared.code.Code.TheVariants as code
 use Rattle.link_rules.specs.Linked.{LinkedProgram}
-use Rattle.link_indexes.specs.Facts.{IsReturn}
+use Rattle.link_rules.specs.Flow.{IsReturn}
 use Rattle.link_sites.specs.declared.place.Place.{Place}
 use Rattle.spds_rules.specs.declared.edge.EdgeKind.TheVariants as edge_kind
 use Rattle.spds_rules.specs.declared.node.Var.{Var}

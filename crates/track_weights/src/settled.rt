@@ -1,6 +1,6 @@
 //! Whether what is passed at a position is held from there on, in each target of a call.
 ghost use Rattle.std.specs.Prelude.{◌≡◌, IsFalse, IsTrue, true};
-ghost use Rattle.link_program.specs.Accessed.{At};
+ghost use Rattle.link_rules.specs.Accessed.{At};
 ghost use Rattle.track_systems.specs.Settled.{is_settled};
 ghost use Rattle.track_weights.specs.Passed.{AreSettledIn, HasUnsettledIn, IsUnsettledIn, var_of};
 

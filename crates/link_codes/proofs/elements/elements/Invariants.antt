@@ -1,7 +1,7 @@
 use Rattle.std.proofs.Common.{◌≡◌, take}
 use Rattle.link_rules.specs.Linked.{elements_of}
 use Rattle.link_codes.specs.Contexts.{context_of}
-use Rattle.link_codes.specs.Elements.{elements_in}
+use Rattle.link_program.specs.Elements.{elements_in}
 use Rattle.link_codes.proofs.elements.elements.Given as goal
 
 abbrev pub invariant-loop-index : goal.invariant-loop-index

@@ -1,7 +1,7 @@
 use Rattle.std.proofs.Common.{rules, of_calls, ltb}
 use Rattle.std.proofs.lemmas.Fn.{always_returns_same}
 use Rattle.std.proofs.lemmas.List.Sorted.{IsPartitionedBy-ltb}
-use Rattle.link_codes.specs.declared.elements.ElementText.{ElementText}
+use Rattle.link_program.specs.declared.elements.ElementText.{ElementText}
 use Rattle.link_program.proofs.Arrays.{rising}
 use Rattle.link_program.proofs.elements.count_before.Goals as goal
 

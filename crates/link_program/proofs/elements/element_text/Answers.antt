@@ -1,5 +1,5 @@
 use Rattle.std.proofs.Common.{sym, ap, ◌∙◌, rules}
-use Rattle.link_codes.specs.declared.elements.ElementText.{ElementText}
+use Rattle.link_program.specs.declared.elements.ElementText.{ElementText}
 use Rattle.link_program.proofs.Arrays.{at_below, text_there}
 use Rattle.link_program.proofs.elements.element_text.Goals as goal
 

@@ -1,5 +1,5 @@
 use Rattle.std.proofs.Common.{ℕ, ◌≤◌, map}
-use Rattle.link_program.specs.Accessed.{IsEntryNamed}
+use Rattle.link_rules.specs.Accessed.{IsEntryNamed}
 use Rattle.link_program.specs.Parts.{linked_field}
 use Rattle.link_program.proofs.fields.find_field.Given as goal
 

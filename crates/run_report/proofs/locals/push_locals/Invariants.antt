@@ -1,5 +1,5 @@
 use Rattle.std.proofs.Common.{take, string_bytes}
-use Rattle.link_program.specs.Accessed.{At}
+use Rattle.link_rules.specs.Accessed.{At}
 use Rattle.report_text.specs.Lines.{AddsLines}
 use Rattle.run_report.specs.Reports.{LocalLines}
 use Rattle.run_report.proofs.locals.push_locals.Given as goal

@@ -1,7 +1,7 @@
 use Rattle.std.proofs.Common.{sym, subst}
 use Rattle.link_indexes.specs.Rows.{AreTheIndexes}
 use Rattle.link_indexes.specs.Tables.{IsInMethod}
-use Rattle.link_program.specs.Accessed.{codes_in}
+use Rattle.link_rules.specs.Accessed.{codes_in}
 use Rattle.spds_nodes.specs.Backs.{IsLeft}
 use Rattle.spds_nodes.proofs.backs.left_at.Goals as goal
 

@@ -3,7 +3,7 @@ use Rattle.std.proofs.lemmas.Option.{slice_get-get_or}
 use Rattle.link_indexes.specs.declared.method.Place.{Place}
 use Rattle.link_indexes.specs.Facts.{Stores}
 use Rattle.link_indexes.specs.Tables.{IsAt}
-use Rattle.link_program.specs.Accessed.{codes_in}
+use Rattle.link_rules.specs.Accessed.{codes_in}
 use Rattle.link_sites.specs.Places.{before}
 use Rattle.spds_nodes.specs.Stored.{IsStoreAt, IsStoreOf}
 use Rattle.spds_nodes.specs.Added.{Over}

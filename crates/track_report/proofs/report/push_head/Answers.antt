@@ -1,6 +1,6 @@
 use Rattle.std.proofs.Common.{◌≡◌, subst}
 use Rattle.std.proofs.lemmas.Result.{on_ok_weaker}
-use Rattle.link_program.specs.Accessed.{At}
+use Rattle.link_rules.specs.Accessed.{At}
 use Rattle.track_report.proofs.Told.{head_line}
 use Rattle.track_report.proofs.report.push_head.Goals as goal
 

@@ -15,7 +15,7 @@ pub struct Numbering {
 
 impl Model for Numbering {
     ghost use Rattle.std.specs.Prelude.{List, ℕ};
-    ghost use Rattle.link_codes.specs.Numbers.{IsNumbering};
+    ghost use Rattle.link_program.specs.Numbers.{IsNumbering};
 
     ghost Value = { List ℕ };
 

@@ -1,8 +1,8 @@
 use Rattle.std.proofs.Common.{◌≡◌, Some, slice_get, sym, ap, subst, ◌∙◌, arith}
 use Rattle.std.specs.Prelude.{◌↔◌}
 use Rattle.std.proofs.lemmas.Option.{slice_get-get_or}
-use Rattle.link_codes.proofs.Increasing.{no_row, row_number}
-use Rattle.link_codes.proofs.numbering.Numbering.number.Goals as goal
+use Rattle.link_program.proofs.Increasing.{no_row, row_number}
+use Rattle.link_program.proofs.numbering.Numbering.number.Goals as goal
 
 pub returns-then-row-len : goal.returns-then-row-len
 returns-then-row-len c = λ n. (

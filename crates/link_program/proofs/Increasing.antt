@@ -6,7 +6,7 @@ use Rattle.std.proofs.lemmas.Bool.{cases_eq, cases_lt, cases_order}
 use Rattle.std.proofs.lemmas.Option.{get_or_from_slice_get}
 use Rattle.jim_ast.proofs.Places.{slice_get-below, slice_get-set_other, slice_get-set_same, slice_get-there}
 use Rattle.link_rules.specs.Lists.{AreIncreasing}
-use Rattle.link_codes.specs.Numbers.{IsNumbering}
+use Rattle.link_program.specs.Numbers.{IsNumbering}
 
 -- an earlier row is smaller
 pub smaller : (rows : List ℕ) (i j a b : ℕ) → AreIncreasing rows → i < j → slice_get rows i ≡ Some a → slice_get rows j ≡ Some b → a < b

@@ -1,8 +1,9 @@
 -- What is read of a linked program.
 use Rattle.std.specs.Prelude.{◌≡◌, ℕ, zero, suc, ◌+◌, ◌<◌, List, Option, Some, None, length, map, slice_get}
+use Rattle.class_tree.specs.Paths.{IsLeast}
 use Rattle.jim_ast.specs.Lists.{Has}
 use Rattle.link_rules.specs.declared.code.Code.{Code}
-use Rattle.link_rules.specs.Linked.{Element, LinkedField, LinkedMethod, LinkedProgram}
+use Rattle.link_rules.specs.Linked.{Element, LinkedClass, LinkedField, LinkedMethod, LinkedProgram}
 use Rattle.link_rules.specs.WellLinked.{MakesArrays}
 
 -- the fact holds of what stands there
@@ -12,6 +13,14 @@ At {X} xs number P = (x : X) → slice_get xs number ≡ Some x → P x
 -- the code of each method
 abbrev pub codes_in : LinkedProgram → List (List Code)
 codes_in p = map (λ m. m.code) p.methods
+
+-- the names of these classes
+abbrev pub linked_class_names : List LinkedClass → List (List ℕ)
+linked_class_names classes = map (λ c. c.name) classes
+
+-- the text stands there, and at no place before
+abbrev pub IsFirstPlace : List (List ℕ) → List ℕ → ℕ → Type 0
+IsFirstPlace texts text n = IsLeast (λ i. slice_get texts i ≡ Some text) n
 
 -- the class of an instance field; 0, which stands for the elements of arrays, has none
 abbrev pub field_class : LinkedProgram → ℕ → Option ℕ

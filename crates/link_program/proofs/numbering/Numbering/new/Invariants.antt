@@ -1,6 +1,6 @@
 use Rattle.std.proofs.Common.{◌≡◌, length}
-use Rattle.link_codes.proofs.Increasing.{HasPlaces}
-use Rattle.link_codes.proofs.numbering.Numbering.new.Given as goal
+use Rattle.link_program.proofs.Increasing.{HasPlaces}
+use Rattle.link_program.proofs.numbering.Numbering.new.Given as goal
 
 abbrev pub invariant-loop-number : goal.invariant-loop-number
 invariant-loop-number l = record {
