@@ -1,12 +1,10 @@
 -- The event statements by event.
-use Rattle.std.proofs.Common.{◌≡◌, ℕ, zero, suc, ◌↔◌, ◌⊎◌, Bool, true, false, List, [], ◌∷◌, ◌++◌, Some, eqb, length, map, slice_get, inl, inr, refl, sym, ap, subst, ◌∙◌}
-use Rattle.std.proofs.lemmas.Bool.{eqb-false, eqb-true}
+use Rattle.std.proofs.Common.{◌≡◌, ℕ, ◌↔◌, Bool, false, List, [], ◌∷◌, ◌++◌, Some, eqb, length, map, slice_get, inl, inr, refl, sym, ap, subst, ◌∙◌}
 use Rattle.jim_ast.specs.Lists.{Has}
 use Rattle.jim_ast.proofs.Places.{slice_get-pushed}
 use Rattle.link_indexes.proofs.Grown.{Has-push}
 use Rattle.link_program.proofs.Found.{at_map, from_map}
 use Rattle.lists.specs.declared.groups.Keyed.{Keyed}
-use Rattle.lists.specs.Filings.{kept_if}
 use Rattle.lists.specs.Groups.{items_with}
 use Rattle.link_rules.specs.Linked.{LinkedProgram}
 use Rattle.link_sites.specs.declared.place.Place.{Place}
@@ -20,49 +18,13 @@ use Rattle.spds_rules.specs.Nodes.{at}
 use Rattle.track_rules.specs.Protocols.{HasRow, ProtocolParts}
 use Rattle.track_events.specs.declared.statement.EventStatement.{EventStatement}
 use Rattle.track_events.specs.Statements.{AreEventStatements, IsEventStatement, receiver_node}
+use Rattle.track_events.proofs.Calling.{Has-items_with}
 use Rattle.track_systems.specs.Events.{IsEventOn}
 use Rattle.track_systems.specs.Values.{IsWeight}
 use Rattle.weight_laws.specs.declared.rel.Rel.{Rel}
 use Rattle.site_events.specs.declared.statement.Statement.{Statement}
 use Rattle.site_events.specs.Events.{AreAtPlaces, AreHeldAmong, AreRelations, MayBe, use_of}
 use Rattle.site_events.specs.Statements.{before_it, statement_at}
-
--- the elements of a list with one in front
-has_cons : {X : Type 0} (x y : X) (xs : List X) → Has (x ∷ xs) y ↔ ((y ≡ x) ⊎ Has xs y)
-has_cons {X} x y xs = ((λ has. by has.0 has.1), (λ either. elim either [ inl e ↦ (0, ap Some (sym e)) | inr has ↦ (suc has.0, has.1) ]))
-  where
-    by : (i : ℕ) → slice_get (x ∷ xs) i ≡ Some y → (y ≡ x) ⊎ Has xs y
-    by zero at = inl cc
-    by (suc i) at = inr (i, at)
-
--- the uses with a key are those listed with it
-with_has : (xs : List (Keyed ℕ Statement)) (key : ℕ) (u : Statement) → Has (items_with eqb xs key) u ↔ Has xs (record { key = key; item = u })
-with_has [] key u = ((λ has. cc has.1), (λ has. cc has.1))
-with_has (x ∷ xs) key u = by (with_has xs key u) (eqb x.key key) refl
-  where
-    cons : Has (x ∷ xs) (record { key = key; item = u }) ↔ ((record { key = key; item = u } ≡ x) ⊎ Has xs (record { key = key; item = u }))
-    cons = has_cons x (record { key = key; item = u }) xs
-
-    by : (Has (items_with eqb xs key) u ↔ Has xs (record { key = key; item = u })) → (b : Bool) → eqb x.key key ≡ b
-        → Has (items_with eqb (x ∷ xs) key) u ↔ Has (x ∷ xs) (record { key = key; item = u })
-    by rest true e =
-        let one = has_cons x.item u (items_with eqb xs key) in
-        let same : x.key ≡ key = eqb-true x.key key e in
-        let is : items_with eqb (x ∷ xs) key ≡ x.item ∷ items_with eqb xs key = ap (λ t. kept_if t x.item (items_with eqb xs key)) e in (
-          (λ has. cons.1 (elim (one.0 (subst (λ ys. Has ys u) is has)) [
-            | inl a ↦ inl (ap (λ (y : Statement). record { key = key; item = y }) a ∙ ap (λ (n : ℕ). record { key = n; item = x.item }) (sym same))
-            | inr b ↦ inr (rest.0 b)
-          ])),
-          (λ has. subst (λ ys. Has ys u) (sym is) (one.1 (elim (cons.0 has) [ inl a ↦ inl (ap (λ (y : Keyed ℕ Statement). y.item) a) | inr b ↦ inr (rest.1 b) ]))),
-        )
-    by rest false e =
-        let is : items_with eqb (x ∷ xs) key ≡ items_with eqb xs key = ap (λ t. kept_if t x.item (items_with eqb xs key)) e in (
-          (λ has. cons.1 (inr (rest.0 (subst (λ ys. Has ys u) is has)))),
-          (λ has. subst (λ ys. Has ys u) (sym is) (elim (cons.0 has) [
-            | inl a ↦ absurd (eqb-false x.key key e (sym (ap (λ (y : Keyed ℕ Statement). y.key) a)))
-            | inr b ↦ rest.1 b
-          ])),
-        )
 
 -- what each event does, one more
 pub relations_more : (k : ProtocolParts) (relations : List Rel) (event : ℕ) (w : Rel) → length relations ≡ event → AreRelations k relations
@@ -109,8 +71,8 @@ module _ {X : Type 0} (xs : List X) where
 pub at_event : (uses : List (Keyed ℕ Statement)) (places : List ℕ) (found : List (Keyed ℕ Statement)) → AreAtPlaces uses places found → (event : ℕ) (s : Statement)
     → Has (items_with eqb found event) s ↔ ((i : ℕ) × Has places i × (slice_get uses i ≡ Some (record { key = event; item = s })))
 at_event uses places found are event s = (
-  (λ h. (are (record { key = event; item = s })).0 ((with_has found event s).0 h)),
-  (λ h. (with_has found event s).1 ((are (record { key = event; item = s })).1 h)),
+  (λ h. (are (record { key = event; item = s })).0 ((Has-items_with found event s).0 h)),
+  (λ h. (Has-items_with found event s).1 ((are (record { key = event; item = s })).1 h)),
 )
 
 module _ (p : LinkedProgram) (k : ProtocolParts) (q : Asked) (a : Site) (statements : List EventStatement) (places : List ℕ)

@@ -9,6 +9,7 @@ use Rattle.spds_rules.specs.Answers.{IsAnswered}
 use Rattle.spds_rules.specs.Demand.{Asked}
 use Rattle.spds_rules.specs.Nodes.{at}
 use Rattle.track_rules.specs.Protocols.{HasRow, IsProtocol, ProtocolParts}
+use Rattle.track_events.specs.Callers.{AreCallers}
 use Rattle.track_events.specs.declared.statement.EventStatement.{EventStatement}
 use Rattle.track_events.specs.Statements.{AreEventStatements, receiver_node}
 use Rattle.track_systems.specs.Events.{IsEventOn}
@@ -26,13 +27,14 @@ use_of s = record { key = s.event; item = statement_at s.place }
 abbrev pub AreRelations : ProtocolParts → List Rel → Type 0
 AreRelations k relations = (event : ℕ) (w : Rel) → slice_get relations event ≡ Some w → IsWeight w (λ i j. HasRow k i event j)
 
--- each event with what it does, and all event statements
+-- each event with what it does, all event statements, and the callers of each method
 pub record AreEventsIn (p : LinkedProgram) (k : ProtocolParts) (statements : List EventStatement) (events : Events) : Type 0 where
   pub form : IsProtocol k
   pub many : length events.relations.items ≡ length k.events
   pub relations : AreRelations k events.relations.items
   pub are_all : AreEventStatements p k statements
   pub uses : events.uses.items ≡ map use_of statements
+  pub callers : AreCallers p events.callers
 
 -- the elements at these places of a list
 abbrev pub AreAtPlaces : {X : Type 0} → List X → List ℕ → List X → Type 0

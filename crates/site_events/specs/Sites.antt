@@ -1,5 +1,5 @@
 -- What events do to the objects of one site.
-use Rattle.std.specs.Prelude.{◌≡◌, ◌<◌, ◌⊎◌, ◌↔◌, ℕ, List, map}
+use Rattle.std.specs.Prelude.{◌≡◌, ◌<◌, ◌⊎◌, ◌↔◌, ℕ, List, length, map}
 use Rattle.jim_ast.specs.Lists.{Has}
 use Rattle.link_rules.specs.Linked.{LinkedProgram}
 use Rattle.link_sites.specs.declared.place.Place.{Place}
@@ -40,6 +40,10 @@ Enters p statements c = (method : ℕ) × IsInside p c method × Has (map (λ x.
 pub record IsInnerOf (p : LinkedProgram) (statements : List Statement) (does : Rel) (x : Inner) : Type 0 where
   pub does_is : x.does ≡ does
   pub enters : (c : Place) → HasTargetAmong p x.loud.keys c ↔ Enters p statements c
+
+-- the statements are in methods of the program
+abbrev pub AreInMethods : LinkedProgram → List Statement → Type 0
+AreInMethods p statements = (s : Statement) → Has statements s → s.method < length p.methods
 
 -- an event may come at these statements too, and does this
 pub record AreRisen (p : LinkedProgram) (statements : List Statement) (does : Rel) (old new : SiteEvents) : Type 0 where

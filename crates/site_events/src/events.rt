@@ -2,24 +2,26 @@
 ghost use Rattle.std.specs.Prelude.{◌≡◌, ◌<◌, ◌↔◌, ℕ, IfOk, Some, eqb, length, map, slice_get};
 ghost use Rattle.jim_ast.specs.Lists.{Has};
 ghost use Rattle.lists.specs.Groups.{found_at};
-ghost use Rattle.link_rules.specs.Linked.{LinkedProgram};
 ghost use Rattle.track_events.specs.Statements.{AreEventStatements};
 ghost use Rattle.site_events.specs.declared.statement.Statement.{Statement as AStatement};
 ghost use Rattle.site_events.specs.Events.{AreAtPlaces, AreEventsIn, AreRelations, use_of};
 
 use super::statement::{Statement, statement_at};
 use jim_ast::NoMemory;
+use link_program::Linked;
 use lists::{Groups, Keyed};
 use protocol_words::Protocol;
 use std::alloc::{AllocError, Global};
-use track_events::{EventStatement, event_relation};
+use track_events::{EventStatement, all_callers, event_relation};
 use weight_laws::Rel;
 
-/// The events of a protocol, by their numbers: what each does, and all statements that are events, each with the number of its event, in order.
+/// The events of a protocol, by their numbers: what each does, and all statements that are events, each with the number of its event, in order. And the
+/// methods that call each method of the program.
 #[derive(Drop)]
 pub struct Events {
     relations: Vec<Rel>,
     uses: Vec<Keyed<u32, Statement>>,
+    callers: Groups<u32, u32>,
 }
 
 // What each event does.
@@ -58,18 +60,25 @@ fn use_at(uses: &[Keyed<u32, Statement>], place: u32) -> Option<Keyed<u32, State
     uses.get(place as usize).copied()
 }
 
-/// The events of a protocol with the event statements of a program.
+/// The events of a protocol with the event statements of a program. The time is linear in these, in the events, and in the calls of the program and their
+/// targets.
 pub fn events_of(
     alloc: Global,
+    linked: &Linked,
     protocol: &Protocol,
     statements: &[EventStatement],
 ) -> Result<Events, NoMemory>
-    ensures { IfOk result (λ e. (p : LinkedProgram) → AreEventStatements p protocol.now statements.now → AreEventsIn p protocol.now statements.now e) }
+    ensures { IfOk result (λ e. AreEventStatements linked.now protocol.now statements.now → AreEventsIn linked.now protocol.now statements.now e) }
 {
     protocol.tell_form();
     let relations = relations_of(alloc, protocol)?;
     let uses = uses_of(alloc, statements)?;
-    Ok(Events { relations, uses })
+    let callers = all_callers(alloc, linked)?;
+    Ok(Events {
+        relations,
+        uses,
+        callers,
+    })
 }
 
 impl Events {
@@ -89,6 +98,13 @@ impl Events {
         ensures { slice_get self.now.relations.items event ≡ Some result }
     {
         self.relations[event as usize]
+    }
+
+    /// The methods that call each method, each once.
+    pub(crate) fn callers(&self) -> &Groups<u32, u32>
+        ensures { result.now ≡ self.now.callers }
+    {
+        &self.callers
     }
 
     // The statements at these places of the list.

@@ -1,10 +1,10 @@
 //! The events on the objects of one site.
-ghost use Rattle.std.specs.Prelude.{◌≡◌, ◌<◌, List, [], IfNone, IfOk, IfSome, OnOk, length, map};
-ghost use Rattle.jim_ast.specs.Lists.{Has};
+ghost use Rattle.std.specs.Prelude.{◌≡◌, List, [], IfNone, IfOk, IfSome, OnOk, map};
 ghost use Rattle.link_rules.specs.Linked.{LinkedProgram};
 ghost use Rattle.link_sites.specs.declared.site.Site.{Site};
 ghost use Rattle.spds_rules.specs.Demand.{Asked};
 ghost use Rattle.track_events.specs.declared.statement.EventStatement.{EventStatement as AnEvent};
+ghost use Rattle.track_events.specs.Callers.{AreCallers};
 ghost use Rattle.track_events.specs.Leading.{Leads};
 ghost use Rattle.track_rules.specs.Protocols.{ProtocolParts};
 ghost use Rattle.track_systems.specs.Events.{Goes};
@@ -13,7 +13,7 @@ ghost use Rattle.track_systems.specs.Weights.{Anywhere, May, Sends, Within};
 ghost use Rattle.weight_laws.specs.Rel.{Relates, rel_domain};
 ghost use Rattle.site_events.specs.declared.statement.Statement.{Statement as AStatement};
 ghost use Rattle.site_events.specs.Events.{AreEventsIn, AreHeldAmong};
-ghost use Rattle.site_events.specs.Sites.{AreEventsOf, AreRisen};
+ghost use Rattle.site_events.specs.Sites.{AreEventsOf, AreInMethods, AreRisen};
 ghost use Rattle.site_events.specs.Tables.{HasOne};
 
 use super::events::Events;
@@ -24,6 +24,7 @@ use super::statement::{Statement, statement_at};
 use jim_ast::NoMemory;
 use link_program::Linked;
 use link_sites::Place;
+use lists::Groups;
 use std::alloc::Global;
 use track_events::{closure, loud_methods};
 use weight_laws::{Rel, Weight};
@@ -98,19 +99,18 @@ impl SiteEvents {
     fn add(
         &mut self,
         alloc: Global,
-        linked: &Linked,
+        callers: &Groups<u32, u32>,
         statements: &[Statement],
         does: Rel,
     ) -> Result<(), NoMemory>
-        requires { (s : AStatement) → Has statements.now s → s.method < length linked.now.methods }
-        ensures { OnOk result (AreRisen linked.now statements.now does self.old self.new) }
+        ensures { OnOk result ((p : LinkedProgram) → AreCallers p callers.now → AreInMethods p statements.now → AreRisen p statements.now does self.old self.new) }
     {
         if statements.is_empty() {
             return Ok(());
         }
         self.own.raise_all(statements, does)?;
         let methods = methods_of(alloc, statements)?;
-        let loud = loud_methods(alloc, linked, &methods)?;
+        let loud = loud_methods(alloc, callers, &methods)?;
         self.inner.push(Inner { does, loud })?;
         self.anywhere = self.anywhere.combine(does);
         Ok(())
@@ -127,22 +127,21 @@ impl SiteEvents {
 }
 
 /// The events on the objects of a site, of which those statements may be events on them that stand at these places of the list of event statements. The time is
-/// linear in these, in the events of the protocol, and for each event that may come in the methods from which a run may come to it, and their callers.
-pub fn site_events(
-    alloc: Global,
-    linked: &Linked,
-    events: &Events,
-    places: &[u32],
-) -> Result<SiteEvents, NoMemory>
-    requires { (k : ProtocolParts) × (q : Asked) × (a : Site) × (statements : List AnEvent) × AreEventsIn linked.now k statements events.now
-        × AreHeldAmong linked.now q a statements places.now }
-    ensures { IfOk result (λ e. (k : ProtocolParts) (q : Asked) (a : Site) (statements : List AnEvent) → AreEventsIn linked.now k statements events.now
-        → AreHeldAmong linked.now q a statements places.now → AreEventsOf linked.now k q a e) }
+/// linear in these, in the events of the protocol, and for each event that may come in the methods from which a run may come to it, and in the methods that call
+/// each of these, however many calls they have.
+pub fn site_events(alloc: Global, events: &Events, places: &[u32]) -> Result<SiteEvents, NoMemory>
+    ensures { IfOk result (λ e. (p : LinkedProgram) (k : ProtocolParts) (q : Asked) (a : Site) (statements : List AnEvent) → AreEventsIn p k statements events.now
+        → AreHeldAmong p q a statements places.now → AreEventsOf p k q a e) }
 {
     let statements = events.by_event(alloc, places)?;
     let mut found = SiteEvents::none(alloc);
     for event in 0..events.count()? {
-        found.add(alloc, linked, statements.at(event), events.relation(event))?;
+        found.add(
+            alloc,
+            events.callers(),
+            statements.at(event),
+            events.relation(event),
+        )?;
     }
     found.close();
     Ok(found)

@@ -4,4 +4,5 @@ pub mod Acting
 pub mod Asking
 pub mod Closing
 pub mod Entering
+pub mod Calling
 pub mod Searching

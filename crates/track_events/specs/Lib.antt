@@ -1,3 +1,4 @@
 pub mod Statements
 pub mod Leading
+pub mod Callers
 pub mod Loud

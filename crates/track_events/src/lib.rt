@@ -2,6 +2,7 @@
 #![tactic(auto)]
 
 mod call;
+mod callers;
 mod laws;
 mod loud;
 mod query;
@@ -10,6 +11,7 @@ mod star;
 mod statement;
 mod statements;
 
+pub use callers::all_callers;
 pub use laws::loud_calls_enter;
 pub use loud::loud_methods;
 pub use query::receivers;

@@ -1,48 +1,48 @@
 //! The methods from which a run may come to some methods.
-ghost use Rattle.std.specs.Prelude.{◌≡◌, ◌<◌, ◌↔◌, ◌⊎◌, [], ℕ, IfOk, OnOk, Some, length, slice_get};
-ghost use Rattle.jim_ast.specs.Lists.{Has};
-ghost use Rattle.link_rules.specs.WellLinked.{HasTarget};
+ghost use Rattle.std.specs.Prelude.{◌≡◌, ◌<◌, ◌^◌, ◌↔◌, ◌⊎◌, ℕ, IfOk, OnOk, Some, length, slice_get};
+ghost use Rattle.jim_ast.specs.Lists.{Has, IsApart};
+ghost use Rattle.link_rules.specs.Linked.{LinkedProgram};
 ghost use Rattle.spds_rules.specs.Demand.{AreAll};
+ghost use Rattle.track_events.specs.Callers.{AreCallers, AreMethods};
 ghost use Rattle.track_events.specs.Loud.{IsLoud};
 
 use jim_ast::NoMemory;
-use link_program::Linked;
-use lists::Numbered;
+use lists::{Groups, Numbered};
 use std::alloc::Global;
 
-// Puts in the methods that are told.
-fn add_told(told: &[u32], found: &mut Numbered<u32>) -> Result<(), NoMemory>
-    requires { found.old.keys ≡ [] }
-    ensures { OnOk result ((m : ℕ) → Has found.new.keys m ↔ Has told.now m) }
+// Puts in these methods.
+fn add_all(methods: &[u32], found: &mut Numbered<u32>) -> Result<(), NoMemory>
+    ensures stay { OnOk result ((i m : ℕ) → slice_get found.old.keys i ≡ Some m → slice_get found.new.keys i ≡ Some m) }
+    ensures each { OnOk result ((m : ℕ) → Has found.new.keys m ↔ (Has found.old.keys m ⊎ Has methods.now m)) }
 {
-    for method in told {
+    for method in methods {
         found.add(*method)?;
     }
     Ok(())
 }
 
-// Puts in the callers of a method.
-fn add_callers(linked: &Linked, target: u32, found: &mut Numbered<u32>) -> Result<(), NoMemory>
-    ensures stay { OnOk result ((i m : ℕ) → slice_get found.old.keys i ≡ Some m → slice_get found.new.keys i ≡ Some m) }
-    ensures callers { OnOk result ((m : ℕ) → Has found.new.keys m ↔ (Has found.old.keys m ⊎ ((index : ℕ) × HasTarget linked.now m index target))) }
+// The method that was put in as the one with the number, from 0.
+fn method_at(found: &Numbered<u32>, number: usize) -> Option<u32>
+    ensures value { result ≡ slice_get found.now.keys number }
+    ensures few { length found.now.keys < 2 ^ 63 }
+    ensures apart { IsApart found.now.keys }
 {
-    for caller in linked.callers(target) {
-        found.add(caller.method)?;
-    }
-    Ok(())
+    found.keys().get(number).copied()
 }
 
 /// The loud methods, each once: those that are told, and those that call a loud one. The callers of each are looked at once.
-pub fn loud_methods(alloc: Global, linked: &Linked, told: &[u32]) -> Result<Numbered<u32>, NoMemory>
-    requires { (m : ℕ) → Has told.now m → m < length linked.now.methods }
-    ensures { IfOk result (λ loud. AreAll (IsLoud linked.now told.now) loud.keys) }
+pub fn loud_methods(
+    alloc: Global,
+    callers: &Groups<u32, u32>,
+    told: &[u32],
+) -> Result<Numbered<u32>, NoMemory>
+    ensures { IfOk result (λ loud. (p : LinkedProgram) → AreCallers p callers.now → AreMethods p told.now → AreAll (IsLoud p told.now) loud.keys) }
 {
     let mut found = Numbered::new(alloc);
-    add_told(told, &mut found)?;
+    add_all(told, &mut found)?;
     let mut at = 0;
-    while at < found.keys().len() {
-        let target = found.keys()[at];
-        add_callers(linked, target, &mut found)?;
+    while let Some(target) = method_at(&found, at) {
+        add_all(callers.at(target), &mut found)?;
         at += 1;
     }
     Ok(found)

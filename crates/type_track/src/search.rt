@@ -116,7 +116,7 @@ fn add_tracked(
         → GrowsBy (IsKeptBefore search.now.given.linked.now) (IsFindingOf search.now.given.linked.now search.now.protocol.now q a) findings.old.items findings.new.items) }
 {
     let given = &search.given;
-    let events = site_events(alloc, given.linked, search.events, search.held.at(number))?;
+    let events = site_events(alloc, search.events, search.held.at(number))?;
     let states = SiteStates::of(alloc, given, &events, number)?;
     add_all_at(alloc, search, &states, number, findings)
 }

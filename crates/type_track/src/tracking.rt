@@ -41,7 +41,7 @@ fn findings_in<R: Threads + Sync, G: Gate>(
     requires solved { IsSolved given.now.linked.now (asked_for statements.now) given.now.demand.now solved.now }
     ensures { IfOk result (λ findings. AreFindings given.now.linked.now protocol.now (asked_for statements.now) (map found_of findings.items)) }
 {
-    let events = events_of(hands.alloc, protocol, statements)?;
+    let events = events_of(hands.alloc, given.linked, protocol, statements)?;
     let receivers = receivers_in(hands.alloc, statements, given.demand)?;
     let nodes = nodes_of(hands.alloc, &receivers)?;
     let held = held_in(hands.alloc, solved, &nodes)?;

@@ -1,4 +1,5 @@
 use Rattle.std.proofs.Common.{List}
+use Rattle.link_rules.specs.Linked.{LinkedProgram}
 use Rattle.link_sites.specs.declared.site.Site.{Site}
 use Rattle.spds_rules.specs.Demand.{Asked}
 use Rattle.track_events.specs.declared.statement.EventStatement.{EventStatement}
@@ -8,5 +9,5 @@ use Rattle.site_events.proofs.Built.{IsBuilt}
 use Rattle.site_events.proofs.site.site_events.Given as goal
 
 abbrev pub invariant-loop-event : goal.invariant-loop-event
-invariant-loop-event l = (k : ProtocolParts) (q : Asked) (a : Site) (statements : List EventStatement) → AreEventsIn l.linked k statements l.events
-    → AreHeldAmong l.linked q a statements l.places → IsBuilt l.linked k q a l.event l.found
+invariant-loop-event l = (p : LinkedProgram) (k : ProtocolParts) (q : Asked) (a : Site) (statements : List EventStatement) → AreEventsIn p k statements l.events
+    → AreHeldAmong p q a statements l.places → IsBuilt p k q a l.event l.found

@@ -1,29 +1,21 @@
-use Rattle.std.proofs.Common.{◌≡◌, ◌<◌, ◌≤◌, ℕ, List, Some, length, slice_get, slice_index_or, subst, arith}
-use Rattle.std.proofs.lemmas.Option.{slice_get-get_or}
-use Rattle.track_events.proofs.Searching.{searched_all, searched_few, searched_more, searched_none}
+use Rattle.std.proofs.Common.{◌≡◌, ◌↔◌, ◌⊎◌, ℕ, List, Some, None, eqb, slice_get, sym, subst, ◌∙◌}
+use Rattle.jim_ast.specs.Lists.{Has}
+use Rattle.track_events.proofs.Searching.{searched_all, searched_more, searched_none}
 use Rattle.track_events.proofs.loud.loud_methods.Goals as goal
 
-pub loop-at-init : goal.loop-at-init
-loop-at-init c = searched_none c.args.linked.now c.args.told.now c.add_told.new.found.keys c.in_ok-add_told.ensures
+pub loop-target-init : goal.loop-target-init
+loop-target-init c = λ p calling methods.
+    searched_none p c.args.callers.now c.args.told.now calling methods c.new-found.result.keys c.add_all.new.found.keys c.new-found.ensures c.in_ok-add_all.ensures.each
 
-pub loop-at-smaller : goal.loop-at-smaller
-loop-at-smaller c =
-    let p = c.args.linked.now in
-    let few = searched_few p c.args.told.now c.loop-at.at c.loop-at.found.keys c.requires c.loop-at.invariant c.keys.ensures.apart in
-    let low : c.loop-at.at < length c.loop-at.found.keys = rw c.keys.ensures.value at c.loop-at-test.true in
-    omega (arith, few, low)
-
-pub loop-at-preserved : goal.loop-at-preserved
-loop-at-preserved c =
-    let keys = c.keys-in-loop-at.result.now in
-    let at = c.loop-at.at in
-    let value = c.keys-in-loop-at.ensures.value in
-    let low : at < length c.loop-at.found.keys = rw c.keys.ensures.value at c.loop-at-test.true in
-    let there = subst (λ (xs : List ℕ). slice_get xs at ≡ Some (slice_index_or keys at 0)) value (slice_get-get_or keys at 0 (rw value low)) in
-    searched_more c.args.linked.now c.args.told.now at c.loop-at.found.keys c.add_callers.new.found.keys _ c.loop-at.invariant there
-    c.in_ok-add_callers.ensures.stay c.in_ok-add_callers.ensures.callers
+pub loop-target-preserved : goal.loop-target-preserved
+loop-target-preserved c = λ p calling methods.
+    let target = c.in-Some.target in
+    let there : slice_get c.loop-target.found.keys c.loop-target.at ≡ Some target = sym c.in-Some.ensures.value in
+    let put = subst (λ (xs : List ℕ). (m : ℕ) → Has c.add_all-in-Some.new.found.keys m ↔ (Has c.loop-target.found.keys m ⊎ Has xs m)) c.at.ensures c.in_ok-add_all-2.ensures.each in
+    searched_more p c.args.callers.now c.args.told.now calling methods c.loop-target.at c.loop-target.found.keys c.add_all-in-Some.new.found.keys target
+    (c.loop-target.invariant p calling methods) there c.in_ok-add_all-2.ensures.stay put
 
 pub returns : goal.returns
-returns c =
-    let past : length c.loop-at.found.keys ≤ c.loop-at.at = rw c.keys.ensures.value at c.loop-at-test.false in
-    searched_all c.args.linked.now c.args.told.now c.loop-at.at c.loop-at.found.keys c.loop-at.invariant past c.keys.ensures.apart
+returns c = λ p calling methods.
+    let none : slice_get c.loop-target.found.keys c.loop-target.at ≡ None = sym c.method_at.ensures.value ∙ c.in_default.is in
+    searched_all p c.args.callers.now c.args.told.now calling methods c.loop-target.at c.loop-target.found.keys (c.loop-target.invariant p calling methods) none c.method_at.ensures.apart

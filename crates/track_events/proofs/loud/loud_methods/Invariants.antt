@@ -1,9 +1,12 @@
-use Rattle.std.proofs.Common.{◌-◌, length}
+use Rattle.std.proofs.Common.{◌-◌, ◌^◌}
+use Rattle.link_rules.specs.Linked.{LinkedProgram}
+use Rattle.track_events.specs.Callers.{AreCallers, AreMethods}
 use Rattle.track_events.proofs.Searching.{IsSearched}
 use Rattle.track_events.proofs.loud.loud_methods.Given as goal
 
-abbrev pub invariant-loop-at : goal.invariant-loop-at
-invariant-loop-at l = IsSearched l.linked l.told l.at l.found.keys
+abbrev pub invariant-loop-target : goal.invariant-loop-target
+invariant-loop-target l = (p : LinkedProgram) (calling : AreCallers p l.callers) (methods : AreMethods p l.told)
+    → IsSearched p l.callers l.told calling methods l.at l.found.keys
 
-abbrev pub decreases-loop-at : goal.decreases-loop-at
-decreases-loop-at l = length l.linked.methods - l.at
+abbrev pub decreases-loop-target : goal.decreases-loop-target
+decreases-loop-target l = 2 ^ 63 - l.at

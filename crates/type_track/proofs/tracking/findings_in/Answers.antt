@@ -34,7 +34,7 @@ find_all-requires-clause-posed g c κs within =
       record {
         given = c.requires.given;
         statements = statements;
-        events = c.in_ok-events.ensures g.linked.now c.requires.statements;
+        events = c.in_ok-events.ensures c.requires.statements;
         are_events = c.requires.statements;
         receivers = subst (AreReceivers g.demand.now.nodes statements) (sym c.deref-3.ensures.value) c.in_ok-receivers.ensures;
         held = held;
@@ -51,7 +51,7 @@ returns g c =
     if_ok c.find_all.result _ _ c.find_all.ensures (λ findings are. are (asked_for statements) (record {
       given = c.requires.given;
       statements = statements;
-      events = c.in_ok-events.ensures g.linked.now c.requires.statements;
+      events = c.in_ok-events.ensures c.requires.statements;
       are_events = c.requires.statements;
       receivers = subst (AreReceivers g.demand.now.nodes statements) (sym c.deref-3.ensures.value) c.in_ok-receivers.ensures;
       held = held;

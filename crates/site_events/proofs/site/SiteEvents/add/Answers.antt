@@ -5,6 +5,7 @@ use Rattle.link_indexes.proofs.Grown.{Has-push}
 use Rattle.link_program.proofs.Found.{from_map}
 use Rattle.link_rules.specs.Linked.{LinkedProgram}
 use Rattle.spds_rules.specs.Demand.{AreAll}
+use Rattle.track_events.specs.Callers.{AreMethods}
 use Rattle.track_events.specs.Loud.{IsLoud}
 use Rattle.track_events.proofs.Entering.{loud_calls_enter}
 use Rattle.track_systems.proofs.Meaning.{meaning}
@@ -12,7 +13,7 @@ use Rattle.weight_laws.specs.declared.rel.Rel.{Rel}
 use Rattle.weight_laws.specs.Rel.{Relates}
 use Rattle.site_events.specs.declared.statement.Statement.{Statement}
 use Rattle.site_events.specs.declared.inner.Inner.{Inner}
-use Rattle.site_events.specs.Sites.{IsInnerOf}
+use Rattle.site_events.specs.Sites.{AreInMethods, IsInnerOf}
 use Rattle.site_events.proofs.site.SiteEvents.add.Goals as goal
 
 -- a list that isn't empty has a statement
@@ -20,11 +21,12 @@ has_some : (statements : List Statement) → false ≡ (length statements == 0) 
 has_some [] other = cc (other)
 has_some (s ∷ rest) other = (s, (0, refl))
 
-pub loud_methods-requires : goal.loud_methods-requires
-loud_methods-requires c = λ m has.
-    let listed = subst (λ (xs : List ℕ). Has xs m) (c.deref.ensures.value ∙ c.in_ok-methods.ensures) has in
-    let x = from_map (λ (s : Statement). s.method) c.args.statements.now listed.0 m listed.1 in
-    subst (λ (n : ℕ). n < length c.args.linked.now.methods) x.2 (c.requires x.0 (listed.0, x.1))
+-- the methods of statements in methods of the program are such
+methods_in : (p : LinkedProgram) (statements : List Statement) (told : List ℕ) → told ≡ map (λ (s : Statement). s.method) statements → AreInMethods p statements → AreMethods p told
+methods_in p statements told is among m has =
+    let listed = subst (λ (xs : List ℕ). Has xs m) is has in
+    let x = from_map (λ (s : Statement). s.method) statements listed.0 m listed.1 in
+    subst (λ (n : ℕ). n < length p.methods) x.2 (among x.0 (listed.0, x.1))
 
 -- the methods from which a run may come to one of the statements are entered exactly where it may
 inner_is : (p : LinkedProgram) (statements : List Statement) (told loud : List ℕ) (does : Rel) (x : Inner) → told ≡ map (λ (s : Statement). s.method) statements → x.does ≡ does
@@ -44,13 +46,12 @@ inner_is p statements told loud does x is same keys are = record {
 }
 
 pub returns : goal.returns
-returns c =
-    let p = c.args.linked.now in
+returns c = λ p calling among.
     let statements = c.args.statements.now in
     let told = c.deref.result.now in
     let is = c.deref.ensures.value ∙ c.in_ok-methods.ensures in
     let x : Inner = record { does = c.args.does; loud = c.in_ok-loud.loud } in
-    let inner = inner_is p statements told x.loud.keys c.args.does x is refl refl c.in_ok-loud.ensures in
+    let inner = inner_is p statements told x.loud.keys c.args.does x is refl refl (c.in_ok-loud.ensures p calling (methods_in p statements told is among)) in
     let old = c.args.self.now.inner.items in
     let pushed : c.push.new.self.items ≡ old ++ x ∷ [] = c.in_ok-push.ensures.items in
     let both : (y : Inner) → Has c.push.new.self.items y ↔ (Has old y ⊎ (y ≡ x)) = λ y. subst (λ (xs : List Inner). Has xs y ↔ (Has old y ⊎ (y ≡ x))) (sym pushed) (Has-push old x y) in
