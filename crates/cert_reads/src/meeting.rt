@@ -9,7 +9,7 @@ ghost use Rattle.cert_rules.specs.Given.{Cites, Reads, about};
 ghost use Rattle.cert_lines.specs.Noted.{IsThere};
 ghost use Rattle.spds_rules.specs.Systems.{IsString};
 ghost use Rattle.cert_work.specs.Roads.{AreAddedIn};
-ghost use Rattle.cert_work.specs.Work.{IsWorkOf};
+ghost use Rattle.cert_work.specs.Work.{IsWorkOf, TellsAt};
 ghost use Rattle.cert_reads.specs.Closed.{IsRead};
 ghost use Rattle.cert_reads.specs.Meeting.{IsJustified};
 ghost use Rattle.cert_reads.specs.Readings.{AreAllFiled};
@@ -52,6 +52,7 @@ fn must_read(
     string: &[Place],
 ) -> Result<Vec<u32>, NoMemory>
     requires filed { AreAllFiled work.now }
+    requires tells { TellsAt work.now spot.node }
     requires string { IsString view.now.linked.now spot.node.place.method string.now }
     requires read { IsRead view.now.linked.now work.now.written spot.site spot.node string.now }
     ensures { IfOk result (λ numbers. Reads view.now.linked.now work.now.written.given spot.site numbers.items spot.node string.now) }

@@ -4,7 +4,7 @@ ghost use Rattle.lists.specs.Lists.{Has};
 ghost use Rattle.link_rules.specs.Linked.{LinkedProgram};
 ghost use Rattle.spds_rules.specs.Systems.{IsString};
 ghost use Rattle.cert_rules.specs.Given.{Reads};
-ghost use Rattle.cert_work.specs.Work.{IsAt, IsBelow};
+ghost use Rattle.cert_work.specs.Work.{IsAt, IsBelow, TellsAt};
 ghost use Rattle.cert_reads.specs.declared.reading.Reading.{Reading as AReading};
 ghost use Rattle.cert_reads.specs.Closed.{IsRead};
 ghost use Rattle.cert_reads.specs.Readings.{AreAllFiled, Begins, IsLinkTo, entry_spread};
@@ -160,7 +160,8 @@ fn push_start(
 
 // A beginning with each line that put the object there.
 fn starts_at(alloc: Global, work: &Work, spot: Spot) -> Result<Vec<Step<Reading>>, NoMemory>
-    requires { AreAllFiled work.now }
+    requires filed { AreAllFiled work.now }
+    requires tells { TellsAt work.now spot.node }
     ensures { IfOk result (λ starts. (label : ℕ) (to : AReading) → Has starts.items (record { label = label; to = to })
         ↔ Begins work.now.written spot.site spot.node label to) }
 {
@@ -172,14 +173,15 @@ fn starts_at(alloc: Global, work: &Work, spot: Spot) -> Result<Vec<Step<Reading>
     Ok(starts)
 }
 
-/// The numbers, from 1, of lines by which the call string is read for an object at a node, or that there are none.
+/// The numbers, from 1, of lines by which the call string is read for an object at an end, or that there are none.
 pub fn read_string(
     alloc: Global,
     work: &Work,
     spot: Spot,
     string: &[Place],
 ) -> Result<Option<Vec<u32>>, NoMemory>
-    requires { AreAllFiled work.now }
+    requires filed { AreAllFiled work.now }
+    requires tells { TellsAt work.now spot.node }
     ensures some { (p : LinkedProgram) → IsString p spot.node.place.method string.now
         → IfOk result (λ found. IfSome found (λ numbers. Reads p work.now.written.given spot.site numbers.items spot.node string.now)) }
     ensures none { (p : LinkedProgram) → IfOk result (λ found. IfNone found (IsRead p work.now.written spot.site spot.node string.now → ⊥)) }

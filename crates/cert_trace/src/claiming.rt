@@ -7,6 +7,7 @@ ghost use Rattle.cert_rules.specs.declared.fact.Fact.TheVariants.{At};
 ghost use Rattle.cert_rules.specs.declared.line.Side.TheVariants.{Call as OfCalls};
 ghost use Rattle.cert_rules.specs.Given.{Cites, about};
 ghost use Rattle.cert_rules.specs.Lengths.{CanClaim};
+ghost use Rattle.cert_work.specs.Work.{TellsAt};
 ghost use Rattle.cert_reads.specs.Readings.{AreAllFiled};
 ghost use Rattle.cert_trace.specs.Traces.{IsTraceOf};
 
@@ -30,6 +31,7 @@ fn is_of_calls(side: Side) -> bool
 // The number, from 1, of a line of the system of calls that put an object there.
 fn call_line(work: &Work, spot: Spot) -> u32
     requires filed { AreAllFiled work.now }
+    requires tells { TellsAt work.now spot.node }
     requires there { (i : ℕ) × (e : AnEntry) × Cites work.now.written.given i (At OfCalls spot.site e spot.node) }
     ensures { (e : AnEntry) × Cites work.now.written.given result (At OfCalls spot.site e spot.node) }
 {

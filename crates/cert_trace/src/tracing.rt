@@ -15,7 +15,7 @@ ghost use Rattle.cert_lines.specs.Noted.{IsThere};
 ghost use Rattle.cert_make.specs.Lengths.{as_told};
 ghost use Rattle.cert_work.specs.Roads.{AreAddedIn, IsView, StartOf};
 ghost use Rattle.cert_work.specs.Wants.{AreWants, IsWanted};
-ghost use Rattle.cert_work.specs.Work.{IsWorkOf};
+ghost use Rattle.cert_work.specs.Work.{AreEndsFiled, IsWorkOf};
 ghost use Rattle.cert_reads.specs.Closed.{AreClosed};
 ghost use Rattle.cert_reads.specs.Meeting.{IsJustified};
 ghost use Rattle.cert_reads.specs.Readings.{AreAllFiled};
@@ -135,6 +135,7 @@ pub fn trace_of(
     ensures fits { IfOk result (λ k. All FitsLine k.written.lines) }
     ensures closed { IfOk result (λ k. AreClosed view.now.linked.now view.now.target k.written (Meets view.now.linked.now (about view.now.target))) }
     ensures filed { IfOk result (λ k. AreAllFiled k) }
+    ensures ends { IfOk result (λ k. AreEndsFiled view.now.linked.now view.now.target k) }
 {
     let mut work = begin(alloc, view, demand)?;
     follow_all(alloc, view, demand, &mut work, solved.meets())?;

@@ -46,6 +46,20 @@ module _ {K : Type 0} (H P Q : K → ℕ → Type 0) (done num : ℕ) (e : num �
     ]),
   )
 
+  -- it is, where a condition holds
+  pub filed_if : {E : Type 0} (New : K → ℕ → Type 0) (key : K) → ((k : K) (i : ℕ) → New k i ↔ (H k i ⊎ (E × (k ≡ key) × (i ≡ num)))) → (E → Q key num)
+      → ((k : K) → Q k num → E × (k ≡ key)) → (k : K) (i : ℕ) → New k i ↔ ((i ≤ num) × Q k i)
+  filed_if New key adds here one k i = (
+    (λ has. elim ((adds k i).0 has) [
+      | inl old ↦ (let is = (filed k i).0 old in (omega (arith, is.0), more k i is.0 is.1))
+      | inr last ↦ (omega (arith, last.2), subst (λ (n : ℕ). Q k n) (sym last.2) (subst (λ (x : K). Q x num) (sym last.1) (here last.0)))
+    ]),
+    (λ is. elim (le_next i done num e is.0) [
+      | inl low ↦ (adds k i).1 (inl ((filed k i).1 (low, less k i low is.1)))
+      | inr same ↦ (let it = one k (subst (Q k) same is.1) in (adds k i).1 (inr (it.0, it.1, same)))
+    ]),
+  )
+
 -- the kinds of facts
 abbrev tag : Fact → ℕ
 tag (At side o x n) = 0

@@ -3,5 +3,6 @@ pub mod Growing
 mod Giving
 pub mod Working
 mod Filing
+mod Stored
 pub mod Turns
 mod Filed

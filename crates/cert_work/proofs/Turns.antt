@@ -24,12 +24,14 @@ use Rattle.cert_work.specs.declared.wants.Wants.{Wants}
 use Rattle.cert_work.specs.declared.work.Work.{Work}
 use Rattle.cert_work.specs.Added.{AreAdded}
 use Rattle.cert_work.specs.Held.{IsHeld}
+use Rattle.cert_work.specs.Roads.{IsEnd}
 use Rattle.cert_work.specs.Rules.{AreWorked, IsAlong, IsFollowed, IsPopped, IsPut}
 use Rattle.cert_work.specs.Wants.{IsWanted}
-use Rattle.cert_work.specs.Work.{HasWord, IsAt, IsBelow, IsStored, IsTaker, IsWork, spot_of, word_of}
-use Rattle.cert_work.proofs.Filing.{filed_next, filed_same, le_next, no_at, no_below, no_stored, no_taker, not_along, not_linked, not_met, not_popped, not_put, worked_more, worked_next}
+use Rattle.cert_work.specs.Work.{AreStored, HasWord, IsAt, IsAtEnd, IsBelow, IsStored, IsTaker, IsWork, spot_of, word_of}
+use Rattle.cert_work.proofs.Filing.{filed_if, filed_next, filed_same, le_next, no_at, no_below, no_stored, no_taker, not_along, not_linked, not_met, not_popped, not_put, worked_more, worked_next}
 use Rattle.cert_work.proofs.Growing.{many_more, second}
-use Rattle.cert_work.proofs.Working.{at_kept, at_less, below_kept, below_less, stored_kept, stored_less, taker_kept, taker_less}
+use Rattle.cert_work.proofs.Stored.{stored_end, stored_more, stored_none}
+use Rattle.cert_work.proofs.Working.{at_end_kept, at_end_less, at_less, below_kept, below_less, stored_kept, stored_less, taker_kept, taker_less}
 
 -- a file that one number was put into
 abbrev pub WordAdded : Grouped Word ℕ → Word → ℕ → Grouped Word ℕ → Type 0
@@ -40,10 +42,18 @@ abbrev pub SpotAdded : Grouped Spot ℕ → Spot → ℕ → Grouped Spot ℕ �
 SpotAdded old key num new =
     (k : Spot) (i : ℕ) → Has (found_at spot.eq-value.it new k) i ↔ (Has (found_at spot.eq-value.it old k) i ⊎ ((k ≡ key) × (i ≡ num)))
 
+-- that it was put into where a condition holds
+abbrev pub SpotAddedIf : Type 0 → Grouped Spot ℕ → Spot → ℕ → Grouped Spot ℕ → Type 0
+SpotAddedIf E old key num new =
+    (k : Spot) (i : ℕ) → Has (found_at spot.eq-value.it new k) i ↔ (Has (found_at spot.eq-value.it old k) i ⊎ (E × (k ≡ key) × (i ≡ num)))
+
 module _ (p : LinkedProgram) (t : Node) (wants : Wants) (old : Work) (is : IsWork p t wants old) (new : Noted) (added : AreAdded p t old.written new) (num : ℕ) (e : num ≡ old.done + 1)
     (low : num ≤ length new.given) where
   was : AreWorked p t wants new old.done
   was = worked_more p t wants added old.done is.within is.worked
+
+  stored_now : AreStored p t new
+  stored_now = stored_more p t added is.stored
 
   -- the lines up to the number from which a letter is taken off
   abbrev pub AreTakers : ℕ → Grouped Word ℕ → Type 0
@@ -58,9 +68,9 @@ module _ (p : LinkedProgram) (t : Node) (wants : Wants) (old : Work) (is : IsWor
   links_same = filed_same (λ (k : Word) (i : ℕ). Has (found_at word.eq-value.it old.links k) i) (IsBelow old.written) (IsBelow new) old.done num e is.filed.links
       (λ k i below. below_kept p t added k i) (λ k i below. below_less p t added k i (omega (arith, below, is.within)))
 
-  spots_same : ((k : Spot) → IsAt new k num → ⊥) → (k : Spot) (i : ℕ) → Has (found_at spot.eq-value.it old.spots k) i ↔ ((i ≤ num) × IsAt new k i)
-  spots_same = filed_same (λ (k : Spot) (i : ℕ). Has (found_at spot.eq-value.it old.spots k) i) (IsAt old.written) (IsAt new) old.done num e is.filed.spots
-      (λ k i below. at_kept p t added k i) (λ k i below. at_less p t added k i (omega (arith, below, is.within)))
+  ends_same : ((k : Spot) → IsAt new k num → ⊥) → (k : Spot) (i : ℕ) → Has (found_at spot.eq-value.it old.spots k) i ↔ ((i ≤ num) × IsAtEnd p t new k i)
+  ends_same none = filed_same (λ (k : Spot) (i : ℕ). Has (found_at spot.eq-value.it old.spots k) i) (IsAtEnd p t old.written) (IsAtEnd p t new) old.done num e is.ends
+      (λ k i below. at_end_kept p t added k i) (λ k i below. at_end_less p t added k i (omega (arith, below, is.within))) (λ k at. none k at.at)
 
   mets_same : ((k : Spot) → IsStored new k num → ⊥) → (k : Spot) (i : ℕ) → Has (found_at spot.eq-value.it old.mets k) i ↔ ((i ≤ num) × IsStored new k i)
   mets_same = filed_same (λ (k : Spot) (i : ℕ). Has (found_at spot.eq-value.it old.mets k) i) (IsStored old.written) (IsStored new) old.done num e is.filed.mets
@@ -135,20 +145,31 @@ module _ (p : LinkedProgram) (t : Node) (wants : Wants) (old : Work) (is : IsWor
     wanted_here : IsFollowed wants new num → IsWanted wants h.site h.node
     wanted_here followed = followed h.side h.site h.entry h.node here
 
-    pub turn_at : (takers : Grouped Word ℕ) (spots : Grouped Spot ℕ) → AreTakers num takers → SpotAdded old.spots place num spots
+    -- at an end the line is filed
+    ends_if : {E : Type 0} → (E ↔ IsEnd p t h.node) → (spots : Grouped Spot ℕ) → SpotAddedIf E old.spots place num spots → (k : Spot) (i : ℕ)
+        → Has (found_at spot.eq-value.it spots k) i ↔ ((i ≤ num) × IsAtEnd p t new k i)
+    ends_if end spots places = filed_if (λ (k : Spot) (i : ℕ). Has (found_at spot.eq-value.it old.spots k) i) (IsAtEnd p t old.written) (IsAtEnd p t new) old.done num e is.ends
+        (λ k i below. at_end_kept p t added k i) (λ k i below. at_end_less p t added k i (omega (arith, below, is.within)))
+        (λ k i. Has (found_at spot.eq-value.it spots k) i) place places
+        (λ yes. subst (λ (k : Spot). IsAtEnd p t new k num) (sym place_is) (record { end = end.0 yes; at = (h.side, h.entry, here) }))
+        (λ k at.
+        let one = spot_one k at.at in
+        let node : k.node ≡ h.node = ap (λ (y : Spot). y.node) (one ∙ place_is) in (end.1 (subst (λ (n : Node). IsEnd p t n) node at.end), one))
+
+    pub turn_at : {E : Type 0} → (E ↔ IsEnd p t h.node) → (takers : Grouped Word ℕ) (spots : Grouped Spot ℕ) → AreTakers num takers
+        → SpotAddedIf E old.spots place num spots
         → (IsWanted wants h.site h.node → (f : Edge) → EdgeIn p (about t) f.from f.kind f.to → IsAlong new num f)
         → (IsWanted wants h.site h.node → (i : ℕ) → Has (found_at word.eq-value.it old.links key) i → (f : Edge) → EdgeIn p (about t) f.from f.kind f.to → IsPopped new num i f)
         → (IsWanted wants h.site h.node → (i : ℕ) → Has (found_at spot.eq-value.it old.mets place) i → (base : Site) (n : Node) → StartIn p (about t) base n → IsPut new num i base n)
         → IsWork p t wants (record { written = new; done = num; takers = takers; links = old.links; spots = spots; mets = old.mets })
-    turn_at takers spots words places along popped put = record {
+    turn_at end takers spots words places along popped put = record {
       within = low;
       filed = record {
         links = links_same (no_below new num _ here (λ g. omega (arith, g)));
-        spots = filed_next (λ (k : Spot) (i : ℕ). Has (found_at spot.eq-value.it old.spots k) i) (IsAt old.written) (IsAt new) old.done num e is.filed.spots
-            (λ k i below. at_kept p t added k i) (λ k i below. at_less p t added k i (omega (arith, below, is.within)))
-            (λ k i. Has (found_at spot.eq-value.it spots k) i) place places (subst (λ (k : Spot). IsAt new k num) (sym place_is) (h.side, h.entry, here)) spot_one;
         mets = mets_same (no_stored new num _ here (λ g. omega (arith, g)));
       };
+      ends = ends_if end spots places;
+      stored = stored_now;
       takers = words;
       worked = worked_next p t wants new old.done num e was (record {
         along = λ followed. along (wanted_here followed);
@@ -185,9 +206,10 @@ module _ (p : LinkedProgram) (t : Node) (wants : Wants) (old : Work) (is : IsWor
       links = filed_next (λ (k : Word) (i : ℕ). Has (found_at word.eq-value.it old.links k) i) (IsBelow old.written) (IsBelow new) old.done num e is.filed.links
           (λ k i before. below_kept p t added k i) (λ k i before. below_less p t added k i (omega (arith, before, is.within)))
           (λ k i. Has (found_at word.eq-value.it links k) i) key words (below, here) word_one;
-      spots = spots_same (no_at new num _ here (λ g. omega (arith, g)));
       mets = mets_same (no_stored new num _ here (λ g. omega (arith, g)));
     };
+    ends = ends_same (no_at new num _ here (λ g. omega (arith, g)));
+    stored = stored_now;
     worked = worked_next p t wants new old.done num e was (record {
       along = λ followed f edge. not_along new num _ here (λ g. omega (arith, g)) f;
       popped = λ followed link f under edge. not_popped new num _ here (λ g. omega (arith, g)) link f;
@@ -219,11 +241,12 @@ module _ (p : LinkedProgram) (t : Node) (wants : Wants) (old : Work) (is : IsWor
     takers = takers_same (no_taker new num _ here p t wants (λ g. omega (arith, g)));
     filed = record {
       links = links_same (no_below new num _ here (λ g. omega (arith, g)));
-      spots = spots_same (no_at new num _ here (λ g. omega (arith, g)));
       mets = filed_next (λ (k : Spot) (i : ℕ). Has (found_at spot.eq-value.it old.mets k) i) (IsStored old.written) (IsStored new) old.done num e is.filed.mets
           (λ k i before. stored_kept p t added k i) (λ k i before. stored_less p t added k i (omega (arith, before, is.within)))
           (λ k i. Has (found_at spot.eq-value.it mets k) i) key places (base, store, arg, here) spot_one;
     };
+    ends = ends_same (no_at new num _ here (λ g. omega (arith, g)));
+    stored = stored_now;
     worked = worked_next p t wants new old.done num e was (record {
       along = λ followed f edge. not_along new num _ here (λ g. omega (arith, g)) f;
       popped = λ followed link f under edge. not_popped new num _ here (λ g. omega (arith, g)) link f;
@@ -232,7 +255,8 @@ module _ (p : LinkedProgram) (t : Node) (wants : Wants) (old : Work) (is : IsWor
       met = λ i b n before followed start side o x s at given.
           let one = spot_one (record { site = o; node = s.arg }) (b, s, refl, given) in
           let there = at_less p t added (record { site = o; node = s.arg }) i (omega (arith, before, is.within)) (side, x, at) in
-          let has = (is.filed.spots (record { site = o; node = s.arg }) i).1 (before, there) in
+          let end = stored_end p t new stored_now (record { site = o; node = s.arg }) num (b, s, refl, given) in
+          let has = (is.ends (record { site = o; node = s.arg }) i).1 (before, record { end = end; at = there }) in
           put i (subst (λ (k : Spot). Has (found_at spot.eq-value.it old.spots k) i) one has) b n start side o x s at given;
     });
   }
@@ -251,9 +275,10 @@ module _ (p : LinkedProgram) (t : Node) (wants : Wants) (old : Work) (is : IsWor
     takers = takers_same (no_taker new num _ here p t wants (λ g. omega (arith, g)));
     filed = record {
       links = links_same (no_below new num _ here (λ g. omega (arith, g)));
-      spots = spots_same (no_at new num _ here (λ g. omega (arith, g)));
       mets = mets_same (no_stored new num _ here (λ g. omega (arith, g)));
     };
+    ends = ends_same (no_at new num _ here (λ g. omega (arith, g)));
+    stored = stored_now;
     worked = worked_next p t wants new old.done num e was (record {
       along = λ followed f edge. not_along new num _ here (λ g. omega (arith, g)) f;
       popped = λ followed link f under edge. not_popped new num _ here (λ g. omega (arith, g)) link f;
@@ -282,17 +307,18 @@ none_worked p t wants w = record {
     nought zero f low cites = cites
     nought (suc i) f low cites = absurd (omega arith)
 
-pub work_none : (p : LinkedProgram) (t : Node) (wants : Wants) (w : Noted) (takers links : Grouped Word ℕ) (spots mets : Grouped Spot ℕ)
+pub work_none : (p : LinkedProgram) (t : Node) (wants : Wants) (w : Noted) (takers links : Grouped Word ℕ) (spots mets : Grouped Spot ℕ) → w.given ≡ []
     → ((k : Word) → found_at word.eq-value.it takers k ≡ []) → ((k : Word) → found_at word.eq-value.it links k ≡ [])
     → ((k : Spot) → found_at spot.eq-value.it spots k ≡ []) → ((k : Spot) → found_at spot.eq-value.it mets k ≡ [])
     → IsWork p t wants (record { written = w; done = 0; takers = takers; links = links; spots = spots; mets = mets })
-work_none p t wants w takers links spots mets a b c d = record {
+work_none p t wants w takers links spots mets none a b c d = record {
   within = omega arith;
   filed = record {
     links = filed_none word.eq-value.it (IsBelow w) (λ k is. is.1) links b;
-    spots = filed_none spot.eq-value.it (IsAt w) (λ k is. is.2) spots c;
     mets = filed_none spot.eq-value.it (IsStored w) (λ k is. is.3) mets d;
   };
+  ends = filed_none spot.eq-value.it (IsAtEnd p t w) (λ k is. is.at.2) spots c;
+  stored = stored_none p t w none;
   takers = filed_none word.eq-value.it (IsTaker p t wants w) (λ k is. is.put) takers a;
   worked = none_worked p t wants w;
 }
@@ -307,15 +333,16 @@ work_more p t wants k is new added = record {
       (λ has. let at = (is.filed.links x i).0 has in (at.0, below_kept p t added x i (second at))),
       (λ at. (is.filed.links x i).1 (at.0, below_less p t added x i (omega (arith, at.0, is.within)) (second at))),
     );
-    spots = λ x i. (
-      (λ has. let at = (is.filed.spots x i).0 has in (at.0, at_kept p t added x i (second at))),
-      (λ at. (is.filed.spots x i).1 (at.0, at_less p t added x i (omega (arith, at.0, is.within)) (second at))),
-    );
     mets = λ x i. (
       (λ has. let at = (is.filed.mets x i).0 has in (at.0, stored_kept p t added x i (second at))),
       (λ at. (is.filed.mets x i).1 (at.0, stored_less p t added x i (omega (arith, at.0, is.within)) (second at))),
     );
   };
+  ends = λ x i. (
+    (λ has. let at = (is.ends x i).0 has in (at.0, at_end_kept p t added x i at.1)),
+    (λ at. (is.ends x i).1 (at.0, at_end_less p t added x i (omega (arith, at.0, is.within)) at.1)),
+  );
+  stored = stored_more p t added is.stored;
   takers = λ x i. (
     (λ has. let at = (is.takers x i).0 has in (at.0, taker_kept p t added wants x i (second at))),
     (λ at. (is.takers x i).1 (at.0, taker_less p t added wants x i (omega (arith, at.0, is.within)) (second at))),

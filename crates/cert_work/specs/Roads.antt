@@ -1,5 +1,5 @@
 -- The edges and the start nodes of a demand by look-ups.
-use Rattle.std.specs.Prelude.{◌≡◌, ◌↔◌, List, Some}
+use Rattle.std.specs.Prelude.{◌≡◌, ◌↔◌, ◌⊎◌, List, Some}
 use Rattle.link_rules.specs.Linked.{LinkedProgram}
 use Rattle.link_sites.specs.declared.site.Site.{Site}
 use Rattle.lists.specs.Groups.{found_at}
@@ -7,7 +7,8 @@ use Rattle.lists.specs.Lists.{Has}
 use Rattle.spds_rules.specs.contracts.node.NodePartialEq.TheImpl as node
 use Rattle.spds_rules.specs.declared.edge.Edge.{Edge}
 use Rattle.spds_rules.specs.declared.node.Node.{Node}
-use Rattle.spds_rules.specs.Demand.{EdgeIn, StartIn}
+use Rattle.spds_rules.specs.declared.store.StoreAt.{StoreAt}
+use Rattle.spds_rules.specs.Demand.{EdgeIn, StartIn, StoreIn}
 use Rattle.cert_rules.specs.declared.fact.Fact.{Fact}
 use Rattle.cert_rules.specs.declared.line.Line.{Line}
 use Rattle.cert_rules.specs.Given.{Gives, about}
@@ -17,10 +18,19 @@ use Rattle.cert_work.specs.declared.roads.View.{View}
 use Rattle.cert_work.specs.Added.{AreAdded}
 use Rattle.cert_lines.specs.Noted.{Noted}
 
--- by its source exactly the demanded edges, and by its site exactly the demanded start nodes
+-- where the store takes an object from, or the object is into which it puts it
+abbrev pub IsEndOf : StoreAt → Node → Type 0
+IsEndOf s n = (n ≡ s.arg) ⊎ (n ≡ s.base)
+
+-- the target, or such a node of a demanded store: where it is asked which objects are there
+abbrev pub IsEnd : LinkedProgram → Node → Node → Type 0
+IsEnd p t n = (n ≡ t) ⊎ ((s : StoreAt) × StoreIn p (about t) s × IsEndOf s n)
+
+-- by its source exactly the demanded edges, by its site exactly the demanded start nodes, and exactly the ends
 pub record AreRoads (p : LinkedProgram) (t : Node) (r : Roads) : Type 0 where
   pub edges : (n : Node) (e : Edge) → Has (found_at node.eq-value.it r.edges n) e ↔ ((e.from ≡ n) × EdgeIn p (about t) e.from e.kind e.to)
   pub starts : (o : Site) (n : Node) → Has (found_at origin.eq-value.it r.starts (record { site = o })) n ↔ StartIn p (about t) o n
+  pub ends : (n : Node) → Has r.ends.keys n ↔ IsEnd p t n
 
 -- those of the view are of its program and its target
 abbrev pub IsView : View → Type 0
@@ -33,6 +43,9 @@ EdgeOf v e = EdgeIn v.linked.now (about v.target) e.from e.kind e.to
 -- all of them that lead from the node
 abbrev pub AreEdgesAt : View → Node → List Edge → Type 0
 AreEdgesAt v n edges = (e : Edge) → Has edges e ↔ ((e.from ≡ n) × EdgeOf v e)
+
+abbrev pub EndOf : View → Node → Type 0
+EndOf v n = IsEnd v.linked.now v.target n
 
 abbrev pub StartOf : View → Site → Node → Type 0
 StartOf v o n = StartIn v.linked.now (about v.target) o n

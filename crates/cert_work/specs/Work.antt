@@ -10,7 +10,7 @@ use Rattle.cert_rules.specs.declared.fact.Entry.{Entry}
 use Rattle.cert_rules.specs.declared.fact.Fact.TheVariants.{At, Link, Met}
 use Rattle.cert_rules.specs.declared.line.Side.{Side}
 use Rattle.spds_rules.specs.declared.edge.Edge.{Edge}
-use Rattle.spds_rules.specs.Demand.{EdgeIn}
+use Rattle.spds_rules.specs.Demand.{EdgeIn, StoreIn}
 use Rattle.cert_rules.specs.Given.{Cites, Takes, about}
 use Rattle.cert_lines.specs.contracts.keys.SpotPartialEq.TheImpl as spot
 use Rattle.cert_lines.specs.contracts.keys.WordPartialEq.TheImpl as word
@@ -21,6 +21,7 @@ use Rattle.cert_work.specs.declared.held.Held.{Held}
 use Rattle.cert_work.specs.declared.roads.View.{View}
 use Rattle.cert_work.specs.declared.wants.Wants.{Wants}
 use Rattle.cert_work.specs.declared.work.Work.{Work}
+use Rattle.cert_work.specs.Roads.{IsEnd}
 use Rattle.cert_work.specs.Rules.{AreWorked}
 use Rattle.cert_work.specs.Wants.{IsWanted}
 
@@ -44,6 +45,11 @@ IsBelow w k i = (below : Entry) × Cites w.given i (Link k.side k.site k.entry b
 abbrev pub IsAt : Noted → Spot → ℕ → Type 0
 IsAt w k i = (side : Side) × (x : Entry) × Cites w.given i (At side k.site x k.node)
 
+-- it put an object at an end
+pub record IsAtEnd (p : LinkedProgram) (t : Node) (w : Noted) (k : Spot) (i : ℕ) : Type 0 where
+  pub end : IsEnd p t k.node
+  pub at : IsAt w k i
+
 -- it gave that an object that is there may be stored
 abbrev pub IsStored : Noted → Spot → ℕ → Type 0
 IsStored w k i = (base : Site) × (s : StoreAt) × (s.arg ≡ k.node) × Cites w.given i (Met k.site base s)
@@ -59,13 +65,26 @@ pub record IsTaker (p : LinkedProgram) (t : Node) (wants : Wants) (w : Noted) (k
 -- the lines that were gone through, by what they are looked for by
 pub record AreFiled (w : Noted) (k : Work) : Type 0 where
   pub links : (x : Word) (i : ℕ) → Has (found_at word.eq-value.it k.links x) i ↔ ((i ≤ k.done) × IsBelow w x i)
-  pub spots : (x : Spot) (i : ℕ) → Has (found_at spot.eq-value.it k.spots x) i ↔ ((i ≤ k.done) × IsAt w x i)
   pub mets : (x : Spot) (i : ℕ) → Has (found_at spot.eq-value.it k.mets x) i ↔ ((i ≤ k.done) × IsStored w x i)
+
+-- the same of those that put objects at ends
+abbrev pub AreEndsFiled : LinkedProgram → Node → Work → Type 0
+AreEndsFiled p t k = (x : Spot) (i : ℕ) → Has (found_at spot.eq-value.it k.spots x) i ↔ ((i ≤ k.done) × IsAtEnd p t k.written x i)
+
+-- they tell which of them put objects at the node
+abbrev pub TellsAt : Work → Node → Type 0
+TellsAt k n = (p : LinkedProgram) × (t : Node) × AreEndsFiled p t k × IsEnd p t n
+
+-- objects are stored by demanded stores alone
+abbrev pub AreStored : LinkedProgram → Node → Noted → Type 0
+AreStored p t w = (i : ℕ) (o base : Site) (s : StoreAt) → Cites w.given i (Met o base s) → StoreIn p (about t) s
 
 -- of the lines that were gone through, what the rules give is there, as far as objects are followed
 pub record IsWork (p : LinkedProgram) (t : Node) (wants : Wants) (k : Work) : Type 0 where
   pub within : k.done ≤ length k.written.given
   pub filed : AreFiled k.written k
+  pub ends : AreEndsFiled p t k
+  pub stored : AreStored p t k.written
   pub takers : (x : Word) (i : ℕ) → Has (found_at word.eq-value.it k.takers x) i ↔ ((i ≤ k.done) × IsTaker p t wants k.written x i)
   pub worked : AreWorked p t wants k.written k.done
 

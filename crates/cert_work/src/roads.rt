@@ -4,6 +4,7 @@ ghost use Rattle.lists.specs.Lists.{Has};
 ghost use Rattle.link_sites.specs.declared.site.Site.{Site as AnySite};
 ghost use Rattle.spds_rules.specs.declared.edge.Edge.{Edge as AnyEdge};
 ghost use Rattle.spds_rules.specs.declared.node.Node.{Node as AnyNode};
+ghost use Rattle.spds_rules.specs.declared.store.StoreAt.{StoreAt as AnyStore};
 ghost use Rattle.spds_rules.specs.Demand.{EdgeIn, StartIn};
 ghost use Rattle.cert_rules.specs.Given.{about};
 ghost use Rattle.spds_rules.specs.Nodes.{IsStart};
@@ -12,7 +13,7 @@ ghost use Rattle.lists.specs.Groups.{found_at};
 ghost use Rattle.cert_lines.specs.contracts.keys.OriginPartialEq.TheImpl as of_origin;
 ghost use Rattle.cert_lines.specs.declared.keys.Origin.{Origin as AnyOrigin};
 ghost use Rattle.demand_set.specs.Demands.{IsDemandOf};
-ghost use Rattle.cert_work.specs.Roads.{AreEdgesAt, AreRoads, IsView, StartOf};
+ghost use Rattle.cert_work.specs.Roads.{AreEdgesAt, AreRoads, EndOf, IsEndOf, IsView, StartOf};
 ghost use Rattle.cert_work.specs.Wants.{IsWanted};
 
 use super::wants::Wants;
@@ -21,15 +22,18 @@ use demand_set::Demand;
 use jim_ast::NoMemory;
 use link_program::Linked;
 use link_sites::Site;
+use lists::Numbered;
 use spds_nodes::{is_node, site_of};
-use spds_rules::{Edge, Node};
+use spds_rules::{Edge, Node, StoreAt};
 use std::alloc::Global;
 
-/// The edges of a demand by their sources, and its start nodes by their sites.
+/// The edges of a demand by their sources, its start nodes by their sites, and its ends: the target, and the nodes at which stores take objects from and
+/// put them into.
 #[derive(Drop)]
 pub struct Roads {
     pub(crate) edges: Files<Node, Edge>,
     pub(crate) starts: Files<Origin, Node>,
+    pub(crate) ends: Numbered<Node>,
 }
 
 // The edges by their sources.
@@ -73,8 +77,29 @@ fn file_starts(
     Ok(files)
 }
 
+// The ends of a store more.
+fn add_ends(ends: &mut Numbered<Node>, store: StoreAt) -> Result<(), NoMemory>
+    ensures { OnOk result ((n : AnyNode) → Has ends.new.keys n ↔ (Has ends.old.keys n ⊎ IsEndOf store n)) }
+{
+    ends.add(store.arg)?;
+    ends.add(store.base)?;
+    Ok(())
+}
+
+// The target, and the ends of stores.
+fn ends_of(alloc: Global, target: Node, stores: &[StoreAt]) -> Result<Numbered<Node>, NoMemory>
+    ensures { IfOk result (λ ends. (n : AnyNode) → Has ends.keys n ↔ ((n ≡ target) ⊎ ((s : AnyStore) × Has stores.now s × IsEndOf s n))) }
+{
+    let mut ends = Numbered::new(alloc);
+    ends.add(target)?;
+    for store in stores {
+        add_ends(&mut ends, *store)?;
+    }
+    Ok(ends)
+}
+
 impl Roads {
-    /// The roads of what a node demands. Costs a look-up for each edge and each node.
+    /// The roads of what a node demands. Costs a look-up for each edge, each node and each store.
     pub fn of(
         alloc: Global,
         linked: &Linked,
@@ -87,7 +112,18 @@ impl Roads {
         Ok(Roads {
             edges: file_edges(alloc, demand.edges())?,
             starts: file_starts(alloc, linked, demand.nodes())?,
+            ends: ends_of(alloc, target, demand.stores())?,
         })
+    }
+}
+
+// Whether it is one of the nodes.
+fn is_among(nodes: &Numbered<Node>, node: Node) -> bool
+    ensures { IsTrue result ↔ Has nodes.now.keys node }
+{
+    match nodes.find(node) {
+        Some(_number) => true,
+        None => false,
     }
 }
 
@@ -115,6 +151,14 @@ impl<'a> View<'a> {
         ensures { (n : AnyNode) → Has result.now n ↔ StartIn self.now.linked.now (about self.now.target) site n }
     {
         self.roads.starts.at(Origin { site })
+    }
+
+    /// Whether the node is the target, or one at which a demanded store takes an object from or puts it into.
+    pub(crate) fn is_end(&self, node: Node) -> bool
+        requires { IsView self.now }
+        ensures { IsTrue result ↔ EndOf self.now node }
+    {
+        is_among(&self.roads.ends, node)
     }
 
     /// Whether objects of the one site are followed where those of the other start.

@@ -1,17 +1,20 @@
 //! Lines and how far they were gone through.
-ghost use Rattle.std.specs.Prelude.{◌≡◌, ◌↔◌, ◌+◌, ◌<◌, ◌≤◌, ℕ, [], length, OnOk};
+ghost use Rattle.std.specs.Prelude.{◌≡◌, ◌↔◌, ◌⊎◌, ◌+◌, ◌<◌, ◌≤◌, ℕ, [], length, IsTrue, OnOk};
+ghost use Rattle.lists.specs.Groups.{found_at};
 ghost use Rattle.lists.specs.Lists.{Has};
 ghost use Rattle.link_sites.specs.declared.site.Site.{Site as AnySite};
 ghost use Rattle.spds_rules.specs.declared.edge.Edge.{Edge as AnyEdge};
 ghost use Rattle.spds_rules.specs.declared.node.Node.{Node as AnyNode};
 ghost use Rattle.cert_rules.specs.declared.fact.Fact.TheVariants.{At, Link, Met};
+ghost use Rattle.cert_lines.specs.contracts.keys.SpotPartialEq.TheImpl as of_spot;
+ghost use Rattle.cert_lines.specs.declared.keys.Spot.{Spot as AnySpot};
 ghost use Rattle.cert_rules.specs.Given.{Cites, Takes};
 ghost use Rattle.cert_rules.specs.Lengths.{cited_length};
 ghost use Rattle.cert_work.specs.Held.{IsHeld};
-ghost use Rattle.cert_work.specs.Roads.{AreAddedIn, AreEdgesAt, EdgeOf, IsView, StartOf};
+ghost use Rattle.cert_work.specs.Roads.{AreAddedIn, AreEdgesAt, EdgeOf, EndOf, IsView, StartOf};
 ghost use Rattle.cert_work.specs.Rules.{IsAlong, IsPopped, IsPut};
 ghost use Rattle.cert_work.specs.Wants.{IsWanted};
-ghost use Rattle.cert_work.specs.Work.{AreFiled, IsAt, IsBelow, IsStored, IsWorkOf, spot_of, word_of};
+ghost use Rattle.cert_work.specs.Work.{AreFiled, IsAt, IsBelow, IsStored, IsWorkOf, TellsAt, spot_of, word_of};
 
 use super::along::along_all;
 use super::held::{Below, Held, Meeting, below_under, held_at};
@@ -24,7 +27,8 @@ use jim_ast::NoMemory;
 use spds_rules::Edge;
 use std::alloc::Global;
 
-/// Lines, the first of which were gone through. Files tell these, by their numbers from 1, by what they are looked for by.
+/// Lines, the first of which were gone through. Files tell these, by their numbers from 1, by what they are looked for by. Where objects are, they tell
+/// of ends alone: the target, and the nodes at which demanded stores take objects from and put them into.
 #[derive(Drop)]
 pub struct Work {
     pub written: Written,
@@ -44,9 +48,9 @@ impl Work {
         self.links.at(word)
     }
 
-    /// The numbers, from 1, of those that put an object there.
+    /// The numbers, from 1, of those that put an object there, at an end.
     pub fn objects(&self, spot: Spot) -> &[u32]
-        requires { AreFiled self.now.written self.now }
+        requires { TellsAt self.now spot.node }
         ensures { (i : ℕ) → Has result.now i ↔ ((i ≤ self.now.done) × IsAt self.now.written spot i) }
     {
         self.spots.at(spot)
@@ -95,8 +99,38 @@ fn follow(
     Ok(())
 }
 
+// The numbers of the lines by which an object that is there may be stored. At an end alone there are some.
+fn mets_at(mets: &Files<Spot, u32>, spot: Spot, at_end: bool) -> &[u32]
+    requires { (i : ℕ) → Has (found_at of_spot.eq-value.it mets.now spot) i → IsTrue at_end }
+    ensures { (i : ℕ) → Has result.now i ↔ Has (found_at of_spot.eq-value.it mets.now spot) i }
+{
+    if at_end { mets.at(spot) } else { &[] }
+}
+
+// At an end the line that put an object there is filed.
+fn file_object(
+    spots: &mut Files<Spot, u32>,
+    spot: Spot,
+    number: u32,
+    at_end: bool,
+) -> Result<(), NoMemory>
+    ensures { OnOk result ((k : AnySpot) (i : ℕ) → Has (found_at of_spot.eq-value.it spots.new k) i
+        ↔ (Has (found_at of_spot.eq-value.it spots.old k) i ⊎ (IsTrue at_end × (k ≡ spot) × (i ≡ number)))) }
+{
+    if at_end {
+        spots.add(spot, number)?;
+    }
+    Ok(())
+}
+
 // Goes through a line that put an object where an edge takes the first letter of its word off.
-fn work_taker(view: &View<'_>, work: &mut Work, held: Held, edges: &[Edge]) -> Result<(), NoMemory>
+fn work_taker(
+    view: &View<'_>,
+    work: &mut Work,
+    held: Held,
+    edges: &[Edge],
+    at_end: bool,
+) -> Result<(), NoMemory>
     requires view { IsView view.now }
     requires work { IsWorkOf view.now work.old }
     requires held { IsHeld work.old.written held }
@@ -104,6 +138,7 @@ fn work_taker(view: &View<'_>, work: &mut Work, held: Held, edges: &[Edge]) -> R
     requires edges { AreEdgesAt view.now held.node edges.now }
     requires wanted { IsWanted view.now.wants.now held.site held.node }
     requires taken { (e : AnyEdge) × Has edges.now e × Takes held.side held.entry e.kind }
+    requires end { IsTrue at_end ↔ EndOf view.now held.node }
     ensures added { OnOk result (AreAddedIn view.now work.old.written work.new.written) }
     ensures work { OnOk result (IsWorkOf view.now work.new) }
     ensures done { OnOk result (work.new.done ≡ work.old.done + 1) }
@@ -111,45 +146,53 @@ fn work_taker(view: &View<'_>, work: &mut Work, held: Held, edges: &[Edge]) -> R
     let word = held.word();
     let spot = held.spot();
     let links = work.links.at(word);
-    let mets = work.mets.at(spot);
+    let mets = mets_at(&work.mets, spot, at_end);
     follow(view, &mut work.written, held, edges, links, mets)?;
     work.takers.add(word, held.number)?;
-    work.spots.add(spot, held.number)?;
+    file_object(&mut work.spots, spot, held.number, at_end)?;
     work.done = held.number;
     Ok(())
 }
 
 // Goes through one that put it where none does.
-fn work_other(view: &View<'_>, work: &mut Work, held: Held, edges: &[Edge]) -> Result<(), NoMemory>
+fn work_other(
+    view: &View<'_>,
+    work: &mut Work,
+    held: Held,
+    edges: &[Edge],
+    at_end: bool,
+) -> Result<(), NoMemory>
     requires view { IsView view.now }
     requires work { IsWorkOf view.now work.old }
     requires held { IsHeld work.old.written held }
     requires number { held.number ≡ work.old.done + 1 }
     requires edges { AreEdgesAt view.now held.node edges.now }
     requires untaken { (e : AnyEdge) → Has edges.now e → Takes held.side held.entry e.kind → ⊥ }
+    requires end { IsTrue at_end ↔ EndOf view.now held.node }
     ensures added { OnOk result (AreAddedIn view.now work.old.written work.new.written) }
     ensures work { OnOk result (IsWorkOf view.now work.new) }
     ensures done { OnOk result (work.new.done ≡ work.old.done + 1) }
 {
     let spot = held.spot();
-    let mets = work.mets.at(spot);
+    let mets = mets_at(&work.mets, spot, at_end);
     follow(view, &mut work.written, held, edges, &[], mets)?;
-    work.spots.add(spot, held.number)?;
+    file_object(&mut work.spots, spot, held.number, at_end)?;
     work.done = held.number;
     Ok(())
 }
 
 // Goes past one that put it where it isn't followed.
-fn work_past(view: &View<'_>, work: &mut Work, held: Held) -> Result<(), NoMemory>
+fn work_past(view: &View<'_>, work: &mut Work, held: Held, at_end: bool) -> Result<(), NoMemory>
     requires work { IsWorkOf view.now work.old }
     requires held { IsHeld work.old.written held }
     requires number { held.number ≡ work.old.done + 1 }
     requires unwanted { IsWanted view.now.wants.now held.site held.node → ⊥ }
+    requires end { IsTrue at_end ↔ EndOf view.now held.node }
     ensures added { OnOk result (AreAddedIn view.now work.old.written work.new.written) }
     ensures work { OnOk result (IsWorkOf view.now work.new) }
     ensures done { OnOk result (work.new.done ≡ work.old.done + 1) }
 {
-    work.spots.add(held.spot(), held.number)?;
+    file_object(&mut work.spots, held.spot(), held.number, at_end)?;
     work.done = held.number;
     Ok(())
 }
@@ -164,14 +207,15 @@ fn work_at(view: &View<'_>, work: &mut Work, held: Held) -> Result<(), NoMemory>
     ensures work { OnOk result (IsWorkOf view.now work.new) }
     ensures done { OnOk result (work.new.done ≡ work.old.done + 1) }
 {
+    let at_end = view.is_end(held.node);
     if !view.wants.has(held.site, held.node) {
-        return work_past(view, work, held);
+        return work_past(view, work, held, at_end);
     }
     let edges = view.edges(held.node);
     if is_taken(held, edges) {
-        work_taker(view, work, held, edges)
+        work_taker(view, work, held, edges, at_end)
     } else {
-        work_other(view, work, held, edges)
+        work_other(view, work, held, edges, at_end)
     }
 }
 

@@ -25,7 +25,7 @@ returns c = λ label to.
       (λ has. (are.0 has).1),
       (λ is.
           let low = cites_low c.args.work.now.written.given label _ is.gives in
-          let done = c.requires.all in
+          let done = c.requires.filed.all in
           let has = (c.objects-numbers.ensures label).1 (omega arith, (Call, to.entry, is.gives)) in
           are.1 (subst (λ (xs : List ℕ). Has xs label) (sym all) has, is)),
     )

@@ -49,3 +49,6 @@ returns-clause-closed c =
 pub returns-clause-filed : goal.returns-clause-filed
 returns-clause-filed c =
     let traced = c.in_ok-follow_all.ensures.traced in record { filed = traced.work.filed; all = traced.all }
+
+pub returns-clause-ends : goal.returns-clause-ends
+returns-clause-ends c = c.in_ok-follow_all.ensures.traced.work.ends

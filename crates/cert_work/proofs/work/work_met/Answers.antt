@@ -1,13 +1,13 @@
 use Rattle.std.proofs.Common.{ℕ, List, arith, subst, sym}
 use Rattle.lists.specs.Lists.{Has}
-use Rattle.cert_work.proofs.Growing.{cites_kept, many_more, second}
+use Rattle.cert_work.proofs.Growing.{cites_kept, many_more}
 use Rattle.cert_work.proofs.Turns.{turn_met}
 use Rattle.cert_work.proofs.Working.{cites_low}
 use Rattle.cert_work.proofs.work.work_met.Goals as goal
 
 pub put_objects-requires-clause-objects : goal.put_objects-requires-clause-objects
 put_objects-requires-clause-objects c = λ i has.
-    second ((c.requires.work.filed.spots c.args.spot i).0 (subst (λ (xs : List ℕ). Has xs i) c.at-objects.ensures has))
+    ((c.requires.work.ends c.args.spot i).0 (subst (λ (xs : List ℕ). Has xs i) c.at-objects.ensures has)).1.at
 
 pub returns-clause-work : goal.returns-clause-work
 returns-clause-work c =
