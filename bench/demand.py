@@ -15,7 +15,7 @@ import tempfile
 
 from proved import ASKED, INIT, build
 
-USES = 'linked_text jim_ast link_rules link_indexes link_program link_sites spds_rules spds_nodes demand_walk demand_set indexmap anyhow'
+USES = 'linked_text jim_ast link_rules link_indexes link_program link_sites spds_rules spds_nodes demand_set program_demand indexmap anyhow'
 
 PROGRAM = r'''//! Links a program from standard input with the prelude, and tells how long the demand of the local `x` at the end of `main` takes, and what Linux
 //! says of the process before and after it.
@@ -25,7 +25,8 @@ ghost use Rattle.spds_rules.specs.Nodes.{IsNode};
 
 use anyhow::Result;
 use linked_text::linked_of;
-use demand_set::{Demand, Reach, demand};
+use demand_set::{Demand, Reach};
+use program_demand::demand;
 use link_program::Linked;
 use link_sites::Place;
 use spds_nodes::is_node;
@@ -91,7 +92,7 @@ fn main(rt: HostRuntime) -> Result<()> {
 }
 '''
 
-ASKS = '''use Rattle.demand_walk.proofs.Appended.{Has-one}
+ASKS = '''use Rattle.demand_set.proofs.Appended.{Has-one}
 use Rattle.demand_speed.proofs.told.Goals as goal
 
 pub demand-found-requires : goal.demand-found-requires

@@ -170,6 +170,17 @@ def parents(count):
     return main_of(f'{last} x;', f'x = new {last}; virtualinvoke x.<{last}: void m()>();\n', made)
 
 
+def chain_of_one_method(count, of_each='', more=''):
+    """A chain of classes of which the first has a method, and a call on an object of the first class."""
+    made = 'class C0 { void m() { return; } }\n' + ''.join(f'class C{i} extends C{i - 1}{of_each} {{ }}\n' for i in range(1, count))
+    return main_of('C0 x;', f'x = new C{count - 1}; virtualinvoke x.<C0: void m()>();\n', more + made)
+
+
+def chain_with_interfaces(count):
+    """The same chain, where each class names an interface."""
+    return chain_of_one_method(count, ' implements I', 'interface I { }\n')
+
+
 def cycle(count):
     """A chain of classes, and two others that are each other's parents."""
     made = 'class C0 { }\n' + ''.join(f'class C{i} extends C{i - 1} {{ }}\n' for i in range(1, count))
@@ -205,6 +216,8 @@ SHAPES = {
     'dimensions': (repeated(30_000)(dimensions), ASK),
     'interfaces in diamonds': (repeated(60_000)(diamonds), RUN),
     'parents in a chain': (repeated(60_000)(parents), RUN),
+    'a call on the first': (repeated(60_000)(chain_of_one_method), RUN),
+    'each with an interface': (repeated(60_000)(chain_with_interfaces), RUN),
     'a cycle behind a chain': (repeated(60_000)(cycle), RUN),
     'a call on each class': (repeated(60_000)(calls), RUN),
     'open comment': (open_ended('/*', '* '), RUN),

@@ -119,7 +119,7 @@ def write(path, text):
 
 def asks(name):
     """The proof of `told` of the program, which asks for the demand of one node."""
-    return f'''use Rattle.demand_walk.proofs.Appended.{{Has-one}}
+    return f'''use Rattle.demand_set.proofs.Appended.{{Has-one}}
 use Rattle.{name}.proofs.told.Goals as goal
 
 pub demand-requires : goal.demand-requires

@@ -14,8 +14,8 @@ import tempfile
 from proved import ASKED, LINKED, asks, build
 from queries import TABLES
 
-USES = ('linked_text jim_ast class_tree link_rules link_laws link_indexes link_program link_sites spds_rules spds_laws spds_nodes demand_walk demand_set weight_laws auto_table '
-        'post_star rule_cells rule_marks call_side call_work spds_tables piece_join spds_solve indexmap anyhow')
+USES = ('linked_text jim_ast class_tree link_rules link_laws link_indexes link_program link_sites spds_rules spds_laws spds_nodes demand_set program_demand weight_laws auto_table '
+        'post_star rule_cells rule_marks call_side spds_tables piece_join spds_solve indexmap anyhow')
 
 PROGRAM = r'''//! Links a program from standard input with the prelude, and tells of a local at the end of `main` how long its query takes to be solved, and how much
 //! that holds. The local is the one word of the command line.
@@ -26,7 +26,8 @@ ghost use Rattle.spds_rules.specs.Nodes.{IsNode};
 
 use anyhow::Result;
 use linked_text::linked_of;
-use demand_set::{Demand, Reach, demand};
+use demand_set::{Demand, Reach};
+use program_demand::demand;
 use link_program::Linked;
 use link_sites::Place;
 use spds_nodes::is_node;

@@ -55,16 +55,16 @@ but() {
 {
   none 'lists knows nothing of ours' "$(names $(but))" $(files "${for_all[@]}")
   none 'link_indexes knows code alone' "$(names $(but link_indexes jim_ast link_rules))" $(files link_indexes)
-  none 'boom_words knows no programs' "$(names $(but boom_words jim_ast))" $(files boom_words)
+  none 'boom_words knows no programs' "$(names $(but boom_words lists))" $(files boom_words)
   none 'only boom_io and main touch streams' 'std::(io|fs|net)|, io\}' $(files $(but boom_io boomer))
   none 'class_tree knows rows of numbers alone' "$(names $(but class_tree))" $(files class_tree)
   none 'saturation knows no programs' "$(names $(but weight_laws auto_table post_star rule_cells rule_marks))" $(files weight_laws auto_table post_star rule_cells rule_marks)
   none 'what runs side by side knows no programs' "$(names $(but piece_join batch_join))" $(files piece_join batch_join)
   none 'the builder knows no bytes' "$(names $(but jim_ast jim_signs jim_grammar jim_stmts jim_build))" $(files jim_grammar jim_stmts jim_build | grep /src/)
-  none 'the machine knows no queries' "$(names spds_rules spds_laws spds_nodes demand_walk demand_set call_side call_work spds_tables spds_solve query_core)" $(files step_rules step_heap jim_step run_covers)
-  none 'queries know no runs' "$(names step_rules step_heap jim_step run_report run_covers run_sound)" $(files spds_rules spds_laws spds_nodes demand_walk demand_set call_side call_work spds_tables spds_solve)
-  none 'above link_program no code but that which links sees the syntax tree' 'jim_ast::(.*[{, ])?(Program|Class|Body|Stmt|Expr|Imm|Invoke|Ty|Trap|Names|NameId)\b' $(files spds_nodes demand_walk demand_set call_side call_work spds_tables spds_solve query_core step_heap jim_step run_report report_text | grep /src/)
-  none 'above spds_solve nothing sees entries of tables' "$(names auto_table post_star call_side call_work spds_tables)" $(files query_core report_text run_report boom_top boomer)
+  none 'the machine knows no queries' "$(names spds_rules spds_laws spds_nodes demand_set program_demand call_side spds_tables spds_solve query_core)" $(files step_rules step_heap jim_step run_covers)
+  none 'queries know no runs' "$(names step_rules step_heap jim_step run_report run_covers run_sound)" $(files spds_rules spds_laws spds_nodes demand_set program_demand call_side spds_tables spds_solve)
+  none 'above link_program no code but that which links sees the syntax tree' 'jim_ast::(.*[{, ])?(Program|Class|Body|Stmt|Expr|Imm|Invoke|Ty|Trap|Names|NameId)\b' $(files spds_nodes demand_set program_demand call_side spds_tables spds_solve query_core step_heap jim_step run_report report_text | grep /src/)
+  none 'above spds_solve nothing sees entries of tables' "$(names auto_table post_star call_side spds_tables)" $(files query_core report_text run_report boom_top boomer)
   none 'no crate of the program stands on a crate of tests' "$(names "${for_tests[@]}")" $(files "${for_all[@]}" $(but))
 }
 

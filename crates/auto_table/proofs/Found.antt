@@ -4,7 +4,7 @@ use Rattle.std.specs.List.{slice_set}
 use Rattle.auto_table.specs.declared.entry.Entry.{Entry}
 use Rattle.auto_table.specs.contracts.entry.EntryPartialEq.TheImpl as entry
 use Rattle.auto_table.specs.Cells.{at_entry, weight_of}
-use Rattle.auto_table.specs.Lists.{Has, IsApart}
+use Rattle.lists.specs.Lists.{Has, IsApart}
 use Rattle.auto_table.proofs.Same.{same_entry, self_entry}
 
 -- two numbers are one, or they differ

@@ -1,7 +1,5 @@
 pub mod Filed
 pub mod Found
-pub mod Keys
-pub mod Places
 pub mod Raises
 pub mod RowReads
 pub mod Same

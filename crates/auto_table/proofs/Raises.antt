@@ -1,10 +1,10 @@
 -- One weight is combined into a table.
 use Rattle.std.proofs.Common.{◌≡◌, ◌≢◌, ℕ, ◌⊎◌, inl, inr, List, [], refl, sym, ap, subst, ◌∙◌}
 use Rattle.auto_table.specs.declared.entry.Entry.{Entry}
-use Rattle.auto_table.specs.Lists.{Has, Adds}
+use Rattle.lists.specs.Lists.{Has, Adds}
 use Rattle.auto_table.specs.Cells.{Cells, weight_at, link_at, IsUsed, by_weight, by_child, by_parent, IsListed, AreMeant, IsBlank, IsRaised, IsRaisedLink}
 use Rattle.auto_table.proofs.Found.{one_entry, one_or_other}
-use Rattle.auto_table.proofs.Places.{IsApart-adds, Has-adds_itself, slice_get-adds, slice_get-added}
+use Rattle.lists.proofs.Places.{IsApart-adds, Has-adds_itself, slice_get-adds, slice_get-added}
 use Rattle.weight_laws.specs.Law.{Domain, IsLawful}
 use Rattle.weight_laws.proofs.Orders.{raised_nonzero}
 

@@ -7,7 +7,7 @@ use Rattle.auto_table.specs.contracts.entry.EntryPartialEq.TheImpl as entry
 use Rattle.auto_table.specs.declared.row.Reached.{Reached}
 use Rattle.auto_table.specs.declared.row.Linked.{Linked}
 use Rattle.auto_table.specs.Grids.{row_at}
-use Rattle.auto_table.specs.Lists.{Has, IsApart}
+use Rattle.lists.specs.Lists.{Has, IsApart}
 use Rattle.auto_table.specs.Cells.{Cells, weight_at, link_at, weight_of, at_entry, node_of, parent_of, reached_weight, linked_weight, IsBlank, IsRaised, IsRaisedLink}
 use Rattle.auto_table.proofs.Filed.{row_at-beyond, row_at-grown, row_at-set_other, row_at-set_same}
 use Rattle.auto_table.proofs.Found.{at_entry-grown, at_entry-none, at_entry-or, at_entry-same, at_entry-there, one_or_other, row-or}

@@ -5,7 +5,7 @@ use Rattle.auto_table.specs.declared.row.Reached.{Reached}
 use Rattle.auto_table.specs.declared.row.Linked.{Linked}
 use Rattle.auto_table.specs.contracts.entry.EntryPartialEq.TheImpl as entry
 use Rattle.auto_table.specs.Grids.{row_at}
-use Rattle.auto_table.specs.Lists.{Has, IsApart}
+use Rattle.lists.specs.Lists.{Has, IsApart}
 use Rattle.weight_laws.specs.Law.{Domain}
 
 -- what a table means: entries by number, and of each number the weights at nodes, and the links to parents

@@ -1,6 +1,5 @@
 pub mod Cells
 pub mod Grids
 pub mod Inside
-pub mod Lists
 pub mod Naming
 pub mod Spreads

@@ -3,8 +3,7 @@ ghost use Rattle.std.specs.Prelude.{◌≡◌, ◌<◌, ◌≤◌, ◌-◌, ◌+
 ghost use Rattle.auto_table.specs.Grids.{HasPlace, row_at};
 ghost use Rattle.lists.specs.Lists.{Has};
 
-use super::row::NoMemory;
-use lists::{Key, Numbered};
+use lists::{Key, NoMemory, Numbered};
 use std::alloc::Global;
 use std::marker::Model;
 

@@ -11,6 +11,7 @@ pub mod spot;
 pub mod table;
 
 pub use entry::Entry;
-pub use row::{Linked, NoMemory, Reached};
+pub use lists::NoMemory;
+pub use row::{Linked, Reached};
 pub use rule::Rule;
 pub use table::Table;

@@ -5,9 +5,9 @@ ghost use Rattle.auto_table.specs.Naming.{IsNamed};
 
 use super::entry::Entry;
 use super::grid::Grid;
-use super::row::{Linked, NoMemory, Reached};
+use super::row::{Linked, Reached};
 use super::spot::{Joint, Spot};
-use lists::Numbered;
+use lists::{NoMemory, Numbered};
 
 /// Makes room for so many entries more.
 pub fn room_for<W: Copy>(

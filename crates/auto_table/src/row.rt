@@ -1,9 +1,5 @@
 //! What a table lists of an entry.
 use super::entry::Entry;
-use std::alloc::AllocError;
-
-/// Want of memory.
-pub type NoMemory = AllocError;
 
 /// A node that an entry has a weight at.
 #[derive(Clone, Copy, Debug, PartialEq, Eq)]

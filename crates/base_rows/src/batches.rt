@@ -1,6 +1,7 @@
 //! That texts come in order, that pieces run side by side, of which numbers a gate is told, how questions are cut, and what an error in one piece does to
 //! the others.
-use batch_join::{Ask, NoMemory, Pass, Text, Texts, ask_all};
+use batch_join::{Ask, Pass, Text, Texts, ask_all};
+use lists::NoMemory;
 use std::alloc::{AllocError, Global};
 use std::sync::atomic::{AtomicU64, Ordering};
 use std::thread::Threads;

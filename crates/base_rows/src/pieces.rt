@@ -2,7 +2,8 @@
 ghost use Rattle.std.specs.Prelude.{◌≡◌, ◌<◌, ◌^◌, [], length, IfOk};
 ghost use Rattle.piece_join.specs.Brought.{AllAt};
 
-use piece_join::{Bring, Gate, NoMemory, Open, bring_all, bring_here};
+use lists::NoMemory;
+use piece_join::{Bring, Gate, Open, bring_all, bring_here};
 use std::alloc::{AllocError, Global};
 use std::sync::atomic::{AtomicU64, Ordering};
 use std::thread::Threads;

@@ -5,7 +5,7 @@ use Rattle.std.specs.List.{AllZip}
 use Rattle.std.proofs.lemmas.Bool.{cases_lt}
 use Rattle.std.proofs.lemmas.Fmt.{decimal_injective}
 use Rattle.batch_lines.specs.Queries.{AreQueries, IsFirstBad, QueryParts, SpellsQuery, lines_in}
-use Rattle.batch_lines.proofs.Lines.{cut_first}
+use Rattle.lists.proofs.Cutting.{cut_first}
 use Rattle.batch_lines.proofs.Spelled.{number_lacks, zip_at, zip_length}
 
 -- a line is one query

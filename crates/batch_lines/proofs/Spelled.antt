@@ -9,11 +9,12 @@ use Rattle.std.proofs.lemmas.List.{length-map}
 use Rattle.std.proofs.lemmas.List.Splits.{length-slice_split}
 use Rattle.std.proofs.lemmas.Str.{IsUtf8-from_ascii}
 use Rattle.std.proofs.lemmas.Str.Parse.{digit_from_value}
-use Rattle.jim_ast.specs.Lists.{Has}
+use Rattle.lists.specs.Lists.{Has}
 use Rattle.batch_lines.specs.Cuts.{lines_of}
 use Rattle.batch_lines.specs.Queries.{AreQueries, IsFirstBad, QueryParts, SpellsQuery, lines_in, parts_of, without_empty_end}
 use Rattle.batch_lines.specs.declared.queries.BatchQuery.{BatchQuery}
-use Rattle.batch_lines.proofs.Lines.{cut_first, cut_next, cut_none}
+use Rattle.batch_lines.proofs.Lines.{cut_next, cut_none}
+use Rattle.lists.proofs.Cutting.{cut_first}
 
 -- digits are no blanks
 digits_lack : (ds : List ℕ) → AllDigits 10 ds → Has ds 32 → ⊥

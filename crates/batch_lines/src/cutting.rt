@@ -1,6 +1,6 @@
 //! Texts, cut at a byte and at a line.
 ghost use Rattle.std.specs.Prelude.{◌≡◌, ◌≤◌, ◌++◌, ◌∷◌, IfNone, IfSome, length};
-ghost use Rattle.jim_ast.specs.Lists.{Has};
+ghost use Rattle.lists.specs.Lists.{Has};
 ghost use Rattle.batch_lines.specs.Cuts.{before_mark, behind_mark, lines_of};
 
 /// A program, and what stands behind it.

@@ -1,5 +1,5 @@
 //! Why a text is no batch.
-use jim_ast::NoMemory;
+use lists::NoMemory;
 use std::alloc::AllocFailed;
 
 /// Why no queries were read.

@@ -6,7 +6,7 @@ ghost use Rattle.batch_lines.specs.Queries.{AreQueries, IsFirstBad, QueryParts, 
 use super::cutting::split_once;
 use super::error::BatchError;
 use boom_words::number;
-use jim_ast::NoMemory;
+use lists::NoMemory;
 use std::alloc::Global;
 
 /// The most queries of a batch.

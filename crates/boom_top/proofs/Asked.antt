@@ -1,7 +1,7 @@
 -- What a request about a program that is linked is answered.
 use Rattle.std.proofs.Common.{◌≡◌, ℕ, zero, suc, List, [], ◌∷◌, ◌++◌, Option, codes, length, refl, subst, sym, arith, inl, inr, slice_get, Some}
 use Rattle.std.specs.Io.KnownBytes.{Appends}
-use Rattle.jim_ast.specs.Lists.{Has}
+use Rattle.lists.specs.Lists.{Has}
 use Rattle.jim_ast.specs.declared.syntax.Program.{Program}
 use Rattle.jim_parse.proofs.ProgramLemmas.{spells_one}
 use Rattle.link_rules.specs.Conditions.{IsRead}
@@ -9,11 +9,11 @@ use Rattle.link_rules.specs.Linked.{LinkedProgram}
 use Rattle.link_rules.specs.WellLinked.{IsWellLinked}
 use Rattle.link_laws.proofs.Lists.{each_left}
 use Rattle.link_laws.proofs.Whole.{links_well}
-use Rattle.link_once.proofs.OneLink.{link_one}
+use Rattle.link_laws.proofs.OneLink.{link_one}
 use Rattle.read_laws.proofs.Programs.{derived_read}
 use Rattle.link_sites.specs.declared.site.Site.{Site}
 use Rattle.spds_rules.specs.declared.node.Node.{Node}
-use Rattle.demand_walk.proofs.Counts.{HasMore-not}
+use Rattle.demand_set.proofs.Counts.{HasMore-not}
 use Rattle.run_covers.specs.Covers.{IsCovered}
 use Rattle.run_covers.proofs.Whole.{links_covered}
 use Rattle.query_core.specs.Answers.{IsAffordable}

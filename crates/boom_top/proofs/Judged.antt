@@ -4,12 +4,13 @@ use Rattle.link_rules.specs.Linked.{LinkedProgram}
 use Rattle.link_rules.specs.WellLinked.{IsWellLinked}
 use Rattle.link_sites.specs.Places.{ComesBefore}
 use Rattle.spds_rules.specs.declared.node.Node.{Node}
-use Rattle.spds_rules.specs.Demand.{Asked, Demand, HasMore}
-use Rattle.demand_walk.proofs.Counts.{HasMore-not}
+use Rattle.spds_rules.specs.Demand.{Asked, Demand}
+use Rattle.lists.specs.Lists.{HasMore}
+use Rattle.demand_set.proofs.Counts.{HasMore-not}
 use Rattle.query_core.proofs.Determined.{counts_more}
 use Rattle.query_core.proofs.Ordered.{ordered_one}
 use Rattle.run_covers.specs.Covers.{IsCovered}
-use Rattle.track_events.specs.Statements.{IsQuery}
+use Rattle.site_events.specs.EventStatements.{IsQuery}
 use Rattle.track_rules.specs.Protocols.{ProtocolParts}
 use Rattle.track_runs.specs.Monitor.{IsSafe}
 use Rattle.track_sound.proofs.Sounding.{safe_where_nothing_found}

@@ -8,8 +8,8 @@ use Rattle.jim_parse.proofs.ProgramLemmas.{derives_any, same_tokens, spells_one}
 use Rattle.link_rules.specs.Linked.{LinkedProgram, Links}
 use Rattle.link_rules.specs.declared.refusal.LinkError.{LinkError}
 use Rattle.link_rules.specs.declared.refusal.LinkError.TheVariants as link
-use Rattle.link_once.proofs.OneLink.{link_one}
-use Rattle.link_once.proofs.OneRefusal.{refused_one}
+use Rattle.link_laws.proofs.OneLink.{link_one}
+use Rattle.link_laws.proofs.OneRefusal.{refused_one}
 use Rattle.link_sites.specs.declared.site.Site.{Site}
 use Rattle.boom_words.specs.Requests.{Alias, PointsTo, Question, Request, Typestate, alias, batch, demo, explain, paths, points_to, refined, replay, run, typestate}
 use Rattle.boom_top.specs.Demo.{IsDemoText, demo_asked}

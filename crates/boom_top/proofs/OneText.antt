@@ -3,11 +3,10 @@ use Rattle.std.proofs.Common.{◌≡◌, ℕ, zero, suc, ◌-◌, ◌<◌, ◌++
 use Rattle.std.proofs.lemmas.Bool.{cases_lt}
 use Rattle.std.proofs.lemmas.List.{length-map}
 use Rattle.std.proofs.lemmas.Option.{get_or_from_slice_get, same_Some, slice_get_within}
-use Rattle.jim_ast.specs.Lists.{Has}
+use Rattle.lists.specs.Lists.{Has, AreIncreasing, Each}
 use Rattle.link_rules.specs.declared.code.Code.{Code}
 use Rattle.link_rules.specs.declared.code.Code.TheVariants.{New, NewArray, NewMulti}
 use Rattle.link_rules.specs.Linked.{Element, LinkedClass, LinkedMethod, LinkedProgram}
-use Rattle.link_rules.specs.Lists.{AreIncreasing, Each}
 use Rattle.link_rules.specs.Names.{brackets}
 use Rattle.link_rules.specs.WellLinked.{FitsMethod, IsInForm}
 use Rattle.link_laws.proofs.Lists.{all_at, at_all, map_at}

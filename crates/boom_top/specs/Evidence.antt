@@ -2,7 +2,7 @@
 use Rattle.std.specs.Prelude.{◌≡◌, ℕ, ◌≤◌, List, [], ◌∷◌, Some, slice_get}
 use Rattle.std.specs.declared.option.Option.{Option}
 use Rattle.std.specs.Io.KnownBytes.{Appends}
-use Rattle.jim_ast.specs.Lists.{Has}
+use Rattle.lists.specs.Lists.{Has}
 use Rattle.link_rules.specs.Linked.{LinkedProgram}
 use Rattle.link_sites.specs.declared.site.Site.{Site}
 use Rattle.spds_rules.specs.declared.node.Node.{Node}
@@ -11,7 +11,7 @@ use Rattle.cert_rules.specs.Certified.{IsCertified}
 use Rattle.cert_rules.specs.Spelled.{SpellsCertificate}
 use Rattle.cert_laws.specs.Shown.{IsShown}
 use Rattle.cert_query.specs.Replays.{IsAccepted}
-use Rattle.cert_evidence.specs.Explained.{IsExplained}
+use Rattle.cert_trace.specs.Explained.{IsExplained}
 use Rattle.explain_text.specs.Explanations.{IsExplainText, IsExplanation}
 use Rattle.batch_lines.specs.Queries.{AreQueries, QueryParts}
 use Rattle.query_core.specs.Answers.{IsAffordable}

@@ -23,7 +23,7 @@ use super::status::Status;
 use boom_io::{ReadAll, Sink, Source, read_all, write_all};
 use boom_words::{Command, Query, read_words};
 use demo_text::demo_text;
-use jim_ast::NoMemory;
+use lists::NoMemory;
 use query_core::Hands;
 use spds_solve::Gate;
 use std::alloc::Global;

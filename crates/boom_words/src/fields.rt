@@ -2,7 +2,7 @@
 ghost use Rattle.std.specs.Prelude.{◌≡◌, ◌↔◌, List, IfNone, IfOk, IfSome, IsTrue, map};
 ghost use Rattle.boom_words.specs.Fields.{AreFields, FieldName, IsPlain, IsPlainName, SpellsField, field_name, field_parts, texts};
 
-use jim_ast::NoMemory;
+use lists::NoMemory;
 use std::alloc::Global;
 
 /// A field of a path, as a part of a word spells it.

@@ -6,7 +6,7 @@ ghost use Rattle.boom_words.specs.Requests.{AreChoices, IsRequest, Request};
 ghost use Rattle.boom_words.specs.Commands.{request_of};
 
 use super::fields::read_fields;
-use jim_ast::NoMemory;
+use lists::NoMemory;
 use std::alloc::Global;
 
 /// What a `points-to` or an `explain` command asks for.

@@ -1,7 +1,7 @@
 -- Pairs that come in one after another.
 use Rattle.std.proofs.Common.{◌≡◌, ℕ, ◌+◌, ◌⊎◌, ◌↔◌, List, Option, Some, None, slice_get, take, inl, inr, refl, sym, ap, subst}
 use Rattle.auto_table.specs.declared.entry.Entry.{Entry}
-use Rattle.auto_table.specs.Lists.{Has}
+use Rattle.lists.specs.Lists.{Has}
 use Rattle.link_indexes.proofs.Grown.{Has-push, take-next}
 use Rattle.call_side.specs.declared.origin.Origin.{Origin}
 use Rattle.call_side.specs.declared.pairs.Pair.{Pair}

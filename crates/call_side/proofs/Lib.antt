@@ -11,3 +11,11 @@ pub mod Stepped
 pub mod Targets
 pub mod Trails
 pub mod Truths
+pub mod Arriving
+pub mod Beginning
+pub mod Coding
+pub mod Crowding
+pub mod Decoding
+pub mod Gathered
+pub mod Lists
+pub mod Truth

@@ -6,7 +6,7 @@ use Rattle.auto_table.specs.declared.entry.Entry.{Entry}
 use Rattle.auto_table.specs.declared.entry.Entry.TheVariants.{Base, Pushed}
 use Rattle.auto_table.specs.declared.row.Linked.{Linked}
 use Rattle.auto_table.specs.Cells.{AreParents, Cells, link_at}
-use Rattle.auto_table.specs.Lists.{Has}
+use Rattle.lists.specs.Lists.{Has}
 use Rattle.post_star.specs.declared.bases.BaseStep.{BaseStep}
 use Rattle.post_star.specs.Derivations.{step_of}
 use Rattle.weight_laws.specs.declared.reach.Reach.{Reach}

@@ -4,7 +4,7 @@ use Rattle.std.specs.List.{AllPairs}
 use Rattle.std.proofs.lemmas.Bool.{cases_eq, cases_lt}
 use Rattle.std.proofs.lemmas.List.{get_or-take}
 use Rattle.std.proofs.lemmas.Option.{get_or_from_slice_get, slice_get-get_or}
-use Rattle.jim_ast.proofs.Places.{slice_get-below, slice_get-there}
+use Rattle.lists.proofs.Places.{slice_get-below, slice_get-there}
 use Rattle.link_sites.specs.declared.place.Place.{Place}
 use Rattle.link_sites.specs.contracts.place.PlacePartialEq.TheImpl as places
 use Rattle.link_sites.specs.Places.{ComesBefore}

@@ -4,8 +4,8 @@ use Rattle.std.proofs.lemmas.List.{reverse-append}
 use Rattle.std.proofs.lemmas.Option.{slice_get-get_or}
 use Rattle.auto_table.specs.declared.entry.Entry.{Entry}
 use Rattle.auto_table.specs.Cells.{Cells}
-use Rattle.auto_table.specs.Lists.{Has}
-use Rattle.auto_table.proofs.Places.{slice_get-append_left, slice_get-below, slice_get-pushed, slice_get-there}
+use Rattle.lists.specs.Lists.{Has}
+use Rattle.lists.proofs.Places.{slice_get-append_left, slice_get-below, slice_get-pushed, slice_get-there}
 use Rattle.post_star.specs.declared.bases.BaseStep.{BaseStep}
 use Rattle.post_star.specs.Derivations.{Leads, step_of}
 use Rattle.weight_laws.specs.declared.reach.Reach.{Reach}

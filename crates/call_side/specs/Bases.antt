@@ -1,7 +1,7 @@
 -- Call strings as base steps of a pushdown system: a method stands for its call strings, whose words are the numbers of their calls.
 use Rattle.std.specs.Prelude.{◌≡◌, ◌+◌, ◌<◌, ◌⊎◌, ◌↔◌, ℕ, List, Some, length, slice_get}
 use Rattle.std.specs.List.{AllZip}
-use Rattle.jim_ast.specs.Lists.{Has}
+use Rattle.lists.specs.Lists.{Has}
 use Rattle.link_rules.specs.Linked.{LinkedMethod, LinkedProgram}
 use Rattle.link_rules.specs.WellLinked.{HasTarget}
 use Rattle.link_indexes.specs.declared.method.Place.{Place as CallPlace}

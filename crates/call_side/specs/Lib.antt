@@ -4,3 +4,8 @@ pub mod Indexed
 pub mod Search
 pub mod Trails
 pub mod Words
+pub mod Arrivals
+pub mod Coded
+pub mod Crowds
+pub mod Gathered
+pub mod Openings

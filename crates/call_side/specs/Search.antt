@@ -3,7 +3,7 @@ use Rattle.std.specs.Prelude.{◌≡◌, ◌<◌, ℕ, List, Option, Some, None,
 use Rattle.auto_table.specs.declared.entry.Entry.{Entry}
 use Rattle.auto_table.specs.declared.entry.Entry.TheVariants.{Base}
 use Rattle.auto_table.specs.Cells.{Cells}
-use Rattle.auto_table.specs.Lists.{Has}
+use Rattle.lists.specs.Lists.{Has}
 use Rattle.post_star.specs.declared.bases.BaseStep.{BaseStep}
 use Rattle.weight_laws.specs.declared.reach.Reach.{Reach}
 use Rattle.call_side.specs.declared.origin.Origin.{Origin}

@@ -4,10 +4,10 @@ ghost use Rattle.link_sites.specs.declared.place.Place.{Place as APlace};
 ghost use Rattle.link_sites.specs.Places.{ComesBefore};
 ghost use Rattle.call_side.specs.Calls.{AreCallsUpTo, AreTheCalls, IsCall};
 
-use auto_table::NoMemory;
 use link_program::Linked;
 use link_rules::Code;
 use link_sites::Place;
+use lists::NoMemory;
 use std::alloc::{AllocError, Global};
 use std::marker::Model;
 

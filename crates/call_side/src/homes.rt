@@ -1,13 +1,13 @@
 //! Bases that lead to the last one, and a way for each.
 ghost use Rattle.std.specs.Prelude.{◌≡◌, ◌<◌, ◌^◌, ℕ, List, [], IfNone, IfOk, IfSome, OnOk, Some, length, slice_get};
-ghost use Rattle.auto_table.specs.Lists.{Has};
+ghost use Rattle.lists.specs.Lists.{Has};
 ghost use Rattle.post_star.specs.declared.bases.BaseStep.{BaseStep as AStep};
 ghost use Rattle.call_side.specs.Indexed.{AreHomes, AreSpread, IsFiledBy, IsHome, MayComeHome, below_key};
 ghost use Rattle.call_side.specs.Trails.{AreBackward, AreKept, IsBack};
 
 use super::origin::{Origin, marks_back};
-use auto_table::NoMemory;
 use indexmap::IndexSet;
+use lists::NoMemory;
 use post_star::BaseStep;
 use post_star::by_key::ByKey;
 use post_star::key::Key;

@@ -1,12 +1,12 @@
 //! Base steps with an index.
 ghost use Rattle.std.specs.Prelude.{◌≡◌, ◌↔◌, ℕ, List, [], IfNone, IfOk, IfSome, OnOk};
-ghost use Rattle.auto_table.specs.Lists.{Has};
+ghost use Rattle.lists.specs.Lists.{Has};
 ghost use Rattle.post_star.specs.declared.bases.BaseStep.{BaseStep as AStep};
 ghost use Rattle.post_star.specs.Derivations.{Leads, step_of};
 ghost use Rattle.call_side.specs.Indexed.{AreFiled};
 
 use super::homes::{Homes, find_homes};
-use auto_table::NoMemory;
+use lists::NoMemory;
 use post_star::by_key::ByKey;
 use post_star::key::Key;
 use post_star::{BaseStep, Bases};
@@ -26,11 +26,9 @@ pub struct IndexedBases {
 }
 
 impl Model for IndexedBases {
-    ghost use Rattle.call_side.specs.Indexed.{BaseList};
+    ghost use Rattle.call_side.specs.Indexed.{BaseList, AreIndexed};
 
     ghost Value = { BaseList };
-
-    ghost use Rattle.call_side.specs.Indexed.{AreIndexed};
 
     ghost view = { λ b. record { steps = b.steps.items; last = b.last } };
 

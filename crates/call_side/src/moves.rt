@@ -3,13 +3,14 @@ ghost use Rattle.std.specs.Prelude.{◌≡◌, ◌≢◌, ◌↔◌, ℕ, IfOk, 
 ghost use Rattle.auto_table.specs.declared.entry.Entry.{Entry as AnEntry};
 ghost use Rattle.auto_table.specs.declared.entry.Entry.TheVariants.{Base};
 ghost use Rattle.auto_table.specs.Cells.{Cells, link_at};
-ghost use Rattle.auto_table.specs.Lists.{Has};
+ghost use Rattle.lists.specs.Lists.{Has};
 ghost use Rattle.weight_laws.specs.declared.reach.Reach.{Reach as AReach};
 ghost use Rattle.weight_laws.specs.Reach.{reach_domain};
 ghost use Rattle.call_side.specs.Words.{Moves};
 
 use super::indexed::IndexedBases;
-use auto_table::{Entry, Linked, NoMemory, Table};
+use auto_table::{Entry, Linked, Table};
+use lists::NoMemory;
 use post_star::BaseStep;
 use std::alloc::Global;
 use weight_laws::Reach;

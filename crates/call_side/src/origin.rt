@@ -2,7 +2,7 @@
 ghost use Rattle.std.specs.Prelude.{◌<◌, IfOk, length};
 ghost use Rattle.call_side.specs.Trails.{AreBackward, IsBack};
 
-use auto_table::NoMemory;
+use lists::NoMemory;
 use std::alloc::Global;
 
 /// By the mark, from the element with the number.

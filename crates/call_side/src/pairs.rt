@@ -1,12 +1,13 @@
 //! The pairs of entries that a search has seen.
 ghost use Rattle.std.specs.Prelude.{◌≡◌, ◌<◌, ◌^◌, ℕ, List, [], IsTrue, OnOk, length, slice_get};
-ghost use Rattle.auto_table.specs.Lists.{Has};
+ghost use Rattle.lists.specs.Lists.{Has};
 ghost use Rattle.call_side.specs.Search.{Asked, IsTrail, MayCome, SpellBoth};
 ghost use Rattle.call_side.specs.Trails.{AreKept};
 
 use super::origin::Origin;
-use auto_table::{Entry, NoMemory};
+use auto_table::Entry;
 use indexmap::IndexSet;
+use lists::NoMemory;
 use std::alloc::Global;
 
 /// An entry of each of two tables.

@@ -2,7 +2,7 @@
 //! and stops at the first of which the rest is known.
 ghost use Rattle.std.specs.Prelude.{◌≡◌, ◌<◌, ◌++◌, ℕ, List, IfNone, IfOk, IfSome, OnOk, Some, length, reverse, slice_get};
 ghost use Rattle.auto_table.specs.declared.entry.Entry.TheVariants.{Base};
-ghost use Rattle.auto_table.specs.Lists.{Has};
+ghost use Rattle.lists.specs.Lists.{Has};
 ghost use Rattle.call_side.specs.declared.pairs.Pair.{Pair as APair};
 ghost use Rattle.call_side.specs.Search.{AreBegun, Came, IsEnd, IsLedOn, IsShared, IsTrail, MoveBoth, ShareNone, SpellBoth, asked, last_pair};
 ghost use Rattle.call_side.specs.Trails.{AreBackward, AreKept, IsBack};
@@ -11,7 +11,8 @@ use super::moves::{marks, nexts};
 use super::origin::{Origin, marks_back};
 use super::pairs::{Pair, Seen};
 use super::question::Question;
-use auto_table::{Entry, NoMemory};
+use auto_table::Entry;
+use lists::NoMemory;
 use std::alloc::Global;
 
 // Puts the pairs of an entry and each of the second ones in.

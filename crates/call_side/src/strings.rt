@@ -5,9 +5,9 @@ ghost use Rattle.call_side.specs.Bases.{AreCallSteps, AreLed, AreStepsUpTo, AreS
 ghost use Rattle.call_side.specs.Calls.{AreTheCalls};
 
 use super::calls::Calls;
-use auto_table::NoMemory;
 use link_program::Linked;
 use link_sites::Place;
+use lists::NoMemory;
 use post_star::BaseStep;
 use std::alloc::Global;
 

@@ -1,8 +1,7 @@
 -- A line gives one fact.
 use Rattle.std.proofs.Common.{◌≡◌, ℕ, zero, suc, ◌+◌, ◌≤◌, List, [], ◌∷◌, ◌++◌, Option, Some, length, take, refl, sym, ap, subst, ◌∙◌, arith}
 use Rattle.std.proofs.lemmas.List.{take_all}
-use Rattle.jim_ast.proofs.Places.{slice_get-there}
-use Rattle.lists.proofs.Places.{take-next}
+use Rattle.lists.proofs.Places.{slice_get-there, take-next}
 use Rattle.link_rules.specs.Linked.{LinkedProgram}
 use Rattle.link_sites.specs.declared.place.Place.{Place}
 use Rattle.link_sites.specs.declared.site.Site.{Site}

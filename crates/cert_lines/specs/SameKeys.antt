@@ -8,7 +8,7 @@ use Rattle.demand_set.proofs.SameSite.{same_site}
 use Rattle.cert_rules.specs.declared.fact.Fact.{Fact}
 use Rattle.cert_rules.specs.declared.fact.Fact.TheVariants.{At, Link, Shared, Met}
 use Rattle.cert_rules.specs.contracts.fact.FactPartialEq.TheImpl as fact
-use Rattle.cert_text.proofs.Same.{same_entry, same_side}
+use Rattle.cert_rules.proofs.Same.{same_entry, same_side}
 use Rattle.cert_lines.specs.declared.keys.Known.{Known}
 use Rattle.cert_lines.specs.declared.keys.Origin.{Origin}
 use Rattle.cert_lines.specs.declared.keys.Spot.{Spot}

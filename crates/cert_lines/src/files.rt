@@ -1,10 +1,9 @@
 //! Elements by their keys, which come one by one.
 ghost use Rattle.std.specs.Prelude.{◌≡◌, ◌↔◌, ◌⊎◌, [], OnOk};
-ghost use Rattle.jim_ast.specs.Lists.{Has};
+ghost use Rattle.lists.specs.Lists.{Has};
 ghost use Rattle.lists.specs.Groups.{found_at};
 
-use jim_ast::NoMemory;
-use lists::{Key, Numbered};
+use lists::{Key, NoMemory, Numbered};
 use std::alloc::Global;
 use std::marker::Model;
 

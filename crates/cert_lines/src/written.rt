@@ -4,8 +4,7 @@ ghost use Rattle.cert_lines.specs.Noted.{GivesAt, IsBettered, IsNotedIn, IsShort
 
 use super::keys::Known;
 use cert_rules::{Fact, Line};
-use jim_ast::NoMemory;
-use lists::Numbered;
+use lists::{NoMemory, Numbered};
 use std::alloc::{AllocError, Global};
 use std::marker::Model;
 

@@ -7,8 +7,7 @@ use Rattle.std.proofs.lemmas.List.{length-map}
 use Rattle.std.proofs.lemmas.Map.Made.{is_member-Decides}
 use Rattle.std.proofs.lemmas.Option.{slice_get-get_or}
 use Rattle.lists.specs.Lists.{Has}
-use Rattle.lists.proofs.Places.{slice_get-below, slice_get-there}
-use Rattle.jim_ast.proofs.Places.{slice_get-extensional}
+use Rattle.lists.proofs.Places.{slice_get-below, slice_get-there, slice_get-extensional}
 use Rattle.link_program.proofs.Found.{from_map}
 use Rattle.cert_rules.specs.declared.line.Line.{Line}
 use Rattle.cert_make.specs.Needs.{CiteBack, IsNeeded, renumbered}

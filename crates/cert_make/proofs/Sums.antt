@@ -7,7 +7,7 @@ use Rattle.cert_rules.specs.declared.line.Line.{Line}
 use Rattle.cert_rules.specs.declared.line.Line.TheVariants as line
 use Rattle.cert_rules.specs.declared.line.Side.TheVariants.{Field, Call}
 use Rattle.cert_rules.specs.Lengths.{HasLength, cited_length, length_by, lengths_behind, lengths_of}
-use Rattle.cert_make.specs.Lengths.{as_told}
+use Rattle.cert_rules.specs.Told.{as_told}
 use Rattle.cert_make.specs.Needs.{CitesLine, renumbered}
 use Rattle.cert_make.proofs.Marks.{IsAnew, IsMarked, rank, selected}
 use Rattle.cert_make.proofs.Selecting.{selected-none, selected-push_marked, selected-push_other, selected_at}

@@ -1,10 +1,10 @@
 //! How long the field derivation is that a certificate writes down.
 ghost use Rattle.std.specs.Prelude.{◌≡◌, ℕ, IfOk, List, map};
 ghost use Rattle.cert_rules.specs.Lengths.{HasLength, cited_length, length_by, lengths_of};
-ghost use Rattle.cert_make.specs.Lengths.{as_told};
+ghost use Rattle.cert_rules.specs.Told.{as_told};
 
 use cert_rules::{Certificate, Line, Side};
-use jim_ast::NoMemory;
+use lists::NoMemory;
 use std::alloc::Global;
 
 // The length with the number, from 1; 0 where there is none.

@@ -5,8 +5,7 @@ ghost use Rattle.cert_make.specs.Needs.{CiteBack, IsNeeded, numbers_of};
 ghost use Rattle.cert_make.specs.Numbers.{AreNumbers, IsGrownBy, up_to};
 
 use cert_rules::Line;
-use jim_ast::NoMemory;
-use lists::Numbered;
+use lists::{NoMemory, Numbered};
 use std::alloc::Global;
 use std::marker::Model;
 

@@ -5,8 +5,9 @@ ghost use Rattle.cert_make.specs.Numbers.{up_to};
 
 use super::needs::Needed;
 use cert_rules::Line;
-use jim_ast::{List, NoMemory};
+use jim_ast::List;
 use link_sites::Place;
+use lists::NoMemory;
 use std::alloc::Global;
 
 // The new numbers of those that are cited.

@@ -14,7 +14,7 @@ ghost use Rattle.cert_make.specs.Numbers.{AreAnew};
 use super::needs::{Needed, needs_of};
 use super::renumber::renumbered;
 use cert_rules::Line;
-use jim_ast::NoMemory;
+use lists::NoMemory;
 use std::alloc::{AllocError, Global};
 
 /// The numbers, from 1, of the two lines that a claim cites.

@@ -3,7 +3,7 @@ use Rattle.std.proofs.Common.{◌≡◌, ℕ, sym, ◌∙◌, inl, inr, arith}
 use Rattle.link_rules.specs.Linked.{LinkedProgram}
 use Rattle.link_sites.specs.declared.site.Site.{Site}
 use Rattle.spds_rules.specs.declared.node.Node.{Node}
-use Rattle.demand_walk.proofs.Counts.{length-IsApart}
+use Rattle.demand_set.proofs.Counts.{length-IsApart}
 use Rattle.cert_rules.specs.declared.certificate.Certificate.{Certificate}
 use Rattle.cert_query.specs.Replays.{IsAccepted, IsAskable, IsOverBudget, IsRejectedAt}
 use Rattle.cert_query.proofs.Rejections.{certified_kept, rejected_one}

@@ -3,7 +3,8 @@ use Rattle.std.specs.Prelude.{◌≡◌, ℕ, ◌≤◌, ◌⊎◌}
 use Rattle.link_rules.specs.Linked.{LinkedProgram}
 use Rattle.link_sites.specs.declared.site.Site.{Site}
 use Rattle.spds_rules.specs.declared.node.Node.{Node}
-use Rattle.spds_rules.specs.Demand.{Counts, Demand, HasMore}
+use Rattle.spds_rules.specs.Demand.{Demand}
+use Rattle.lists.specs.Lists.{Counts, HasMore}
 use Rattle.cert_rules.specs.declared.certificate.Certificate.{Certificate}
 use Rattle.cert_rules.specs.Certified.{IsCertified, IsRejected}
 use Rattle.cert_rules.specs.Given.{about}

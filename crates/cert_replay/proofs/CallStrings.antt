@@ -2,7 +2,7 @@
 use Rattle.std.proofs.Common.{IsTrue, eqb, eqb-true, eq-eqb, true, true≢false, ◌≡◌, ◌↔◌, ℕ, ◌+◌, List, [], ◌∷◌, Bool, false, Option, Some, length, refl, sym, ap, subst, ◌∙◌, arith}
 use Rattle.std.specs.List.{list_any}
 use Rattle.jim_ast.specs.declared.syntax.Mode.{Mode}
-use Rattle.jim_ast.specs.Lists.{Has}
+use Rattle.lists.specs.Lists.{Has}
 use Rattle.link_rules.specs.declared.code.Arg.{Arg}
 use Rattle.link_rules.specs.declared.code.Code.{Code}
 use Rattle.link_rules.specs.declared.code.Code.TheVariants.{Call}
@@ -12,7 +12,7 @@ use Rattle.link_sites.specs.declared.place.Place.{Place}
 use Rattle.link_sites.specs.Places.{CodeAt}
 use Rattle.spds_rules.specs.Systems.{IsString}
 use Rattle.spds_laws.proofs.Strings.{call_string, string_called}
-use Rattle.demand_walk.proofs.Selected.{has-found, not-found}
+use Rattle.demand_set.proofs.Selected.{has-found, not-found}
 use Rattle.cert_laws.proofs.Stores.{one_code}
 
 module _ (p : LinkedProgram) (method : ℕ) where

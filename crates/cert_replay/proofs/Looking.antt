@@ -5,7 +5,7 @@ use Rattle.std.proofs.lemmas.Option.{slice_get_past}
 use Rattle.std.specs.Option.{is_some, option_copied}
 use Rattle.lists.proofs.Places.{slice_get-read}
 use denote.Ref.{Bor}
-use Rattle.jim_ast.specs.Lists.{Has}
+use Rattle.lists.specs.Lists.{Has, AreAll}
 use Rattle.link_laws.proofs.Lists.{at_map, map_at}
 use Rattle.link_rules.specs.Linked.{LinkedProgram}
 use Rattle.link_sites.specs.declared.place.Place.{Place}
@@ -15,7 +15,7 @@ use Rattle.spds_rules.specs.declared.edge.EdgeKind.{EdgeKind}
 use Rattle.spds_rules.specs.declared.edge.EdgeKind.TheVariants as edge
 use Rattle.spds_rules.specs.declared.node.Node.{Node}
 use Rattle.spds_rules.specs.declared.store.StoreAt.{StoreAt}
-use Rattle.spds_rules.specs.Demand.{AreAll, Asked, Demand, EdgeIn, StartIn, StoreIn}
+use Rattle.spds_rules.specs.Demand.{Asked, Demand, EdgeIn, StartIn, StoreIn}
 use Rattle.spds_rules.specs.Nodes.{IsNode, site_of}
 use Rattle.cert_text.proofs.NodeWords.{none_iff, some_iff}
 use Rattle.cert_replay.specs.declared.edges.Joined.{Joined}

@@ -1,15 +1,14 @@
 -- What is true of the edges of a list.
 use Rattle.std.proofs.Common.{◌≡◌, ◌↔◌, ◌⊎◌, ℕ, ◌+◌, ◌≤◌, List, [], ◌∷◌, ◌++◌, Some, false, length, map, slice_get, take, refl, sym, ap, subst, ◌∙◌, inl, inr, arith}
 use Rattle.std.proofs.lemmas.List.{take_all}
-use Rattle.jim_ast.specs.Lists.{Adds, Has, IsApart}
-use Rattle.jim_ast.proofs.Places.{slice_get-append_left, slice_get-push, slice_get-pushed}
+use Rattle.lists.specs.Lists.{Adds, Has, IsApart}
+use Rattle.lists.proofs.Places.{slice_get-append_left, slice_get-push, slice_get-pushed, take-next}
 use Rattle.link_laws.proofs.Lists.{at_map, map_at}
 use Rattle.spds_rules.specs.declared.edge.Edge.{Edge}
 use Rattle.spds_rules.specs.declared.edge.EdgeKind.TheVariants.{Flow}
 use Rattle.spds_rules.specs.declared.node.Node.{Node}
 use Rattle.spds_rules.specs.declared.node.Var.TheVariants.{Local}
 use Rattle.spds_rules.specs.declared.store.StoreAt.{StoreAt}
-use Rattle.lists.proofs.Places.{take-next}
 use Rattle.cert_replay.specs.declared.edges.Joined.{Joined}
 use Rattle.cert_replay.specs.declared.edges.Step.{Step}
 use Rattle.cert_replay.specs.declared.edges.Way.{Way}

@@ -1,10 +1,10 @@
 -- Each pair of nodes stands at one place of those that the demanded stores join.
 use Rattle.std.proofs.Common.{◌≡◌, List, Some, map, slice_get, sym, ap, subst, ◌∙◌}
-use Rattle.jim_ast.specs.Lists.{IsApart}
+use Rattle.lists.specs.Lists.{IsApart, AreAll}
 use Rattle.link_rules.specs.Linked.{LinkedProgram}
 use Rattle.link_laws.proofs.Lists.{at_map}
 use Rattle.spds_rules.specs.declared.store.StoreAt.{StoreAt}
-use Rattle.spds_rules.specs.Demand.{AreAll, Asked, StoreIn}
+use Rattle.spds_rules.specs.Demand.{Asked, StoreIn}
 use Rattle.cert_laws.proofs.Stores.{store_one}
 use Rattle.cert_replay.specs.Joins.{joined_by}
 

@@ -1,6 +1,6 @@
 -- Edges and stores by the nodes that they join.
 use Rattle.std.specs.Prelude.{◌≡◌, List}
-use Rattle.jim_ast.specs.Lists.{Has}
+use Rattle.lists.specs.Lists.{Has}
 use Rattle.spds_rules.specs.declared.edge.Edge.{Edge}
 use Rattle.spds_rules.specs.declared.edge.EdgeKind.{EdgeKind}
 use Rattle.spds_rules.specs.declared.edge.EdgeKind.TheVariants.{Flow, Load, Call, Return, Jump}

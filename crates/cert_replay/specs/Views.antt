@@ -1,6 +1,6 @@
 -- What a replay looks at.
 use Rattle.std.specs.Prelude.{◌≡◌, ◌↔◌, map}
-use Rattle.jim_ast.specs.Lists.{Has}
+use Rattle.lists.specs.Lists.{Has}
 use Rattle.demand_set.specs.Demands.{DemandParts, IsDemandOf}
 use Rattle.cert_rules.specs.Given.{about}
 use Rattle.cert_replay.specs.declared.edges.Step.{Step}

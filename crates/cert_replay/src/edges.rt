@@ -1,10 +1,9 @@
 //! Edges and stores, looked up by the nodes that they join.
 ghost use Rattle.std.specs.Prelude.{◌≡◌, ◌↔◌, ◌⊎◌, IfOk, IsTrue, OnOk, map};
-ghost use Rattle.jim_ast.specs.Lists.{Has, IsApart};
+ghost use Rattle.lists.specs.Lists.{Has, IsApart};
 ghost use Rattle.cert_replay.specs.Joins.{AnyStep, Goes, HasStep, IsStepAlong, IsStepOf, joined_by};
 
-use jim_ast::NoMemory;
-use lists::{Key, Numbered};
+use lists::{Key, NoMemory, Numbered};
 use spds_rules::{Edge, EdgeKind, Node, StoreAt};
 use std::alloc::Global;
 
@@ -59,10 +58,10 @@ impl Key for Step {
     ghost use Rattle.std.proofs.Common.{◌≡◌, rules, true};
     ghost use Rattle.std.proofs.lemmas.Bool.{and_parts};
     ghost use Rattle.spds_rules.specs.contracts.node.NodePartialEq.TheImpl as node;
-    ghost use Rattle.spds_rules.proofs.Keys.{same_node};
     ghost use Rattle.cert_replay.specs.contracts.edges.JoinedPartialEq.TheImpl as joined;
     ghost use Rattle.cert_replay.specs.contracts.edges.WayPartialEq.TheImpl as way;
-    ghost use Rattle.cert_text.proofs.Same.{same_kind};
+    ghost use Rattle.spds_rules.proofs.Keys.{same_node};
+    ghost use Rattle.cert_rules.proofs.Same.{same_kind};
     ghost use Rattle.cert_replay.specs.Spread.{joined_spread};
 
     ghost spread = { λ s. joined_spread s.joined };

@@ -1,5 +1,5 @@
 //! Why a certificate isn't accepted.
-use jim_ast::NoMemory;
+use lists::NoMemory;
 use std::alloc::AllocFailed;
 
 /// Why no claim was accepted.

@@ -1,6 +1,6 @@
 //! What a replay looks at: the program, and the demand of the query by look-ups.
 ghost use Rattle.std.specs.Prelude.{◌≡◌, ◌↔◌, IfOk, IsTrue, Some, map};
-ghost use Rattle.jim_ast.specs.Lists.{IsApart};
+ghost use Rattle.lists.specs.Lists.{IsApart};
 ghost use Rattle.link_sites.specs.declared.site.Site.{Site as AnySite};
 ghost use Rattle.spds_rules.specs.declared.edge.EdgeKind.{EdgeKind as AnyKind};
 ghost use Rattle.spds_rules.specs.declared.edge.EdgeKind.TheVariants.{Return};
@@ -14,12 +14,11 @@ ghost use Rattle.cert_replay.specs.Views.{AreTables, IsView};
 use super::edges::{Joined, Step, Way, steps_along, stored};
 use cert_rules::Side;
 use demand_set::Demand;
-use jim_ast::NoMemory;
 use link_program::Linked;
 use link_sites::Site;
-use lists::Numbered;
-use spds_nodes::{is_node, site_of};
-use spds_rules::{EdgeKind, Node, StoreAt};
+use lists::{NoMemory, Numbered};
+use spds_nodes::is_node;
+use spds_rules::{EdgeKind, Node, StoreAt, site_of};
 use std::alloc::Global;
 
 /// What is true of the edges of a demand, and the nodes that its stores join, in their order.

@@ -3,10 +3,11 @@ ghost use Rattle.std.specs.Prelude.{◌+◌, ◌^◌, ◌<◌, length};
 
 use super::programs::{BOX, NESTED, STATIC, TEXT, TWO_CALLS};
 use cert_replay::{Certificate, ReplayError, read_cert, replay};
-use demand_set::{Reach, demand};
-use jim_ast::NoMemory;
+use demand_set::Reach;
 use link_program::Linked;
 use linked_text::{Rows, first_wrong};
+use lists::NoMemory;
+use program_demand::demand;
 use spds_nodes::is_node;
 use std::alloc::Global;
 use std::test::Fail;

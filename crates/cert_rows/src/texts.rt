@@ -1,6 +1,6 @@
 //! Texts, with what is read of each. In a row `;` stands for a line feed.
 use cert_text::{CertError, cert_text, read_cert};
-use jim_ast::NoMemory;
+use lists::NoMemory;
 use std::alloc::Global;
 use std::test::Fail;
 

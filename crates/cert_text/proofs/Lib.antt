@@ -4,5 +4,4 @@ pub mod NodeWords
 pub mod LineWords
 pub mod TextLines
 pub mod ListWords
-pub mod Same
 pub mod OneText

@@ -6,7 +6,7 @@ use Rattle.std.proofs.lemmas.Bool.{cases_lt}
 use Rattle.std.proofs.lemmas.List.{append-nil, length-map}
 use Rattle.std.proofs.lemmas.List.Elements.{All-head, All-tail}
 use Rattle.std.proofs.lemmas.List.Splits.{join_with_byte-slice_split}
-use Rattle.jim_ast.specs.Lists.{Has}
+use Rattle.lists.specs.Lists.{Has}
 use Rattle.link_sites.specs.declared.place.Place.{Place}
 use Rattle.spds_rules.specs.declared.node.Node.{Node}
 use Rattle.cert_rules.specs.declared.line.Line.{Line}
@@ -18,7 +18,8 @@ use Rattle.cert_text.specs.declared.heads.Head.{Head}
 use Rattle.cert_text.specs.declared.heads.Head.TheVariants.{Start, Flow, Push, Link, Pop, Base}
 use Rattle.cert_text.specs.Heads.{head_text, line_of_five, line_of_four}
 use Rattle.cert_text.specs.Words.{AreWordsOf, SpellsNode, SpellsNumber, SpellsNumbers, SpellsString, texts}
-use Rattle.cert_text.proofs.Marks.{AreAbove, IsAbove, above_append, above_join, above_lacks, above_lower, cut_first, has_between, split_join, words_lack}
+use Rattle.cert_text.proofs.Marks.{AreAbove, IsAbove, above_append, above_join, above_lacks, above_lower, split_join, words_lack}
+use Rattle.lists.proofs.Cutting.{cut_first, has_between}
 use Rattle.cert_text.proofs.Numerals.{decimal_above}
 use Rattle.cert_text.proofs.NodeWords.{call_above, differ, differ_length, node_above, none_iff, some_one}
 

@@ -1,45 +1,19 @@
 -- Marks between words, and words without them.
 use Rattle.std.proofs.Common.{◌≡◌, ℕ, zero, suc, ◌<◌, ◌≤◌, ◌==◌, false, List, [], ◌∷◌, ◌++◌, Some, All, Bor, length, refl, sym, ap, subst, ◌∙◌, arith, eq-eqb, append_assoc}
 use Rattle.std.specs.List.{join_with_byte, slice_split}
-use Rattle.std.proofs.lemmas.List.Elements.{All-cons, All-nil}
 use Rattle.std.proofs.lemmas.List.Splits.{slice_split_at, slice_split_none}
-use borrow.Author.Tests.{ne_eqb}
-use Rattle.jim_ast.specs.Lists.{Has}
+use Rattle.lists.specs.Lists.{Has}
+use Rattle.lists.proofs.Cutting.{all_other}
 use Rattle.cert_text.specs.Words.{texts}
 
--- a mark between two lists stands in both together
-pub has_between : (xs ys : List ℕ) (c : ℕ) → Has (xs ++ c ∷ ys) c
-has_between [] ys c = (0, refl)
-has_between (x ∷ xs) ys c = let rest = has_between xs ys c in (suc rest.0, rest.1)
-
-pub has_more : (x c : ℕ) (xs : List ℕ) → Has xs c → Has (x ∷ xs) c
-has_more x c xs h = (suc h.0, h.1)
-
 module _ (c : ℕ) where
-  -- a list is cut in one way at the first place of a mark
-  pub cut_first : (xs ys zs ws : List ℕ) → (Has xs c → ⊥) → (Has zs c → ⊥) → xs ++ c ∷ ys ≡ zs ++ c ∷ ws → (xs ≡ zs) × (ys ≡ ws)
-  cut_first [] ys [] ws p q e = (refl, cc)
-  cut_first [] ys (z ∷ zs) ws p q e = let same : z ≡ c = cc in absurd (q (0, ap Some same))
-  cut_first (x ∷ xs) ys [] ws p q e = let same : x ≡ c = cc in absurd (p (0, ap Some same))
-  cut_first (x ∷ xs) ys (z ∷ zs) ws p q e =
-      let first : x ≡ z = cc in
-      let rest : xs ++ c ∷ ys ≡ zs ++ c ∷ ws = cc in
-      let more = cut_first xs ys zs ws (λ h. p (has_more x c xs h)) (λ h. q (has_more z c zs h)) rest in
-      (cc (first, more.0), more.1)
-
-  -- no place of a list without the mark passes the test for it
-  all_other : (xs : List ℕ) → (Has xs c → ⊥) → All (λ x. (x == c) ≡ false) xs
-  all_other [] none = All-nil (λ x. (x == c) ≡ false)
-  all_other (x ∷ xs) none =
-      All-cons (λ y. (y == c) ≡ false) x xs (ne_eqb x c (λ e. none (0, ap Some e))) (all_other xs (λ h. none (has_more x c xs h)))
-
   -- words without the mark, joined by it, are cut into these words
   pub split_join : (words : List (List ℕ)) → 0 < length words → ((word : List ℕ) → Has words word → Has word c → ⊥)
       → slice_split (λ b. b == c) (join_with_byte c words) ≡ words
   split_join [] some lacks = absurd (omega arith)
-  split_join (x ∷ []) some lacks = slice_split_none (λ b. b == c) x (all_other x (lacks x (0, refl)))
+  split_join (x ∷ []) some lacks = slice_split_none (λ b. b == c) x (all_other c x (lacks x (0, refl)))
   split_join (x ∷ y ∷ words) some lacks =
-      slice_split_at (λ b. b == c) x c (join_with_byte c (y ∷ words)) (all_other x (lacks x (0, refl))) (eq-eqb c c refl)
+      slice_split_at (λ b. b == c) x c (join_with_byte c (y ∷ words)) (all_other c x (lacks x (0, refl))) (eq-eqb c c refl)
       ∙ ap (λ l. x ∷ l) (split_join (y ∷ words) (omega arith) (λ word h. lacks word (suc h.0, h.1)))
 
 -- all bytes are above the bound

@@ -5,14 +5,15 @@ use Rattle.std.specs.Str.Parse.{AllDigits}
 use Rattle.std.proofs.lemmas.Fmt.{decimal_is_IsNumeral}
 use Rattle.std.proofs.lemmas.Str.Parse.{digit_from_value}
 use Rattle.std.proofs.lemmas.List.{append-nil}
-use Rattle.jim_ast.specs.Lists.{Has}
+use Rattle.lists.specs.Lists.{Has}
 use Rattle.link_sites.specs.declared.place.Place.{Place}
 use Rattle.spds_rules.specs.declared.node.Node.{Node}
 use Rattle.spds_rules.specs.declared.node.Var.{Var}
 use Rattle.spds_rules.specs.declared.node.Var.TheVariants.{Local, This, Param, Caught, Thrown, Made, Nested, Raised, Text, Class}
 use Rattle.cert_rules.specs.Spelled.{FitsCall, FitsNode, FitsVar, call_text, flight_mark, node_text, var_text}
 use Rattle.cert_text.specs.Words.{IsNamed, IsNumbered, SpellsCall, SpellsIndex, SpellsNode, SpellsNumber, SpellsVar}
-use Rattle.cert_text.proofs.Marks.{IsAbove, above_append, above_lacks, above_lower, cut_first, has_between}
+use Rattle.cert_text.proofs.Marks.{IsAbove, above_append, above_lacks, above_lower}
+use Rattle.lists.proofs.Cutting.{cut_first, has_between}
 use Rattle.cert_text.proofs.Numerals.{decimal_above, number_one}
 
 -- nothing is read where nothing is spelled

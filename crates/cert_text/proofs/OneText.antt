@@ -3,9 +3,8 @@ use Rattle.std.proofs.Common.{◌≡◌, ◌↔◌, ◌⊎◌, ℕ, zero, suc, �
 use Rattle.std.specs.Fmt.{decimal}
 use Rattle.std.specs.List.{slice_split}
 use Rattle.std.proofs.lemmas.Bool.{cases_lt}
-use Rattle.jim_ast.specs.Lists.{Has}
-use Rattle.jim_ast.proofs.Places.{slice_get-there}
-use Rattle.link_rules.specs.Lists.{Each}
+use Rattle.lists.specs.Lists.{Has, Each}
+use Rattle.lists.proofs.Places.{slice_get-there}
 use Rattle.link_laws.proofs.Lists.{each_left}
 use Rattle.link_sites.specs.declared.place.Place.{Place}
 use Rattle.spds_rules.specs.declared.node.Node.{Node}
@@ -23,7 +22,8 @@ use Rattle.cert_text.specs.Heads.{head_text, line_of_five, line_of_four}
 use Rattle.cert_text.specs.Words.{AreWordsOf, IsNamed, IsNumbered, SpellsIndex, SpellsNode, SpellsNumber, SpellsNumbers, SpellsString}
 use Rattle.cert_text.proofs.LineWords.{calls_cut, claim_iff, five, four, line_iff, numbers_cut, shared_iff, start_iff, target_node}
 use Rattle.cert_text.proofs.ListWords.{dash_iff, roomy_one, texts_one}
-use Rattle.cert_text.proofs.Marks.{IsAbove, above_lacks, has_more}
+use Rattle.cert_text.proofs.Marks.{IsAbove, above_lacks}
+use Rattle.lists.proofs.Cutting.{has_more}
 use Rattle.cert_text.proofs.NodeWords.{call_one, differ, differ_length, index_marked, marked_none, named_only, named_or_numbered, node_parts, plain_index, some_iff, some_one, unmarked}
 use Rattle.cert_text.proofs.Numerals.{decimal_above, number_one}
 use Rattle.cert_text.proofs.TextLines.{lines_one}

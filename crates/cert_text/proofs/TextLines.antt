@@ -3,9 +3,8 @@ use Rattle.std.proofs.Common.{◌≡◌, ℕ, zero, suc, ◌+◌, ◌-◌, ◌<�
 use Rattle.std.specs.List.{join_with_byte, onto_first, slice_split}
 use Rattle.std.proofs.lemmas.List.{append-nil, length-map, take_rest}
 use Rattle.std.proofs.lemmas.List.Splits.{join_with_byte-slice_split, length-slice_split}
-use Rattle.jim_ast.specs.Lists.{Has}
-use Rattle.jim_ast.proofs.Places.{slice_get-below, slice_get-push, slice_get-append_left, slice_get-pushed, slice_get-there}
-use Rattle.link_rules.specs.Lists.{Each}
+use Rattle.lists.specs.Lists.{Has, Each}
+use Rattle.lists.proofs.Places.{slice_get-below, slice_get-push, slice_get-append_left, slice_get-pushed, slice_get-there}
 use Rattle.link_laws.proofs.Lists.{all_at, at_all, at_map, each_left, each_right, map_at}
 use Rattle.spds_rules.specs.declared.node.Node.{Node}
 use Rattle.cert_rules.specs.declared.certificate.Certificate.{Certificate}

@@ -6,8 +6,9 @@ ghost use Rattle.cert_text.specs.Words.{AreCalls, AreNumbers, SpellsNumbers, Spe
 use super::cuts::parts;
 use super::nodes::call;
 use super::numbers::number;
-use jim_ast::{List, NoMemory};
+use jim_ast::List;
 use link_sites::Place;
+use lists::NoMemory;
 use std::alloc::Global;
 
 // The numbers that words spell.

@@ -1,10 +1,10 @@
 //! Texts cut at marks.
 ghost use Rattle.std.specs.Prelude.{◌≡◌, ◌==◌, ◌++◌, ◌∷◌, IfNone, IfOk, IfSome};
 ghost use Rattle.std.specs.List.{slice_split};
-ghost use Rattle.jim_ast.specs.Lists.{Has};
+ghost use Rattle.lists.specs.Lists.{Has};
 ghost use Rattle.cert_text.specs.Words.{texts};
 
-use jim_ast::NoMemory;
+use lists::NoMemory;
 use std::alloc::Global;
 
 /// What stands before the first mark, and what stands behind it.

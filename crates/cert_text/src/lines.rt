@@ -11,7 +11,7 @@ use super::heads::{Head, head_of, side_of};
 use super::nodes::node;
 use super::numbers::number;
 use cert_rules::{Line, Side};
-use jim_ast::NoMemory;
+use lists::NoMemory;
 use spds_rules::Node;
 use std::alloc::Global;
 

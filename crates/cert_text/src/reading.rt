@@ -1,6 +1,6 @@
 //! A text as a certificate.
 ghost use Rattle.std.specs.Prelude.{◌≡◌, ◌↔◌, ◌+◌, ◌^◌, ◌<◌, ℕ, List as Items, Err, Some, IfOk, MatchResult, length};
-ghost use Rattle.link_rules.specs.Lists.{Each};
+ghost use Rattle.lists.specs.Lists.{Each};
 ghost use Rattle.spds_rules.specs.declared.node.Node.{Node as AnyNode};
 ghost use Rattle.cert_rules.specs.declared.certificate.Certificate.{Certificate as AnyCertificate};
 ghost use Rattle.cert_rules.specs.declared.line.Line.{Line as AnyLine};
@@ -12,7 +12,8 @@ use super::error::CertError;
 use super::lines::line;
 use super::nodes::node;
 use cert_rules::{Certificate, Line};
-use jim_ast::{List, NoMemory};
+use jim_ast::List;
+use lists::NoMemory;
 use spds_rules::Node;
 use std::alloc::Global;
 

@@ -5,8 +5,8 @@ ghost use Rattle.cert_rules.specs.Spelled.{FitsLine, FitsNode, SpellsCertificate
 ghost use Rattle.cert_text.specs.Written.{written_lines};
 
 use cert_rules::{Certificate, Line, Side};
-use jim_ast::NoMemory;
 use link_sites::Place;
+use lists::NoMemory;
 use spds_rules::{Node, Var};
 use std::alloc::Global;
 

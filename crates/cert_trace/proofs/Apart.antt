@@ -20,7 +20,7 @@ use Rattle.cert_laws.proofs.OneFact.{gives_one}
 use Rattle.cert_laws.proofs.Sound.{some_same}
 use Rattle.cert_laws.proofs.Writing.{Keeps_cited}
 use Rattle.cert_lines.specs.Noted.{IsThere, Noted, length_at, with_line}
-use Rattle.cert_make.specs.Lengths.{as_told}
+use Rattle.cert_rules.specs.Told.{as_told}
 use Rattle.cert_work.specs.Added.{AreAdded, length_told}
 use Rattle.cert_work.proofs.Growing.{cited_kept, cites_kept, there_more}
 use Rattle.cert_trace.specs.Fitting.{IsWellRead}

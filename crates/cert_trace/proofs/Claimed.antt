@@ -13,10 +13,10 @@ use Rattle.cert_rules.specs.Certified.{AreGiven}
 use Rattle.cert_rules.specs.Given.{Cites, about}
 use Rattle.cert_rules.specs.Lengths.{CanClaim, IsShortest, cited_length, lengths_of}
 use Rattle.cert_lines.specs.Noted.{IsShortestOf, IsThere, Noted}
-use Rattle.cert_make.specs.Lengths.{as_told}
-use Rattle.cert_reads.specs.Closed.{AreClosed}
-use Rattle.cert_reads.proofs.Held.{calls_held, fields_held}
-use Rattle.cert_reads.proofs.Told.{closed_shortest}
+use Rattle.cert_rules.specs.Told.{as_told}
+use Rattle.cert_trace.specs.Closed.{AreClosed}
+use Rattle.cert_trace.proofs.Held.{calls_held, fields_held}
+use Rattle.cert_trace.proofs.Told.{closed_shortest}
 
 module _ (p : LinkedProgram) (t : Node) (w : Noted) (closed : AreClosed p t w (Meets p (about t))) where
   pub field_there : (o : Site) → IsAnswered p (about t) t o → (most : ℕ) × IsThere w (At Field o Base t) most

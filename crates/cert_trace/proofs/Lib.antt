@@ -1,4 +1,9 @@
+mod Held
+mod Read
+mod Told
+mod Wanted
 mod Traced
 mod Claimed
 mod Unraised
 mod Apart
+mod Shown

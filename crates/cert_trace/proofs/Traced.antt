@@ -1,6 +1,6 @@
 -- Lines that are closed over meets, one meet after another.
 use Rattle.std.proofs.Common.{◌≡◌, inl, inr, ℕ, ◌+◌, List, [], ◌∷◌, ◌++◌, Some, length, map, slice_get, take, refl, subst}
-use Rattle.jim_ast.specs.Lists.{Has}
+use Rattle.lists.specs.Lists.{Has}
 use Rattle.lists.proofs.Places.{slice_get-pushed, take-next}
 use Rattle.link_rules.specs.Linked.{LinkedProgram}
 use Rattle.link_sites.specs.declared.site.Site.{Site}
@@ -16,7 +16,7 @@ use Rattle.cert_rules.specs.Certified.{AreGiven}
 use Rattle.cert_rules.specs.Given.{about}
 use Rattle.cert_rules.specs.Lengths.{lengths_of}
 use Rattle.cert_lines.specs.Noted.{IsThere, Noted}
-use Rattle.cert_make.specs.Lengths.{as_told}
+use Rattle.cert_rules.specs.Told.{as_told}
 use Rattle.cert_work.specs.declared.roads.View.{View}
 use Rattle.cert_work.specs.declared.wants.Wants.{Wants}
 use Rattle.cert_work.specs.declared.work.Work.{Work}
@@ -26,11 +26,11 @@ use Rattle.cert_work.specs.Rules.{AreWorked}
 use Rattle.cert_work.specs.Wants.{AreWants, IsWanted}
 use Rattle.cert_work.specs.Work.{IsWorkOf}
 use Rattle.cert_work.proofs.Growing.{there_more}
-use Rattle.cert_reads.specs.declared.meeting.Meeting.{Meeting}
-use Rattle.cert_reads.specs.Closed.{AreClosedIn}
-use Rattle.cert_reads.specs.Meeting.{IsJustified}
-use Rattle.cert_reads.proofs.Held.{calls_read, fields_held}
-use Rattle.cert_reads.proofs.Told.{added_given, added_told}
+use Rattle.cert_trace.specs.declared.meeting.Meeting.{Meeting}
+use Rattle.cert_trace.specs.Closed.{AreClosedIn}
+use Rattle.cert_trace.specs.Meeting.{IsJustified}
+use Rattle.cert_trace.proofs.Held.{calls_read, fields_held}
+use Rattle.cert_trace.proofs.Told.{added_given, added_told}
 use Rattle.spds_solve.specs.declared.met.Met.{Met}
 use Rattle.spds_solve.specs.Solved.{IsListed, RestsOn, StandsForMeet}
 use Rattle.cert_trace.specs.Resting.{IsTraced, no_lines}

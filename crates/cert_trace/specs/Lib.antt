@@ -1,3 +1,11 @@
-pub mod Resting
+pub mod Closed
+pub mod Readings
+pub mod SameReading
+pub mod Meeting
+pub mod SamePairing
+pub mod Settled
 pub mod Fitting
+pub mod Resting
 pub mod Traces
+pub mod Evidence
+pub mod Explained

@@ -8,7 +8,7 @@ use Rattle.cert_work.specs.declared.roads.View.{View}
 use Rattle.cert_work.specs.declared.work.Work.{Work}
 use Rattle.cert_work.specs.Wants.{AreWants}
 use Rattle.cert_work.specs.Work.{IsWorkOf}
-use Rattle.cert_reads.specs.Closed.{AreClosedIn}
+use Rattle.cert_trace.specs.Closed.{AreClosedIn}
 use Rattle.spds_solve.specs.declared.met.Met.{Met}
 use Rattle.spds_solve.specs.Solved.{IsListed, RestsOn}
 

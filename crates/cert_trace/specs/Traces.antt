@@ -6,11 +6,11 @@ use Rattle.spds_rules.specs.Systems.{Meets}
 use Rattle.cert_rules.specs.Certified.{AreGiven}
 use Rattle.cert_rules.specs.Given.{about}
 use Rattle.cert_rules.specs.Lengths.{lengths_of}
-use Rattle.cert_make.specs.Lengths.{as_told}
+use Rattle.cert_rules.specs.Told.{as_told}
 use Rattle.cert_work.specs.declared.work.Work.{Work}
 use Rattle.cert_work.specs.Work.{AreEndsFiled}
-use Rattle.cert_reads.specs.Closed.{AreClosed}
-use Rattle.cert_reads.specs.Readings.{AreAllFiled}
+use Rattle.cert_trace.specs.Closed.{AreClosed}
+use Rattle.cert_trace.specs.Readings.{AreAllFiled}
 
 -- its lines give their facts for the query of the node, each with its length, they are closed over all meets of the query, and files tell them all, those
 -- that put objects somewhere at ends

@@ -8,7 +8,7 @@ ghost use Rattle.cert_rules.specs.declared.line.Side.TheVariants.{Call as OfCall
 ghost use Rattle.cert_rules.specs.Given.{Cites, about};
 ghost use Rattle.cert_rules.specs.Lengths.{CanClaim};
 ghost use Rattle.cert_work.specs.Work.{TellsAt};
-ghost use Rattle.cert_reads.specs.Readings.{AreAllFiled};
+ghost use Rattle.cert_trace.specs.Readings.{AreAllFiled};
 ghost use Rattle.cert_trace.specs.Traces.{IsTraceOf};
 
 use cert_lines::Spot;
@@ -45,7 +45,7 @@ fn call_line(work: &Work, spot: Spot) -> u32
 }
 
 /// The lines of a trace that a claim of an answered site cites: no derivation of its field fact is shorter than the line of that.
-pub fn claim(work: &Work, target: Node, site: Site) -> ClaimLines
+pub(crate) fn claim(work: &Work, target: Node, site: Site) -> ClaimLines
     requires answered { (p : LinkedProgram) × IsTraceOf p target work.now × IsAnswered p (about target) target site }
     ensures { (p : LinkedProgram) → IsTraceOf p target work.now → IsAnswered p (about target) target site
         → CanClaim p target work.now.written.lines site result.field result.call }

@@ -12,21 +12,21 @@ ghost use Rattle.cert_rules.specs.Given.{about};
 ghost use Rattle.cert_rules.specs.Lengths.{lengths_of};
 ghost use Rattle.cert_rules.specs.Spelled.{FitsLine};
 ghost use Rattle.cert_lines.specs.Noted.{IsThere};
-ghost use Rattle.cert_make.specs.Lengths.{as_told};
+ghost use Rattle.cert_rules.specs.Told.{as_told};
 ghost use Rattle.cert_work.specs.Roads.{AreAddedIn, IsView, StartOf};
 ghost use Rattle.cert_work.specs.Wants.{AreWants, IsWanted};
 ghost use Rattle.cert_work.specs.Work.{AreEndsFiled, IsWorkOf};
-ghost use Rattle.cert_reads.specs.Closed.{AreClosed};
-ghost use Rattle.cert_reads.specs.Meeting.{IsJustified};
-ghost use Rattle.cert_reads.specs.Readings.{AreAllFiled};
+ghost use Rattle.cert_trace.specs.Closed.{AreClosed};
+ghost use Rattle.cert_trace.specs.Meeting.{IsJustified};
+ghost use Rattle.cert_trace.specs.Readings.{AreAllFiled};
 ghost use Rattle.spds_solve.specs.Solved.{AreMeets, IsSolved, StandsForMeet};
 ghost use Rattle.cert_trace.specs.Resting.{AreWanted, IsNext, IsTraced, no_lines};
 
 use super::fitting::all_fit;
-use cert_reads::{Meeting, meet};
+use super::meeting::{Meeting, meet};
 use cert_work::{View, Work, nothing, start_all, work_off};
 use demand_set::Demand;
-use jim_ast::NoMemory;
+use lists::NoMemory;
 use spds_solve::{Met, Solved};
 use std::alloc::Global;
 
@@ -119,7 +119,7 @@ fn follow_all(
 
 /// Lines that give each fact of both systems of a solved demand, over all its meets, as far as objects are followed: of each fact one that is no longer
 /// than any derivation. All are gone through. No two are the same, and each can be spelled. Costs time and memory for each fact.
-pub fn trace_of(
+pub(crate) fn trace_of(
     alloc: Global,
     view: &View<'_>,
     demand: &Demand,

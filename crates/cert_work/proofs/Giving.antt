@@ -14,7 +14,7 @@ use Rattle.cert_rules.specs.declared.line.Side.{Side}
 use Rattle.cert_rules.specs.declared.line.Side.TheVariants.{Field, Call}
 use Rattle.cert_rules.specs.Given.{Cites, Keeps, Leads, Takes, about}
 use Rattle.cert_lines.specs.Noted.{IsThere, Noted}
-use Rattle.cert_make.specs.Lengths.{as_told}
+use Rattle.cert_rules.specs.Told.{as_told}
 use Rattle.cert_work.specs.declared.held.Below.{Below}
 use Rattle.cert_work.specs.declared.held.Held.{Held}
 use Rattle.cert_work.specs.declared.held.Meeting.{Meeting}

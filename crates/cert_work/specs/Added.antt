@@ -7,7 +7,7 @@ use Rattle.cert_rules.specs.declared.line.Line.{Line}
 use Rattle.cert_rules.specs.Given.{Gives}
 use Rattle.cert_rules.specs.Lengths.{length_by}
 use Rattle.cert_lines.specs.Noted.{IsThere, Noted, with_line}
-use Rattle.cert_make.specs.Lengths.{as_told}
+use Rattle.cert_rules.specs.Told.{as_told}
 
 -- how long a line behind these is, as far as 32 bits tell
 abbrev pub length_told : Noted → Line → ℕ

@@ -8,7 +8,7 @@ ghost use Rattle.cert_work.specs.Roads.{AreAddedIn, GivesIn};
 use super::roads::View;
 use cert_lines::Written;
 use cert_rules::{Fact, Line};
-use jim_ast::NoMemory;
+use lists::NoMemory;
 
 /// Puts a line last that gives the fact, unless one that gives it is no longer.
 pub fn add(

@@ -17,8 +17,8 @@ use super::held::{Held, one_more};
 use super::roads::View;
 use cert_lines::Written;
 use cert_rules::{Entry, Fact, Line, Side};
-use jim_ast::NoMemory;
 use link_sites::Place;
+use lists::NoMemory;
 use spds_rules::{Edge, EdgeKind};
 
 // Goes on under the same words.

@@ -3,7 +3,7 @@ ghost use Rattle.std.specs.Prelude.{◌≡◌};
 ghost use Rattle.cert_rules.specs.declared.fact.Fact.TheVariants.{Link, Met};
 ghost use Rattle.cert_rules.specs.Given.{Cites};
 ghost use Rattle.cert_rules.specs.Lengths.{cited_length};
-ghost use Rattle.cert_make.specs.Lengths.{as_told};
+ghost use Rattle.cert_rules.specs.Told.{as_told};
 ghost use Rattle.cert_work.specs.Held.{IsHeld};
 ghost use Rattle.cert_work.specs.Rules.{one_more};
 ghost use Rattle.cert_work.specs.Work.{HasWord, IsAt, IsBelow, IsStored, spot_of, word_of};

@@ -17,7 +17,7 @@ use super::popping::pop_all;
 use super::putting::put_all;
 use super::roads::View;
 use cert_lines::{Spot, Word, Written};
-use jim_ast::NoMemory;
+use lists::NoMemory;
 use spds_rules::Edge;
 
 // With a line that gives what stands below its first letter.

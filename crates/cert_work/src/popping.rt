@@ -14,7 +14,7 @@ use super::held::{Below, Held, one_more};
 use super::roads::View;
 use cert_lines::Written;
 use cert_rules::{Entry, Fact, Line, Side};
-use jim_ast::NoMemory;
+use lists::NoMemory;
 use spds_rules::{Edge, EdgeKind};
 
 // Whether an edge of the kind takes the first letter of the entry off.

@@ -16,7 +16,7 @@ use super::held::{Held, Meeting, one_more};
 use super::roads::View;
 use cert_lines::Written;
 use cert_rules::{Entry, Fact, Line, Side};
-use jim_ast::NoMemory;
+use lists::NoMemory;
 use spds_rules::Node;
 
 // The field is pushed where the other object starts.

@@ -19,12 +19,11 @@ ghost use Rattle.cert_work.specs.Wants.{IsWanted};
 use super::wants::Wants;
 use cert_lines::{Files, Origin};
 use demand_set::Demand;
-use jim_ast::NoMemory;
 use link_program::Linked;
 use link_sites::Site;
-use lists::Numbered;
-use spds_nodes::{is_node, site_of};
-use spds_rules::{Edge, Node, StoreAt};
+use lists::{NoMemory, Numbered};
+use spds_nodes::is_node;
+use spds_rules::{Edge, Node, StoreAt, site_of};
 use std::alloc::Global;
 
 /// The edges of a demand by their sources, its start nodes by their sites, and its ends: the target, and the nodes at which stores take objects from and

@@ -16,10 +16,10 @@ use super::adding::add;
 use super::roads::View;
 use cert_lines::Written;
 use cert_rules::{Entry, Fact, Line, Side};
-use jim_ast::NoMemory;
 use link_sites::Site;
-use spds_nodes::{is_node, site_of};
-use spds_rules::Node;
+use lists::NoMemory;
+use spds_nodes::is_node;
+use spds_rules::{Node, site_of};
 
 // An object is at a start node of its site.
 fn start_line(

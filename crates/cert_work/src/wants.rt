@@ -3,9 +3,8 @@ ghost use Rattle.std.specs.Prelude.{◌≡◌, ◌↔◌, [], IsTrue, OnOk};
 ghost use Rattle.cert_work.specs.Wants.{IsWanted, IsWider};
 
 use cert_lines::{Origin, Spot};
-use jim_ast::NoMemory;
 use link_sites::Site;
-use lists::Numbered;
+use lists::{NoMemory, Numbered};
 use spds_rules::Node;
 use std::alloc::Global;
 

@@ -23,7 +23,7 @@ use super::popping::is_taken;
 use super::roads::View;
 use cert_lines::{Files, Spot, Word, Written};
 use cert_rules::{Entry, Fact};
-use jim_ast::NoMemory;
+use lists::NoMemory;
 use spds_rules::Edge;
 use std::alloc::Global;
 

@@ -15,7 +15,8 @@ use Rattle.class_tree.specs.Groups.{group}
 use Rattle.class_tree.specs.Indexed.{HasFieldNear, TellsOf}
 use Rattle.class_tree.specs.KeySpans.{IsKeyed, member_of_method, member_of_field}
 use Rattle.class_tree.specs.Lookups.{own_field, Declared}
-use Rattle.class_tree.specs.Paths.{Path, here, step, ProperPath, IsLeast}
+use Rattle.class_tree.specs.Paths.{Path, here, step, ProperPath}
+use Rattle.lists.specs.Lists.{IsLeast}
 use Rattle.class_tree.specs.Rows.{Rows, HasInterface, NamesUnknown, NameClasses, Step}
 use Rattle.class_tree.specs.Spans.{Holds}
 use Rattle.class_tree.specs.Tables.{Under, IsFinishing, ArePlaces, IsReach}

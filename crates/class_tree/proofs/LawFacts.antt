@@ -39,10 +39,10 @@ position_first t xs i e = let p = position_at t 0 xs i (sym e) in (p.2, ap (slic
 
 -- ---- a look-up upwards gives one answer
 
-one_parent : (classes : List ClassRow) (a b c : ℕ) → HasParent classes a b → HasParent classes a c → b ≡ c
+pub one_parent : (classes : List ClassRow) (a b c : ℕ) → HasParent classes a b → HasParent classes a c → b ≡ c
 one_parent classes a b c p q = let same : p.row ≡ q.row = cc (p.there, q.there) in cc (p.names, q.names, ap (λ (r : ClassRow). r.parent) same)
 
-a_parent_or_none : (classes : List ClassRow) (a b : ℕ) → HasParent classes a b → HasNoParent classes a → ⊥
+pub a_parent_or_none : (classes : List ClassRow) (a b : ℕ) → HasParent classes a b → HasNoParent classes a → ⊥
 a_parent_or_none classes a b p q = let same : p.row ≡ q.row = cc (p.there, q.there) in let names = ap (λ (r : ClassRow). r.parent) same in cc (p.names, q.names, names)
 
 module _ (classes : List ClassRow) (At : ℕ → Option ℕ → Type 0) (one : (c : ℕ) (r s : Option ℕ) → At c r → At c s → r ≡ s) where

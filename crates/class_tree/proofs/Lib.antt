@@ -14,6 +14,7 @@ pub mod TreeFacts
 pub mod Building
 pub mod LookedAt
 pub mod LawFacts
+pub mod KeptPaths
 pub mod Selected
 pub mod Held
 pub mod Lowest

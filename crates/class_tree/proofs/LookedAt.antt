@@ -2,7 +2,8 @@
 use Rattle.std.proofs.Common.{◌≡◌, ℕ, ◌+◌, ◌<◌, ◌≤◌, ◌⊎◌, ◌↔◌, Some, List, [], length, slice_get, ap, subst, ◌∙◌, inl, inr, arith}
 use Rattle.std.specs.List.{Contains}
 use Rattle.std.proofs.lemmas.Option.{slice_get-get_or, slice_get_within}
-use Rattle.class_tree.specs.Paths.{IsLeast, Path, ProperPath, here, step}
+use Rattle.class_tree.specs.Paths.{Path, ProperPath, here, step}
+use Rattle.lists.specs.Lists.{IsLeast}
 use Rattle.class_tree.specs.Tables.{IsDepthFirst, IsOver, Under}
 use Rattle.class_tree.proofs.Building.{proper_map}
 use Rattle.class_tree.proofs.Listed.{Contains-nil, group-past}

@@ -2,6 +2,7 @@ pub mod Bodies
 pub mod FirstRows
 pub mod Groups
 pub mod Lookups
+pub mod PathRows
 pub mod Orders
 pub mod Paths
 pub mod Rows

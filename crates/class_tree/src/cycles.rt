@@ -1,6 +1,7 @@
 ghost use Rattle.std.specs.Prelude.{◌≡◌, ℕ, ◌^◌, ◌<◌, ◌↔◌, ◌⊎◌, length, Contains, IfOk, OnOk, nat_eq};
 ghost use Rattle.indexmap.specs.IndexSet.{IsUnique};
-ghost use Rattle.class_tree.specs.Paths.{IsLeast, ProperPath};
+ghost use Rattle.class_tree.specs.Paths.{ProperPath};
+ghost use Rattle.lists.specs.Lists.{IsLeast};
 ghost use Rattle.class_tree.specs.Tables.{IsDepthFirst, IsOver, IsWithin, Under};
 
 use super::groups::Groups;

@@ -10,6 +10,7 @@ mod kept;
 mod key_spans;
 mod laws;
 mod members;
+mod path_rows;
 mod places;
 mod reach;
 mod rows;
@@ -22,5 +23,6 @@ mod walks;
 pub use laws::{
     fields_are_found_above, methods_are_found_above, methods_are_selected_above, sub_is_an_order,
 };
+pub use path_rows::PathRows;
 pub use rows::{BodyKind, ClassRow, FieldRow, MethodRow, TreeError};
-pub use tree::{Tree, build};
+pub use tree::{Defaults, Tree, build};

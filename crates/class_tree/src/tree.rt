@@ -1,7 +1,8 @@
-ghost use Rattle.std.specs.Prelude.{◌≡◌, ℕ, ◌^◌, ◌<◌, ◌↔◌, length, All, AllPairs, Contains, IsTrue, IfOk, IfNone, IfSome, Some, Err};
+ghost use Rattle.std.specs.Prelude.{◌≡◌, ℕ, ◌^◌, ◌<◌, ◌↔◌, length, All, AllPairs, Contains, IsTrue, IfOk, IfNone, IfSome, OnOk, Some, Err};
 ghost use Rattle.class_tree.specs.Defaults.{AreDefaults, IsDefaultFrom};
 ghost use Rattle.class_tree.specs.Indexed.{HasFieldNear, HoldsMethod, IsFirstNear};
-ghost use Rattle.class_tree.specs.Paths.{IsLeast};
+ghost use Rattle.class_tree.specs.PathRows.{ArePathRows};
+ghost use Rattle.lists.specs.Lists.{IsLeast};
 ghost use Rattle.class_tree.specs.Rows.{rows_of, NameClasses, NamesUnknown, IsOwnAncestor, Step, Sub, HasParent, interfaces_of};
 ghost use Rattle.class_tree.specs.Tables.{IsFinishing, Under};
 ghost use Rattle.class_tree.specs.Lookups.{own_body, Declared, FieldHere, FieldOf, IsAmbiguous, IsDefault, IsHolder, IsLowestHolder, OnPath, Resolve};
@@ -11,6 +12,7 @@ use super::finish::{finish_order, tops_first};
 use super::groups::Groups;
 use super::kept::KeptRows;
 use super::members::Members;
+use super::path_rows::PathRows;
 use super::places::places_of;
 use super::reach::{near_spans, reach_spans};
 use super::rows::{ClassRow, FieldRow, MethodRow, TreeError};
@@ -22,9 +24,10 @@ use std::alloc::{AllocError, Global};
 use std::marker::Model;
 
 /// The hierarchy of the classes of some rows. Contracts see it as these rows. Its look-ups take no
-/// memory. `sub` and `declared` take a search in a short sorted list, `own_body` a hashed look-up,
-/// `on_path` and `field` one for each parent on the way. `resolve` and `ambiguous` go on from there
-/// to the interfaces that have a method with the key, where there are any.
+/// memory, `below` and `on_kept_path` apart. `sub` and `declared` take a search in a short sorted
+/// list, `own_body` a hashed look-up, `on_path` and `field` one for each parent on the way, and
+/// `on_kept_path` one for each that no look-up before it has passed. `resolve` and `ambiguous` go on
+/// from there to the interfaces that have a method with the key, where there are any.
 #[derive(Drop)]
 pub struct Tree {
     rows: KeptRows,
@@ -46,13 +49,23 @@ impl Model for Tree {
     ghost invariant = { λ t. IsIndexed (rows_in t.rows) t.below t.interfaces t.places.items t.reach t.members };
 }
 
-/// The default methods of a key, by their rows.
+/// The default methods that a class reaches for a key, by their rows.
 #[derive(Clone, Copy)]
-enum Defaults {
+pub enum Defaults {
     Nothing,
     One(u32),
     Several,
 }
+
+// What a walk along the parents has come to.
+#[derive(Clone, Copy)]
+struct Climb {
+    row: Option<u32>,
+    long: bool,
+}
+
+// Along so many parents a walk is taken anew each time.
+const SHORT: u32 = 8;
 
 /// The tree of the rows. A class is named by its index in `classes`, and `implements` has pairs of a
 /// class and one of its interfaces, in the order in which fields are looked for.
@@ -176,6 +189,76 @@ impl Tree {
         }
     }
 
+    // What a look-up from the class gives: the walk ends where more is kept.
+    fn climb(&self, kept: &PathRows, class: u32, key: u32) -> Climb
+        requires class { class < length self.now.classes }
+        requires kept { ArePathRows self.now key kept.now }
+        ensures { OnPath self.now class key result.row }
+    {
+        let mut at = class;
+        let mut short = SHORT;
+        loop {
+            let long = short == 0;
+            let row = self.members.bodies.get(at, key);
+            if row.is_some() {
+                return Climb { row, long };
+            }
+            if let Some(row) = kept.get(at) {
+                return Climb { row, long };
+            }
+            match self.rows.classes[at as usize].parent {
+                Some(parent) => at = parent,
+                None => return Climb { row: None, long },
+            }
+            short = short.saturating_sub(1);
+        }
+    }
+
+    // Keeps what a look-up from the class gives, for all classes on its way.
+    fn keep_on_way(
+        &self,
+        kept: &mut PathRows,
+        class: u32,
+        key: u32,
+        row: Option<u32>,
+    ) -> Result<(), AllocError>
+        requires class { class < length self.now.classes }
+        requires kept { ArePathRows self.now key kept.old }
+        requires row { OnPath self.now class key row }
+        ensures { OnOk result (ArePathRows self.now key kept.new) }
+    {
+        let mut at = class;
+        while self.members.bodies.get(at, key).is_none() && kept.get(at).is_none() {
+            kept.keep(at, row)?;
+            match self.rows.classes[at as usize].parent {
+                Some(parent) => at = parent,
+                None => return Ok(()),
+            }
+        }
+        Ok(())
+    }
+
+    /// What `on_path` gives. Where the way is long, it is kept for each class on it, so that look-ups
+    /// of one key from many classes pass no class of a long way twice. `NoMemory` comes where it
+    /// can't be kept.
+    pub fn on_kept_path(
+        &self,
+        kept: &mut PathRows,
+        class: u32,
+        key: u32,
+    ) -> Result<Option<u32>, AllocError>
+        requires class { class < length self.now.classes }
+        requires kept { ArePathRows self.now key kept.old }
+        ensures found { IfOk result (OnPath self.now class key) }
+        ensures kept { OnOk result (ArePathRows self.now key kept.new) }
+    {
+        let climb = self.climb(kept, class, key);
+        if climb.long {
+            self.keep_on_way(kept, class, key, climb.row)?;
+        }
+        Ok(climb.row)
+    }
+
     // Whether no other interface that the class reaches and that has a method of this key is below
     // this one.
     fn is_lowest(&self, class: u32, key: u32, interface: u32) -> bool
@@ -210,7 +293,8 @@ impl Tree {
         }
     }
 
-    fn defaults(&self, class: u32, key: u32) -> Defaults
+    /// The default methods of the key that the interfaces reached from the class have.
+    pub fn defaults(&self, class: u32, key: u32) -> Defaults
         requires { class < length self.now.classes }
         ensures { AreDefaults (IsDefault self.now class key) result }
     {

@@ -5,10 +5,11 @@ ghost use Rattle.spds_rules.specs.Edges.{IsEdge};
 ghost use Rattle.spds_rules.specs.Stores.{IsStore};
 
 use super::programs::TWO_CALLS;
-use demand_walk::{DemandError, Graph, NoMemory, walk};
+use demand_set::{DemandError, Graph, walk};
 use link_program::Linked;
 use linked_text::spelled::{are_nodes, node};
 use linked_text::{Rows, first_wrong};
+use lists::NoMemory;
 use spds_nodes::{into, stores_of};
 use spds_rules::{Edge, Node, Reach, StoreAt};
 use std::alloc::{AllocError, Global};

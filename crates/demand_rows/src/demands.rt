@@ -6,11 +6,12 @@ use super::programs::{
     ALL_SORTS, ESCAPES, FILES, FILES_READ_AGAIN, INHERITED, NULL_RECEIVER, PASSED_BOX, RECURSION,
     SAME_TEXT, STATIC_BOX, STORED_NULL, TWO_BOXES, TWO_CALLS,
 };
-use demand_set::{Demand, DemandError, demand};
-use jim_ast::NoMemory;
+use demand_set::{Demand, DemandError};
 use link_program::Linked;
 use linked_text::spelled::{are_nodes, are_sites, node};
 use linked_text::{Rows, first_wrong};
+use lists::NoMemory;
+use program_demand::demand;
 use spds_nodes::is_node;
 use spds_rules::{EdgeKind, Node, Reach};
 use std::alloc::{AllocError, Global};

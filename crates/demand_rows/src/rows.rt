@@ -5,10 +5,10 @@
 //! - `stores FIELD`: the stores of a field: the place of each, what it stores into, and what it stores.
 //! - `class SITE`: the name of the class of a site.
 //! - `field SITE FIELD`: whether the objects of a site have a field.
-use jim_ast::NoMemory;
 use link_program::Linked;
 use linked_text::Rows;
 use linked_text::spelled::{are_edges, are_nodes, node, site};
+use lists::NoMemory;
 use spds_nodes::{has_field, into, is_node, site_class, starts_of, stores_of};
 use spds_rules::{Node, Reach, StoreAt};
 use std::alloc::Global;

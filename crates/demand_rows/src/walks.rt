@@ -1,5 +1,5 @@
 //! Walks over listed graphs: what is demanded, and what the graph is asked for.
-use demand_walk::{DemandError, ListedGraph, Walk, walk};
+use demand_set::{DemandError, ListedGraph, Walk, walk};
 use linked_text::spelled::{edge, node};
 use spds_rules::{Edge, Node, StoreAt};
 use std::alloc::{AllocError, Global};

@@ -5,14 +5,13 @@ use Rattle.std.proofs.lemmas.Option.{slice_get-get_or, slice_get-map}
 use Rattle.std.specs.Global.{Vec}
 use Rattle.std.specs.Option.{option_map}
 use Rattle.std.specs.declared.option.Option.{Option}
-use Rattle.jim_ast.specs.Lists.{Has, IsApart}
-use Rattle.jim_ast.proofs.Places.{slice_get-below, slice_get-set_other, slice_get-set_same, slice_get-there}
+use Rattle.lists.specs.Lists.{Has, IsApart, AreAll}
+use Rattle.lists.proofs.Places.{slice_get-below, slice_get-set_other, slice_get-set_same, slice_get-there}
 use Rattle.link_sites.specs.declared.site.Site.{Site}
 use Rattle.link_sites.specs.contracts.site.SitePartialEq.TheImpl as site
 use Rattle.spds_rules.specs.declared.node.Node.{Node}
-use Rattle.spds_rules.specs.Demand.{AreAll}
 use Rattle.spds_rules.specs.Nodes.{site_of}
-use Rattle.demand_walk.proofs.Appended.{AreAll-same, AreAll-append, Has-one, IsApart-one, Has-take_kept, Has-take_last, Has-take_more}
+use Rattle.demand_set.proofs.Appended.{AreAll-same, AreAll-append, Has-one, IsApart-one, Has-take_kept, Has-take_last, Has-take_more}
 use Rattle.demand_set.specs.Demands.{StartsAt}
 use Rattle.demand_set.specs.Starts.{AreStarts, HasStart, IsFiled}
 use Rattle.demand_set.proofs.SameSite.{same_site, self_site}

@@ -5,3 +5,12 @@ pub mod Reordered
 pub mod Filed
 pub mod Standing
 pub mod Whole
+pub mod Appended
+pub mod SameKey
+pub mod Asked
+pub mod Grown
+pub mod Followed
+pub mod Searched
+pub mod Counts
+pub mod Selected
+pub mod EdgesAt

@@ -5,8 +5,8 @@ use Rattle.std.specs.Option.{is_some}
 use Rattle.std.specs.declared.option.Option.{Option}
 use Rattle.std.proofs.lemmas.List.Quantifiers.{position-Some}
 use Rattle.std.proofs.lemmas.Option.{slice_get-get_or}
-use Rattle.jim_ast.specs.Lists.{Has, IsApart}
-use Rattle.demand_walk.proofs.Keys.{not-list_any}
+use Rattle.lists.specs.Lists.{Has, IsApart}
+use Rattle.lists.proofs.Keys.{not-list_any}
 
 module _ {X : Type 0} (eq : X → X → Bool) (same : (x y : X) → eq x y ≡ true → x ≡ y) (self : (x : X) → eq x x ≡ true) where
   -- the first key that is equal to k is k

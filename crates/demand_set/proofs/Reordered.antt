@@ -13,9 +13,9 @@ use Rattle.std.specs.declared.cmp.Ordering.{Ordering}
 use denote.Ref.{Bor}
 use denote.Param.Members.{Mut}
 use Rattle.std.specs.List.{IsDistinct, list_any}
-use Rattle.jim_ast.specs.Lists.{Has, IsApart}
-use Rattle.jim_ast.proofs.Places.{slice_get-below}
-use Rattle.demand_walk.proofs.Keys.{has-list_any, not-list_any}
+use Rattle.lists.specs.Lists.{Has, IsApart}
+use Rattle.lists.proofs.Places.{slice_get-below}
+use Rattle.lists.proofs.Keys.{has-list_any, not-list_any}
 
 -- a list whose elements differ at each two places
 pub IsApart-from_pairs : {X : Type 0} (xs : List X) → AllPairs (λ x y. x ≢ y) xs → IsApart xs

@@ -1,8 +1,8 @@
 -- What a program in form has: the operands of its statements, the nodes of its stores, and the sites of its nodes.
 use Rattle.std.proofs.Common.{◌≡◌, ◌∙◌, ℕ, zero, suc, ◌<◌, arith, Bool, true, false, List, [], slice_get, Some, None, All, refl, sym, ap, subst}
 use Rattle.std.proofs.lemmas.Option.{get_or_from_slice_get}
-use Rattle.jim_ast.specs.Lists.{Has}
-use Rattle.jim_ast.proofs.Places.{slice_get-below}
+use Rattle.lists.specs.Lists.{Has}
+use Rattle.lists.proofs.Places.{slice_get-below}
 use Rattle.link_rules.specs.declared.code.Arg.{Arg}
 use Rattle.link_rules.specs.declared.code.Arg.TheVariants as arg
 use Rattle.link_rules.specs.declared.code.Code.{Code}
@@ -20,7 +20,7 @@ use Rattle.spds_rules.specs.declared.store.StoreAt.{StoreAt}
 use Rattle.spds_rules.specs.Demand.{Asked, Demand, target, source, base, arg as argument}
 use Rattle.spds_rules.specs.Nodes.{HasVar, IsNode, MayStand, arg_var, handed, site_at, site_of}
 use Rattle.spds_rules.specs.Stores.{IsStore, StoresInto, level_var}
-use Rattle.demand_walk.proofs.Appended.{Has-one}
+use Rattle.demand_set.proofs.Appended.{Has-one}
 
 -- the fact of the element at a place
 all_at : {X : Type 0} (P : X → Type 0) (xs : List X) (i : ℕ) (x : X) → All P xs → slice_get xs i ≡ Some x → P x
@@ -118,14 +118,14 @@ module _ (p : LinkedProgram) (form : IsInForm p) where
         has = subst (λ r. HasVar m c r n.var) (sym raised) has;
       }
 
-  store_base : (s : StoreAt) → IsStore p s → IsNode p s.base
+  pub store_base : (s : StoreAt) → IsStore p s → IsNode p s.base
   store_base s is =
       let m = is.stores.at.method in
       let c = is.stores.code in
       let fit = fits s.place.method s.place.index m c is.stores.at.there is.stores.at.here in
       node_at s.base s.place m c is.base_there is.unraised is.stores.at.there is.stores.at.here (stores_stand m c s.field s.base.var s.arg.var fit is.stores.is_so).0
 
-  store_arg : (s : StoreAt) → IsStore p s → IsNode p s.arg
+  pub store_arg : (s : StoreAt) → IsStore p s → IsNode p s.arg
   store_arg s is =
       let m = is.stores.at.method in
       let c = is.stores.code in

@@ -1,17 +1,17 @@
 -- A demand that was found whole.
 use Rattle.std.proofs.Common.{◌≡◌, ◌⊎◌, ◌↔◌, List, inl, inr}
-use Rattle.jim_ast.specs.Lists.{Adds, Has}
-use Rattle.jim_ast.proofs.Places.{Has-adds_itself, slice_get-adds, slice_get-added}
+use Rattle.lists.specs.Lists.{Adds, Has, AreAll}
+use Rattle.lists.proofs.Places.{Has-adds_itself, slice_get-adds, slice_get-added}
 use Rattle.link_rules.specs.Linked.{LinkedProgram}
 use Rattle.link_sites.specs.declared.site.Site.{Site}
 use Rattle.spds_rules.specs.declared.node.Node.{Node}
 use Rattle.spds_rules.specs.Answers.{AreSites}
-use Rattle.spds_rules.specs.Demand.{AreAll, Asked, Demand, SiteIn}
+use Rattle.spds_rules.specs.Demand.{Asked, Demand, SiteIn}
 use Rattle.spds_rules.specs.Edges.{IsEdge}
 use Rattle.spds_rules.specs.Nodes.{IsNode}
 use Rattle.spds_rules.specs.Stores.{IsStore}
-use Rattle.demand_walk.specs.declared.demanded.Walk.{Walk}
-use Rattle.demand_walk.specs.Walks.{IsWalk}
+use Rattle.demand_set.specs.declared.demanded.Walk.{Walk}
+use Rattle.demand_set.specs.Walks.{IsWalk}
 use Rattle.demand_set.specs.Demands.{DemandParts, IsDemandOf}
 use Rattle.demand_set.specs.Starts.{HasStart}
 

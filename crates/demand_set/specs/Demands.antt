@@ -6,7 +6,8 @@ use Rattle.spds_rules.specs.declared.edge.Edge.{Edge}
 use Rattle.spds_rules.specs.declared.node.Node.{Node}
 use Rattle.spds_rules.specs.declared.store.StoreAt.{StoreAt}
 use Rattle.spds_rules.specs.Answers.{AreSites}
-use Rattle.spds_rules.specs.Demand.{AreAll, Asked, Demand, EdgeIn, FieldIn, SiteIn, StoreIn}
+use Rattle.spds_rules.specs.Demand.{Asked, Demand, EdgeIn, FieldIn, SiteIn, StoreIn}
+use Rattle.lists.specs.Lists.{AreAll}
 use Rattle.spds_rules.specs.Nodes.{site_of}
 
 -- nodes, the edges into them, the fields that these load, the stores of these fields, and the sites of which start nodes are among the nodes

@@ -1,9 +1,8 @@
 -- What a demand keeps of sites and start nodes.
 use Rattle.std.specs.Prelude.{◌≡◌, ℕ, ◌^◌, ◌<◌, List, [], ◌∷◌, ◌++◌, Some, length, slice_get}
-use Rattle.jim_ast.specs.Lists.{Has, IsApart}
+use Rattle.lists.specs.Lists.{Has, IsApart, AreAll}
 use Rattle.link_sites.specs.declared.site.Site.{Site}
 use Rattle.spds_rules.specs.declared.node.Node.{Node}
-use Rattle.spds_rules.specs.Demand.{AreAll}
 use Rattle.spds_rules.specs.Nodes.{site_of}
 use Rattle.demand_set.specs.Demands.{StartsAt}
 

@@ -1,14 +1,15 @@
 //! The order in which sites are printed.
 ghost use Rattle.std.specs.Prelude.{◌≡◌, ◌↔◌, [], AllPairs, OnOk, length, slice_index_or};
-ghost use Rattle.jim_ast.specs.Lists.{Has, IsApart};
+ghost use Rattle.lists.specs.Lists.{Has, IsApart};
 ghost use Rattle.link_sites.specs.declared.site.Site.{Site as AnySite};
 ghost use Rattle.link_sites.specs.Sites.{IsSite, Precedes};
 ghost use Rattle.demand_set.specs.Order.{numbers_of, site_cmp, text_of};
 
 use indexmap::IndexSet;
-use jim_ast::{Name, NoMemory};
+use jim_ast::Name;
 use link_program::Linked;
 use link_sites::Site;
+use lists::NoMemory;
 use std::cmp::Ordering;
 
 // The numbers by which sites are compared first.

@@ -1,21 +1,23 @@
 //! A demand, and what is read of it.
 ghost use Rattle.std.specs.Prelude.{◌≡◌, ◌↔◌, ◌<◌, ◌^◌, ℕ, IfOk, Some, length, slice_get};
-ghost use Rattle.jim_ast.specs.Lists.{Has, IsApart};
+ghost use Rattle.lists.specs.Lists.{Has, IsApart, AreAll};
 ghost use Rattle.link_sites.specs.declared.site.Site.{Site as DemandedSite};
-ghost use Rattle.spds_rules.specs.Demand.{AreAll};
 ghost use Rattle.spds_rules.specs.declared.node.Node.{Node as AnyNode};
 ghost use Rattle.spds_rules.specs.Answers.{AreSites};
 ghost use Rattle.spds_rules.specs.Nodes.{IsNode};
-ghost use Rattle.demand_walk.specs.Numbers.{AreEdgesAt};
+ghost use Rattle.demand_set.specs.Numbers.{AreEdgesAt};
 ghost use Rattle.demand_set.specs.Demands.{StartsAt};
 ghost use Rattle.demand_set.specs.Starts.{HasStart};
 
+use super::demanded::Walked;
+use super::nodes::Nodes;
+use super::numbered::EdgeAt;
 use super::starts::{sites_of, starts_of};
-use demand_walk::{EdgeAt, Nodes, Walked};
 use indexmap::IndexSet;
-use jim_ast::{List, NoMemory};
+use jim_ast::List;
 use link_program::Linked;
 use link_sites::Site;
+use lists::NoMemory;
 use spds_rules::{Edge, Node, StoreAt};
 use std::alloc::Global;
 use std::marker::Model;
@@ -49,7 +51,7 @@ impl Model for Demand {
       sites = d.sites.keys;
     } };
 
-    ghost use Rattle.demand_walk.specs.Numbers.{AreEdgesAt};
+    ghost use Rattle.demand_set.specs.Numbers.{AreEdgesAt};
 
     ghost invariant = { λ d. IsKept d.nodes d.sites.keys (map (λ numbers. numbers.items) d.starts.items) × AreEdgesAt d.nodes d.edges d.numbered };
 }

@@ -1,6 +1,6 @@
 //! The sites that a list of nodes demands, and their start nodes.
 ghost use Rattle.std.specs.Prelude.{◌≡◌, ◌↔◌, ◌<◌, ◌≤◌, ◌^◌, [], AllPairs, IfOk, OnOk, length, map, replicate};
-ghost use Rattle.jim_ast.specs.Lists.{Has, IsApart};
+ghost use Rattle.lists.specs.Lists.{Has, IsApart};
 ghost use Rattle.link_sites.specs.declared.site.Site.{Site as AnySite};
 ghost use Rattle.link_sites.specs.Sites.{Precedes};
 ghost use Rattle.spds_rules.specs.declared.node.Node.{Node as AnyNode};
@@ -9,11 +9,10 @@ ghost use Rattle.demand_set.specs.Starts.{AreStarts, HasStart, IsFiled};
 
 use super::order::sort_sites;
 use indexmap::IndexSet;
-use jim_ast::NoMemory;
 use link_program::Linked;
 use link_sites::Site;
-use spds_nodes::site_of;
-use spds_rules::Node;
+use lists::NoMemory;
+use spds_rules::{Node, site_of};
 use std::alloc::Global;
 
 // The sites of which one of the nodes is a start node, each once.

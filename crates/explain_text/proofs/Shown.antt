@@ -11,9 +11,9 @@ use Rattle.cert_rules.specs.Lengths.{HasLength, cited_length, lengths_of}
 use Rattle.cert_rules.specs.Spelled.{FitsNode, ended_lines}
 use Rattle.cert_text.specs.Written.{written_lines}
 use Rattle.cert_text.proofs.TextLines.{written_spells}
-use Rattle.cert_make.specs.Lengths.{as_told}
+use Rattle.cert_rules.specs.Told.{as_told}
 use Rattle.cert_make.specs.Needs.{IsLean}
-use Rattle.cert_evidence.specs.Explained.{IsExplained}
+use Rattle.cert_trace.specs.Explained.{IsExplained}
 use Rattle.report_text.specs.Answers.{IsSiteLine}
 use Rattle.report_text.specs.Lines.{AddsLine, AddsLines, text_of}
 use Rattle.report_text.proofs.Growing.{text_of-append}

@@ -8,8 +8,8 @@ use Rattle.cert_rules.specs.declared.certificate.Certificate.{Certificate}
 use Rattle.cert_rules.specs.Lengths.{HasLength}
 use Rattle.cert_rules.specs.Spelled.{SpellsCertificate, ended_lines}
 use Rattle.cert_text.specs.Written.{written_lines}
-use Rattle.cert_make.specs.Lengths.{as_told}
-use Rattle.cert_evidence.specs.Explained.{IsExplained}
+use Rattle.cert_rules.specs.Told.{as_told}
+use Rattle.cert_trace.specs.Explained.{IsExplained}
 use Rattle.query_core.specs.Answers.{IsAnswerTo}
 use Rattle.report_text.specs.Answers.{IsQueryLine, IsSiteLine, count_lines}
 use Rattle.report_text.specs.Lines.{text_of}

@@ -1,2 +1,2 @@
-pub mod Places
+pub mod Filed
 pub mod Texts

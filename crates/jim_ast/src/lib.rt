@@ -11,8 +11,9 @@ mod notes;
 mod syntax;
 
 pub use list::List;
+pub use lists::NoMemory;
 pub use name::Name;
-pub use names::{NameId, Names, NoMemory};
+pub use names::{NameId, Names};
 pub use syntax::{
     Base, Body, Class, Expr, FieldDecl, FieldSig, Imm, Invoke, Label, MethodDecl, MethodSig, Mode,
     Program, Stmt, Trap, Ty,

@@ -1,16 +1,15 @@
 //! The names of a program.
-ghost use Rattle.std.specs.Prelude.{◌≡◌, ◌^◌, ◌<◌, ◌↔◌, ◌∷◌, ◌++◌, [], length, slice_get, Some, IfOk, IfSome, IfNone, IsSomeAnd, OnErr, OnOk, List, ℕ, cond, vec_len, vec_capacity, IsUtf8};
+ghost use Rattle.std.specs.Prelude.{◌≡◌, ◌^◌, ◌+◌, ◌<◌, ◌↔◌, ◌⊎◌, ◌∷◌, ◌++◌, [], length, map, slice_get, string_bytes, Some, IfOk, IfSome, IfNone, IsSomeAnd, OnErr, OnOk, List, ℕ, cond, vec_len, vec_capacity, IsUtf8};
 ghost use Rattle.std.specs.BTreeMap.{get_by_text};
 ghost use Rattle.std.specs.Str.{bytes_eq};
-ghost use Rattle.jim_ast.specs.Lists.{Has, Adds, IsApart};
+ghost use Rattle.lists.specs.Lists.{Has, Adds, IsApart};
+ghost use Rattle.jim_ast.specs.Notes.{IsFiled, IsNoted};
 
 use super::notes::{Notes, hash_of};
+use lists::NoMemory;
 use std::alloc::{AllocError, Global};
 use std::collections::BTreeMap;
 use std::marker::Model;
-
-/// Memory that was asked for wasn't found.
-pub type NoMemory = AllocError;
 
 /// The number of a name among a program's names, from 0 in the order in which they came.
 #[derive(Clone, Copy, Debug, PartialEq, Eq, Hash)]
@@ -18,26 +17,27 @@ pub struct NameId(pub u32);
 
 /// An ordered set of texts, which contracts see as the list of their bytes, no text twice.
 ///
-/// A text that is there is mostly found by a note, and where it has none in an ordered map. So a look-up compares at most some logarithm of texts, whatever
-/// the texts are.
+/// A text is found by its note, and where other notes stand in all slots that are looked at for its hash, in an ordered map. So a look-up compares at most
+/// eight texts and some logarithm of them more, whatever the texts are.
 #[derive(Drop)]
 pub struct Names {
     alloc: Global,
     texts: Vec<String>,
-    numbers: BTreeMap<String, u32>,
     notes: Notes,
+    // The numbers of the texts for which no slot was left.
+    others: BTreeMap<String, u32>,
 }
 
 impl Model for Names {
     ghost use Rattle.std.specs.Prelude.{List, ℕ, map, length, string_bytes, ◌<◌, ◌^◌};
     ghost use Rattle.std.specs.BTreeMap.{get_by_text};
-    ghost use Rattle.jim_ast.specs.Lists.{IsNumbering};
+    ghost use Rattle.jim_ast.specs.Notes.{IsIndexed};
 
     ghost Value = { List (List ℕ) };
 
     ghost view = { λ t. map string_bytes t.texts.items };
 
-    ghost invariant = { λ t. (length t.texts.items < 2 ^ 32) × IsNumbering (map string_bytes t.texts.items) (get_by_text t.numbers) };
+    ghost invariant = { λ t. (length t.texts.items < 2 ^ 32) × IsIndexed (map string_bytes t.texts.items) t.notes.slots.items (get_by_text t.others) };
 }
 
 // Bytes that are known to be a text.
@@ -66,6 +66,47 @@ fn put(
     Ok(())
 }
 
+// Notes the number of a text, or puts it among the others where there is no slot for its note.
+fn file(
+    alloc: Global,
+    notes: &mut Notes,
+    others: &mut BTreeMap<String, u32>,
+    text: &str,
+    number: u32,
+) -> Result<(), NoMemory>
+    requires { number + 1 < 2 ^ 32 }
+    ensures filed { OnOk result (IsFiled notes.new.slots.items (get_by_text others.new) text.now number) }
+    ensures kept { (h i : ℕ) → IsNoted notes.old.slots.items h i → IsNoted notes.new.slots.items h i }
+    ensures puts { (t : List ℕ) → (get_by_text others.new t ≡ get_by_text others.old t) ⊎ ((t ≡ text.now) × (get_by_text others.new t ≡ Some number)) }
+    ensures err { OnErr result ((t : List ℕ) → get_by_text others.new t ≡ get_by_text others.old t) }
+{
+    if notes.note(hash_of(text.as_bytes()), number) {
+        return Ok(());
+    }
+    put(alloc, others, text, number)?;
+    Ok(())
+}
+
+// Files each text.
+fn file_all(
+    alloc: Global,
+    texts: &[String],
+    notes: &mut Notes,
+    others: &mut BTreeMap<String, u32>,
+) -> Result<(), NoMemory>
+    requires few { length texts.now < 2 ^ 32 }
+    requires apart { IsApart (map string_bytes texts.now) }
+    requires sound { (t : List ℕ) (i : ℕ) → get_by_text others.old t ≡ Some i → slice_get (map string_bytes texts.now) i ≡ Some t }
+    ensures sound { (t : List ℕ) (i : ℕ) → get_by_text others.new t ≡ Some i → slice_get (map string_bytes texts.now) i ≡ Some t }
+    ensures kept { (t : List ℕ) (i : ℕ) → get_by_text others.old t ≡ Some i → get_by_text others.new t ≡ Some i }
+    ensures each { OnOk result ((i : ℕ) (t : List ℕ) → slice_get (map string_bytes texts.now) i ≡ Some t → IsFiled notes.new.slots.items (get_by_text others.new) t i) }
+{
+    for number in 0..texts.len() {
+        file(alloc, notes, others, texts[number].as_str(), number as u32)?;
+    }
+    Ok(())
+}
+
 // Puts a text last, for which there is room.
 fn append(texts: &mut Vec<String>, text: String)
     requires { vec_len texts.old < vec_capacity texts.old }
@@ -82,8 +123,8 @@ impl Names {
         Names {
             alloc,
             texts: Vec::new(alloc),
-            numbers: BTreeMap::new(alloc),
             notes: Notes::new(alloc),
+            others: BTreeMap::new(alloc),
         }
     }
 
@@ -103,20 +144,17 @@ impl Names {
         self.texts[id.0 as usize].as_str()
     }
 
-    // The number of a text, by the map.
-    fn number(&self, text: &str) -> Option<u32>
-        ensures { (i : ℕ) → (result ≡ Some i) ↔ (slice_get self.now i ≡ Some text.now) }
-    {
-        self.numbers.get(text).copied()
-    }
-
-    // The number of a text with this hash.
+    // The number of the text that has these bytes.
     #[inline]
-    fn noted(&self, text: &[u8], hash: usize) -> Option<u32>
-        ensures found { IfSome result (λ i. slice_get self.now i ≡ Some text.now) }
+    fn number(&self, text: &[u8]) -> Option<u32>
+        requires { IsUtf8 text.now }
+        ensures value { (i : ℕ) → (result ≡ Some i) ↔ (slice_get self.now i ≡ Some text.now) }
         ensures apart { IsApart self.now }
     {
-        self.notes.find(&self.texts, text, hash)
+        if let Some(number) = self.notes.find(&self.texts, text, hash_of(text)) {
+            return Some(number);
+        }
+        self.others.get(as_text(text)).copied()
     }
 
     /// The name with this text, if there is one. Takes no memory.
@@ -125,55 +163,46 @@ impl Names {
         ensures only { (i : ℕ) → slice_get self.now i ≡ Some text.now → IsSomeAnd result (λ id. id.0 ≡ i) }
         ensures none { IfNone result (¬ Has self.now text.now) }
     {
-        if let Some(number) = self.noted(text.as_bytes(), hash_of(text.as_bytes())) {
-            return Some(NameId(number));
-        }
-        let number = self.number(text)?;
+        let number = self.number(text.as_bytes())?;
         Some(NameId(number))
     }
 
+    // Makes slots anew where those that are there are too few.
+    fn make_slots(&mut self) -> Result<(), NoMemory>
+        ensures { self.new ≡ self.old }
+    {
+        if !self.notes.are_few(self.texts.len()) {
+            return Ok(());
+        }
+        let mut notes = Notes::room_for(self.alloc, self.texts.len())?;
+        file_all(self.alloc, &self.texts, &mut notes, &mut self.others)?;
+        self.notes = notes;
+        Ok(())
+    }
+
     // Puts a new text last.
-    fn add_new(&mut self, text: &str, hash: usize) -> Result<u32, NoMemory>
+    fn add_new(&mut self, text: &str) -> Result<u32, NoMemory>
         requires { Has self.old text.now → ⊥ }
         ensures number { IfOk result (λ number. number ≡ length self.old) }
         ensures last { OnOk result (self.new ≡ self.old ++ text.now ∷ []) }
         ensures err { OnErr result (self.new ≡ self.old) }
     {
+        self.make_slots()?;
         let count = self.texts.len();
         if count >= u32::MAX as usize {
             return Err(AllocError);
         }
-        self.notes.room_for(self.alloc, count)?;
         self.texts.reserve(1)?;
         let owned = String::from_str(self.alloc, text)?;
-        put(self.alloc, &mut self.numbers, text, count as u32)?;
+        file(
+            self.alloc,
+            &mut self.notes,
+            &mut self.others,
+            text,
+            count as u32,
+        )?;
         append(&mut self.texts, owned);
-        self.notes.note(hash, count as u32);
         Ok(count as u32)
-    }
-
-    // Notes the number of a text with this hash.
-    fn note(&mut self, hash: usize, number: u32)
-        requires { number < length self.old }
-        ensures kept { self.new ≡ self.old }
-        ensures apart { IsApart self.new }
-    {
-        self.notes.note(hash, number)
-    }
-
-    // The name with a text that has no note.
-    fn add_unnoted(&mut self, text: &str, hash: usize) -> Result<NameId, NoMemory>
-        requires { IsApart self.old }
-        ensures added { IfOk result (λ id. slice_get self.new id.0 ≡ Some text.now) }
-        ensures last { IfOk result (λ _. Adds self.old text.now self.new) }
-        ensures err { OnErr result (self.new ≡ self.old) }
-    {
-        if let Some(number) = self.number(text) {
-            self.note(hash, number);
-            return Ok(NameId(number));
-        }
-        let number = self.add_new(text, hash)?;
-        Ok(NameId(number))
     }
 
     /// The name with this text. A new one is put last, and only then is the text copied. A set that is full, with 4,294,967,295 names, finds
@@ -195,11 +224,10 @@ impl Names {
         ensures apart { IsApart self.new }
         ensures err { OnErr result (self.new ≡ self.old) }
     {
-        let hash = hash_of(text);
-        if let Some(number) = self.noted(text, hash) {
+        if let Some(number) = self.number(text) {
             return Ok(NameId(number));
         }
-        let id = self.add_unnoted(as_text(text), hash)?;
-        Ok(id)
+        let number = self.add_new(as_text(text))?;
+        Ok(NameId(number))
     }
 }

@@ -9,9 +9,10 @@ ghost use Rattle.jim_build.specs.Bodies.{trap_of, body_of};
 
 use super::decls::decls;
 use super::lines::lines;
-use jim_ast::{Body, List, NoMemory, Trap};
+use jim_ast::{Body, List, Trap};
 use jim_signs::Lead;
 use jim_stmts::Reader;
+use lists::NoMemory;
 use std::alloc::Global;
 
 fn trap(reader: &mut Reader) -> Trap

@@ -9,9 +9,10 @@ ghost use Rattle.jim_build.specs.Classes.{parent_of, interfaces_of, class_of, cl
 
 use super::members::members;
 use super::modifiers::modifiers;
-use jim_ast::{Class, List, NameId, Names, NoMemory, Program};
+use jim_ast::{Class, List, NameId, Names, Program};
 use jim_signs::{Lead, Sign};
 use jim_stmts::{Reader, names};
+use lists::NoMemory;
 use std::alloc::Global;
 
 // What `extends` names, if it is next.

@@ -10,10 +10,11 @@ ghost use Rattle.jim_build.specs.Splits as split;
 ghost use Rattle.jim_build.specs.Decls.{locals_in, locals_of};
 ghost use Rattle.jim_build.specs.Splits.{declared, declared_by};
 
-use jim_ast::{List, NameId, NoMemory};
+use jim_ast::{List, NameId};
 use jim_grammar::LeadSet;
 use jim_signs::Lead;
 use jim_stmts::{Reader, names, ty};
+use lists::NoMemory;
 use std::alloc::Global;
 
 fn is_odd_type(lead: Lead) -> bool

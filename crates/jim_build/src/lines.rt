@@ -8,9 +8,10 @@ ghost use Rattle.jim_stmts.specs.Leads.{lead_at, second_at};
 ghost use Rattle.jim_build.specs.Splits as split;
 ghost use Rattle.jim_build.specs.Bodies.{stmts_of, labels_from};
 
-use jim_ast::{Label, List, NameId, NoMemory, Stmt};
+use jim_ast::{Label, List, NameId, Stmt};
 use jim_signs::Lead;
 use jim_stmts::{Reader, stmt};
+use lists::NoMemory;
 use std::alloc::{AllocError, Global};
 
 fn begins_line(lead: Lead) -> bool

@@ -11,9 +11,10 @@ ghost use Rattle.jim_build.specs.Splits.{head, head_of, method_tail, method_by};
 
 use super::bodies::body;
 use super::modifiers::{Flags, modifiers};
-use jim_ast::{Body, FieldDecl, List, MethodDecl, NameId, NoMemory, Ty};
+use jim_ast::{Body, FieldDecl, List, MethodDecl, NameId, Ty};
 use jim_signs::Lead;
 use jim_stmts::{Reader, maybe_types, names, outcome};
+use lists::NoMemory;
 use std::alloc::Global;
 
 /// What a field and a method begin with. Which of the two it is, the token behind the name decides.

@@ -4,7 +4,7 @@ use Rattle.std.specs.List.{list_any}
 use Rattle.std.proofs.lemmas.Bool.{eqb-true, cases_eq}
 use Rattle.std.proofs.lemmas.List.{map-append, length-replicate, length-map}
 use Rattle.indexmap.specs.IndexSet.{insert_key}
-use Rattle.jim_ast.proofs.Places.{slice_get-append_left, slice_get-pushed, slice_get-below, slice_get-set_same, slice_get-set_other}
+use Rattle.lists.proofs.Places.{slice_get-append_left, slice_get-pushed, slice_get-below, slice_get-set_same, slice_get-set_other}
 use lib.Pointwise.{pointwise}
 use denote.Enum.Bare.{same_true, tag_one}
 use Rattle.jim_signs.specs.contracts.lead.Lead.{the_type}

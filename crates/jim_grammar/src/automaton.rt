@@ -6,8 +6,8 @@ ghost use Rattle.jim_grammar.specs.Automata.{code, classes, start_set, sets_of, 
 
 use crate::machine::{Stack, advance, start};
 use indexmap::IndexSet;
-use jim_ast::NoMemory;
 use jim_signs::Lead;
+use lists::NoMemory;
 use std::alloc::Global;
 
 /// How many classes of tokens there are.

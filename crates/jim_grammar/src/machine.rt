@@ -10,8 +10,8 @@ ghost use Rattle.jim_grammar.specs.Stacks.{re_entry, entries, stacks, Adds, Adds
 use crate::item::{Item, Piece, Rule};
 use crate::set::LeadSet;
 use crate::table::rule_of;
-use jim_ast::NoMemory;
 use jim_signs::{Lead, Sign};
+use lists::NoMemory;
 use std::alloc::Global;
 
 /// A piece of the grammar from one of its parts on.

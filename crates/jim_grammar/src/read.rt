@@ -6,8 +6,8 @@ ghost use Rattle.jim_grammar.specs.Refusals.{Derives, Least};
 
 use crate::automaton::{Automaton, Move};
 use crate::machine::{Stack, advance, copy_of, takes_nothing};
-use jim_ast::NoMemory;
 use jim_signs::Sign;
+use lists::NoMemory;
 use std::alloc::Global;
 
 /// The least place at which the tokens are refused, from 0, or `None` where they are a text of the grammar.

@@ -6,7 +6,7 @@ use Rattle.class_tree.proofs.Selected.{selection_finds}
 use Rattle.class_tree.specs.Bodies.{has_body}
 use Rattle.class_tree.specs.declared.rows.BodyKind.TheVariants.{Native}
 use Rattle.class_tree.specs.declared.rows.MethodRow.{MethodRow}
-use Rattle.jim_ast.proofs.Places.{slice_get-below}
+use Rattle.lists.proofs.Places.{slice_get-below}
 use Rattle.jim_ast.specs.declared.syntax.Body.{Body}
 use Rattle.jim_ast.specs.declared.syntax.Mode.{Mode}
 use Rattle.jim_ast.specs.declared.syntax.Mode.TheVariants.{Special, Virtual, Interface, Static}

@@ -1,9 +1,8 @@
 -- Whether each of some classes is declared.
 use Rattle.std.proofs.Common.{◌≡◌, ℕ, zero, suc, ◌<◌, true, List, [], ◌∷◌, Some, length, slice_get, get_or, refl, sym, ap, subst, ◌∙◌, arith, All}
-use Rattle.std.specs.Prelude.{◌↔◌, IsTrue}
-use Rattle.std.specs.Prelude.{flat_map}
+use Rattle.std.specs.Prelude.{◌↔◌, IsTrue, flat_map}
 use Rattle.std.proofs.lemmas.Option.{get_or_from_slice_get, slice_get-get_or}
-use Rattle.jim_ast.proofs.Places.{slice_get-below}
+use Rattle.lists.proofs.Places.{slice_get-below}
 use Rattle.jim_ast.specs.declared.syntax.Class.{Class}
 use Rattle.jim_ast.specs.declared.syntax.Program.{Program}
 use Rattle.link_classes.proofs.Within.{part_within}

@@ -1,4 +1,3 @@
-pub mod Beside
 pub mod Bodied
 pub mod Declaring
 pub mod Making

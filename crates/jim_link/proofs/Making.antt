@@ -1,9 +1,8 @@
 -- The methods of the linked program, one after another.
-use Rattle.std.proofs.Common.{◌≡◌, ℕ, ◌++◌, Option, None, List, [], ◌∷◌, map, refl, sym, ap, subst, ◌∙◌}
+use Rattle.std.proofs.Common.{◌≡◌, ℕ, ◌++◌, Option, None, List, [], ◌∷◌, map, refl, sym, ap, subst, ◌∙◌, Result, Ok, Err}
 use Rattle.std.specs.Prelude.{codes, flat_map}
 use Rattle.std.specs.List.{filter_map}
 use Rattle.std.specs.Result.{OnOk}
-use Rattle.std.proofs.Common.{Result, Ok, Err}
 use Rattle.std.proofs.lemmas.List.{append-nil}
 use Rattle.std.proofs.lemmas.List.Concat.{flat_map-append}
 use Rattle.std.proofs.lemmas.Option.{same_Some}
@@ -12,8 +11,7 @@ use Rattle.jim_ast.specs.declared.syntax.Imm.{Imm}
 use Rattle.jim_ast.specs.declared.syntax.Imm.TheVariants as imm
 use Rattle.jim_ast.specs.declared.syntax.Stmt.{Stmt}
 use Rattle.jim_ast.specs.declared.syntax.Stmt.TheVariants as stmt
-use Rattle.jim_link.proofs.Beside.{Each-nil}
-use Rattle.link_codes.proofs.SideBySide.{Each-push}
+use Rattle.lists.proofs.SideBySide.{Each-nil, Each-push}
 use Rattle.link_codes.proofs.Used.{extends_then}
 use Rattle.link_codes.specs.Constants.{Extends}
 use Rattle.link_codes.specs.Contexts.{context_in}
@@ -24,7 +22,8 @@ use Rattle.link_codes.specs.declared.method.MethodCode.{MethodCode}
 use Rattle.link_program.specs.Methods.{AreMethods, methods_in}
 use Rattle.link_rules.specs.Classes.{DeclaredMethod, method_text}
 use Rattle.link_rules.specs.Linked.{LinkedMethod, class_text_in, text_in, used_by}
-use Rattle.link_rules.specs.Lists.{Each, FirstSeen, none}
+use Rattle.lists.specs.Lists.{none}
+use Rattle.lists.specs.Lists.{Each, FirstSeen}
 use Rattle.link_rules.specs.Names.{text_of}
 use Rattle.link_rules.specs.Root.{initializer_call, main_call, root_of, root_stmts}
 use Rattle.link_rules.specs.Statements.{operands}

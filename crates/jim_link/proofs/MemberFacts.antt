@@ -4,12 +4,12 @@ use Rattle.std.specs.Prelude.{filter, not}
 use Rattle.std.proofs.lemmas.List.{append-nil, map-append, take_more}
 use Rattle.std.proofs.lemmas.List.Elements.{filter_more}
 use Rattle.std.proofs.lemmas.Option.{get_or_from_slice_get}
-use Rattle.jim_ast.proofs.Places.{slice_get-below, slice_get-there}
-use Rattle.link_codes.proofs.SideBySide.{Each-more}
+use Rattle.lists.proofs.Places.{slice_get-below, slice_get-there}
+use Rattle.lists.proofs.SideBySide.{Each-more}
 use Rattle.link_program.specs.Parts.{linked_field}
 use Rattle.link_program.specs.declared.parts.FieldEntry.{FieldEntry}
 use Rattle.link_rules.specs.Linked.{IsLinkedClass, LinkedClass, LinkedField, instance_fields, linked_field_of}
-use Rattle.link_rules.specs.Lists.{Each}
+use Rattle.lists.specs.Lists.{Each}
 use Rattle.link_rules.specs.Classes.{DeclaredClass, DeclaredField}
 
 -- one field more

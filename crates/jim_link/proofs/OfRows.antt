@@ -4,8 +4,8 @@ use Rattle.std.specs.Option.{IsSome}
 use Rattle.std.proofs.lemmas.Option.{slice_get-get_or}
 use Rattle.class_tree.specs.Paths.{Path, here, step}
 use Rattle.class_tree.specs.Rows.{Step}
-use Rattle.jim_ast.specs.Lists.{Has}
-use Rattle.jim_ast.proofs.Places.{slice_get-append_left, slice_get-below, slice_get-push}
+use Rattle.lists.specs.Lists.{Has}
+use Rattle.lists.proofs.Places.{slice_get-append_left, slice_get-below, slice_get-push}
 use Rattle.link_reach.specs.Reaches.{AreReached}
 use Rattle.link_rules.specs.Classes.{DeclaredMethod, methods_of}
 use Rattle.link_rules.specs.Reach.{AreInitialized, IsInitialized, IsTarget, Reached, RefusesAt, asked, called, initialized, root}

@@ -12,7 +12,7 @@ use Rattle.link_program.specs.Methods.{AreMethods, methods_in}
 use Rattle.link_program.specs.declared.methods.Methods.{Methods}
 use Rattle.link_rules.specs.Classes.{DeclaredMethod, method_text, methods_of}
 use Rattle.link_rules.specs.Linked.{LinkedMethod, class_text_in, elements_of, text_in, used_by}
-use Rattle.link_rules.specs.Lists.{Each, FirstSeen}
+use Rattle.lists.specs.Lists.{Each, FirstSeen}
 use Rattle.link_rules.specs.Names.{text_of}
 use Rattle.link_rules.specs.Root.{root_of}
 use Rattle.link_rules.specs.Statements.{HasBody}

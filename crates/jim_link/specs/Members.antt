@@ -5,7 +5,7 @@ use Rattle.link_program.specs.Parts.{linked_field, linked_key}
 use Rattle.link_program.specs.declared.parts.MemberPart.{MemberPart}
 use Rattle.link_rules.specs.Classes.{DeclaredField, fields_of, methods_of}
 use Rattle.link_rules.specs.Linked.{IsLinkedClass, instance_fields, key_of}
-use Rattle.link_rules.specs.Lists.{Each}
+use Rattle.lists.specs.Lists.{Each}
 use Rattle.link_rules.specs.World.{World}
 
 -- how many fields are static

@@ -8,9 +8,10 @@ ghost use Rattle.jim_link.specs.Heads.{AreLocals, IsHeadFor};
 ghost use Rattle.jim_link.specs.Texts.{own_names};
 
 use super::texts::{name_text, owned};
-use jim_ast::{Body, List, Name, NoMemory};
+use jim_ast::{Body, List, Name};
 use link_classes::MethodIn;
 use link_program::{ElementText, MethodHead};
+use lists::NoMemory;
 use std::alloc::{AllocError, Global};
 
 // The names of the locals of a method's body.

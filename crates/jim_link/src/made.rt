@@ -1,6 +1,6 @@
 //! The code of all methods that a run may reach, and of the root.
 ghost use Rattle.std.specs.Prelude.{◌≡◌, ◌++◌, [], ◌∷◌, ℕ, List as Items, IfOk, IsSome, OnOk, codes};
-ghost use Rattle.jim_ast.specs.Lists.{Has};
+ghost use Rattle.lists.specs.Lists.{Has};
 ghost use Rattle.link_classes.specs.Classes.{IsKnown};
 ghost use Rattle.link_classes.specs.Seen.{seen_method};
 ghost use Rattle.link_codes.specs.Fields.{field_numbers};
@@ -15,12 +15,13 @@ ghost use Rattle.jim_link.specs.Made.{AddsMethod, AreAllMade, AreKnownAbove, Are
 
 use super::heads::method_head;
 use super::texts::{method_text, owned};
-use jim_ast::{List, Name, NoMemory};
+use jim_ast::{List, Name};
 use link_calls::Targets;
 use link_classes::{Classes, MethodIn, root_method};
 use link_codes::{Constants, FieldNumbers, MethodCode, method_code};
 use link_indexes::MethodCode as Body;
 use link_program::{Methods, Numbering};
+use lists::NoMemory;
 use std::alloc::Global;
 
 /// The methods that are made so far, and the constants that they use.

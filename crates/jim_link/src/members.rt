@@ -6,13 +6,14 @@ ghost use Rattle.link_classes.specs.Seen.{seen_field};
 ghost use Rattle.link_rules.specs.Classes.{DeclaredClass, fields_of, methods_of};
 ghost use Rattle.link_rules.specs.Linked.{IsLinkedClass, instance_fields, key_of, linked_field_of};
 ghost use Rattle.link_rules.specs.Conditions.{AreWithin, field_names};
-ghost use Rattle.link_rules.specs.Lists.{Each};
+ghost use Rattle.lists.specs.Lists.{Each};
 ghost use Rattle.jim_link.specs.Members.{AreMembers, static_fields};
 
 use super::texts::{name_text, owned};
-use jim_ast::{List, NoMemory};
+use jim_ast::List;
 use link_classes::{Classes, FieldIn};
 use link_program::{ClassEntry, ClassTable, FieldEntry, KeyEntry, MemberPart};
+use lists::NoMemory;
 use std::alloc::Global;
 
 // A class as it is kept.

@@ -8,9 +8,10 @@ ghost use Rattle.link_rules.specs.World.{World as AWorld};
 ghost use Rattle.jim_link.specs.Told.{TellsFirst};
 
 use super::texts::{method_text, owned};
-use jim_ast::{Name, NoMemory};
+use jim_ast::Name;
 use link_classes::Classes;
 use link_rules::{LinkError, LinkKind};
+use lists::NoMemory;
 use std::alloc::Global;
 
 // The text of a method by its number, the root's being the one behind all others.

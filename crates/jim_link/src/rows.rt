@@ -9,11 +9,11 @@ ghost use Rattle.jim_link.specs.Rows.{AreCodes, ArePartsOf, IsCodeOf};
 use super::made::{Made, make_all};
 use super::members::member_part;
 use super::texts::owned_all;
-use jim_ast::NoMemory;
 use link_calls::Targets;
 use link_codes::Constants;
 use link_program::{CodePart, ConstantTexts, MemberPart, Numbering};
 use link_reach::Reachable;
+use lists::NoMemory;
 use std::alloc::Global;
 
 /// The parts of a linked program.

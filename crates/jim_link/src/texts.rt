@@ -8,9 +8,10 @@ ghost use Rattle.link_rules.specs.Conditions.{AreWithin, type_names};
 ghost use Rattle.link_rules.specs.Names.{text_of, type_text, types_text};
 ghost use Rattle.jim_link.specs.Texts.{own_names, separator};
 
-use jim_ast::{List, Name, NameId, Names, NoMemory, Ty};
+use jim_ast::{List, Name, NameId, Names, Ty};
 use link_classes::MethodIn;
 use link_codes::push_type;
+use lists::NoMemory;
 use std::alloc::Global;
 
 /// A copy of a text.

@@ -4,11 +4,12 @@ ghost use Rattle.jim_ast.specs.declared.syntax.Program.{Program};
 ghost use Rattle.jim_text.specs.Lexes.{Lexes};
 ghost use Rattle.jim_parse.specs.Derives.{Derives, IsRefusedAt};
 
-use jim_ast::{NoMemory, Program};
+use jim_ast::Program;
 use jim_build::build;
 use jim_grammar::least_refused;
 use jim_signs::{Signs, signs};
 use jim_text::Token;
+use lists::NoMemory;
 use std::alloc::Global;
 
 /// Why tokens derive no program.

@@ -3,8 +3,8 @@ use Rattle.std.proofs.Common.{◌≡◌, ℕ, ◌<◌, Bool, true, false, List, 
 use Rattle.std.specs.List.{list_any}
 use Rattle.std.specs.Str.{bytes_eq}
 use Rattle.std.proofs.lemmas.List.{append_assoc, append-nil}
-use Rattle.jim_ast.specs.Lists.{Has, Adds}
-use Rattle.jim_ast.proofs.Places.{IsApart-adds, Has-adds_itself, slice_get-adds, slice_get-added, slice_get-append_left, slice_get-below, slice_get-push, slice_get-pushed}
+use Rattle.lists.specs.Lists.{Has, Adds}
+use Rattle.lists.proofs.Places.{IsApart-adds, Has-adds_itself, slice_get-adds, slice_get-added, slice_get-append_left, slice_get-below, slice_get-push, slice_get-pushed}
 use Rattle.jim_text.specs.declared.Token.{Token}
 use Rattle.jim_signs.specs.Names.{AreFirsts, contents, names_of, said, text_of, with_contents, with_text}
 use Rattle.jim_signs.proofs.NameLemmas.{list_any-Has, Has-list_any}

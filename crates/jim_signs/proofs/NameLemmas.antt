@@ -4,8 +4,8 @@ use Rattle.std.specs.List.{list_any}
 use Rattle.std.specs.Str.{bytes_eq}
 use Rattle.std.proofs.lemmas.Slice.Eq.{bytes_eq-Decides}
 use Rattle.std.proofs.lemmas.List.Folds.{list_any-append}
-use Rattle.jim_ast.proofs.Places.{slice_get-push}
-use Rattle.jim_ast.specs.Lists.{Has, IsApart, Adds}
+use Rattle.lists.proofs.Places.{slice_get-push}
+use Rattle.lists.specs.Lists.{Has, IsApart, Adds}
 use Rattle.jim_signs.specs.Names.{with_text, place_of}
 
 -- the test finds what a place has

@@ -2,7 +2,7 @@
 use Rattle.std.specs.Prelude.{◌≡◌, ◌↔◌, ℕ, ◌-◌, ◌<◌, if◌then◌else◌, List, [], ◌∷◌, ◌++◌, length, fold, slice_get, slice_range, Option, Some, None}
 use Rattle.std.specs.List.{filter_map, list_any, position_or_len}
 use Rattle.std.specs.Str.{bytes_eq}
-use Rattle.jim_ast.specs.Lists.{Has, IsApart}
+use Rattle.lists.specs.Lists.{Has, IsApart}
 use Rattle.jim_text.specs.declared.Kind.{Kind}
 use Rattle.jim_text.specs.declared.Kind.TheVariants as kind
 use Rattle.jim_text.specs.declared.Token.{Token}

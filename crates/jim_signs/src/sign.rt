@@ -12,8 +12,9 @@ ghost use Rattle.jim_signs.specs.Signs.{IsBelow, IsNamed, at_number, sign_of, si
 use super::lead::{Lead, Sign, Signs};
 use super::mark::mark_lead;
 use super::word::word_lead;
-use jim_ast::{Names, NoMemory};
+use jim_ast::Names;
 use jim_text::{Kind, Token, has_quote};
+use lists::NoMemory;
 use std::alloc::Global;
 
 // The number of a text among the names, which have it then.

@@ -3,7 +3,7 @@ use Rattle.std.proofs.Common.{◌≡◌, ℕ, zero, suc, ◌==◌, true, false, 
 use Rattle.std.proofs.lemmas.Bool.{eqb-true}
 use Rattle.class_tree.proofs.Selected.{selection_one}
 use Rattle.class_tree.specs.Lookups.{Resolve}
-use Rattle.jim_ast.proofs.Places.{slice_get-below}
+use Rattle.lists.proofs.Places.{slice_get-below}
 use Rattle.link_rules.specs.Linked.{LinkedMethod, LinkedProgram}
 use Rattle.link_rules.specs.WellLinked.{IsInForm}
 use Rattle.step_rules.specs.Offers.{Finds}

@@ -1,7 +1,7 @@
 -- What the machine counts on at a statement holds at the top frame's.
 use Rattle.std.proofs.Common.{◌≡◌, ℕ, ◌+◌, ◌<◌, ◌^◌, List, Option, Some, None, All, IfSome, length, slice_get, subst, arith}
 use Rattle.std.proofs.lemmas.Option.{get_or_from_slice_get}
-use Rattle.jim_ast.proofs.Places.{slice_get-below, slice_get-there}
+use Rattle.lists.proofs.Places.{slice_get-below, slice_get-there}
 use Rattle.jim_step.specs.Ready.{GivesNumber, IsReady}
 use Rattle.jim_step.specs.Sizes.{HasFewJumps, HasNumber, IsSmall}
 use Rattle.link_rules.specs.declared.code.Arg.{Arg}

@@ -4,7 +4,7 @@ use Rattle.std.specs.List.{slice_set}
 use Rattle.std.proofs.Math.Seq.{take-suc}
 use Rattle.std.proofs.lemmas.List.{length-map, map-append, take_all}
 use Rattle.std.proofs.lemmas.Option.{get_or_from_slice_get}
-use Rattle.jim_ast.proofs.Places.{slice_get-there}
+use Rattle.lists.proofs.Places.{slice_get-there}
 use Rattle.jim_step.specs.declared.frame.Frame.{Frame as Kept}
 use Rattle.jim_step.specs.Frames.{frame_of, frames_of}
 use Rattle.jim_step.specs.Stacks.{ChangesTop, EachTop}

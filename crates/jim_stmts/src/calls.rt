@@ -12,9 +12,10 @@ ghost use Rattle.jim_stmts.specs.Meanings.{mode_by, invoke_of};
 use super::operands::args;
 use super::reader::Reader;
 use super::signatures::method_sig;
-use jim_ast::{Invoke, Mode, NoMemory};
+use jim_ast::{Invoke, Mode};
 use jim_grammar::LeadSet;
 use jim_signs::Lead;
+use lists::NoMemory;
 use std::alloc::Global;
 
 fn mode_of(lead: Lead) -> Mode

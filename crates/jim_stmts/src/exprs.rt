@@ -13,8 +13,9 @@ use super::calls::invoke;
 use super::operands::imm;
 use super::reader::Reader;
 use super::signatures::{base, field_sig, pairs, ty};
-use jim_ast::{Expr, NoMemory, Ty};
+use jim_ast::{Expr, Ty};
 use jim_signs::Lead;
+use lists::NoMemory;
 use std::alloc::Global;
 
 fn new_object(reader: &mut Reader) -> Expr

@@ -7,7 +7,7 @@
 
 mod calls;
 mod exprs;
-mod lists;
+mod listed;
 mod operands;
 mod reader;
 mod signatures;
@@ -15,7 +15,7 @@ mod stmts;
 
 pub use calls::invoke;
 pub use exprs::expr;
-pub use lists::names;
+pub use listed::names;
 pub use operands::imm;
 pub use reader::Reader;
 pub use signatures::{field_sig, maybe_types, method_sig, outcome, ty, types};

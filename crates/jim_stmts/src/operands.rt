@@ -8,8 +8,9 @@ ghost use Rattle.jim_stmts.specs.Leads.{lead_at};
 ghost use Rattle.jim_stmts.specs.Meanings.{imm_of, maybe_imm_of, imms_of, args_of};
 
 use super::reader::Reader;
-use jim_ast::{Imm, List, NoMemory};
+use jim_ast::{Imm, List};
 use jim_signs::Lead;
+use lists::NoMemory;
 use std::alloc::Global;
 
 /// An operand.

@@ -9,8 +9,9 @@ ghost use Rattle.jim_stmts.specs.Leads.{lead_at};
 ghost use Rattle.jim_stmts.specs.Meanings.{base_by, ty_of, types_of, maybe_types_of, outcome_of, fsig_of, msig_of};
 
 use super::reader::Reader;
-use jim_ast::{Base, FieldSig, List, MethodSig, NameId, NoMemory, Ty};
+use jim_ast::{Base, FieldSig, List, MethodSig, NameId, Ty};
 use jim_signs::Lead;
+use lists::NoMemory;
 use std::alloc::Global;
 
 fn base_of(lead: Lead, number: u32) -> Base

@@ -13,8 +13,9 @@ use super::exprs::expr;
 use super::operands::{imm, maybe_imm};
 use super::reader::Reader;
 use super::signatures::{field_sig, ty};
-use jim_ast::{List, NameId, NoMemory, Stmt};
+use jim_ast::{List, NameId, Stmt};
 use jim_signs::Lead;
+use lists::NoMemory;
 use std::alloc::Global;
 
 fn this(reader: &mut Reader) -> Stmt

@@ -7,10 +7,9 @@ use Rattle.std.proofs.lemmas.Bool.{cases_lt, ltb-true, ltb-false}
 use Rattle.std.proofs.lemmas.List.Elements.{All-contains, All-push, Contains-append_left, Contains-push}
 use Rattle.std.proofs.lemmas.List.Sorted.{All-permutation, Contains-permutation}
 use Rattle.std.proofs.lemmas.Option.{get_or_from_slice_get, slice_get-get_or}
-use Rattle.class_tree.specs.Paths.{IsLeast}
-use Rattle.jim_ast.specs.Lists.{Has}
+use Rattle.lists.specs.Lists.{IsLeast, Has}
 use Rattle.jim_ast.specs.declared.names.NameId.{NameId}
-use Rattle.jim_ast.proofs.Places.{slice_get-below}
+use Rattle.lists.proofs.Places.{slice_get-below}
 use Rattle.link_bodies.specs.declared.places.NamedPlace.{NamedPlace}
 use Rattle.link_bodies.specs.Places.{AreNamed, IsFirstPlace, IsNamedIn, key_of}
 

@@ -1,16 +1,15 @@
 //! The locals and the labels of a body by number.
 ghost use Rattle.std.specs.Prelude.{◌≡◌, ◌↔◌, ℕ, Some, IfNone, IfOk, IfSome, IsTrue, slice_get};
-ghost use Rattle.class_tree.specs.Paths.{IsLeast};
-ghost use Rattle.jim_ast.specs.Lists.{Has};
+ghost use Rattle.lists.specs.Lists.{IsLeast, Has, IsRepeated};
 ghost use Rattle.link_rules.specs.Bodies.{IsLabel};
 ghost use Rattle.link_rules.specs.Classes.{DeclaredMethod};
 ghost use Rattle.link_rules.specs.Faults.{RepeatsLabel};
-ghost use Rattle.link_rules.specs.Lists.{IsRepeated};
 ghost use Rattle.link_rules.specs.Statements.{HasBody};
 
 use super::places::FirstPlaces;
 use super::repeats::{least_repeated, repeats_any};
-use jim_ast::{Body, NameId, NoMemory};
+use jim_ast::{Body, NameId};
+use lists::NoMemory;
 use std::alloc::Global;
 use std::marker::Model;
 

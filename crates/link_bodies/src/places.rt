@@ -4,7 +4,8 @@ ghost use Rattle.std.specs.List.Sorted.{IsNonDecreasingBy, IsPartitionPoint};
 ghost use Rattle.jim_ast.specs.declared.names.NameId.{NameId as ANameId};
 ghost use Rattle.link_bodies.specs.Places.{AreNamed, IsFirstPlace, KnowsPlaces, key_of, label_names};
 
-use jim_ast::{Label, NameId, NoMemory};
+use jim_ast::{Label, NameId};
+use lists::NoMemory;
 use std::alloc::{AllocError, Global};
 
 /// A name, and a place at which it stands, from 0.

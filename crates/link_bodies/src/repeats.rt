@@ -1,8 +1,7 @@
 //! Names that stand twice.
 ghost use Rattle.std.specs.Prelude.{◌≡◌, ◌<◌, ◌↔◌, ℕ, List, Some, IfNone, IfSome, IsTrue, MatchOption, min, slice_get};
-ghost use Rattle.class_tree.specs.Paths.{IsLeast};
+ghost use Rattle.lists.specs.Lists.{IsLeast, IsRepeated};
 ghost use Rattle.jim_ast.specs.declared.names.NameId.{NameId as ANameId};
-ghost use Rattle.link_rules.specs.Lists.{IsRepeated};
 ghost use Rattle.link_bodies.specs.Places.{KnowsPlaces, RepeatsName, label_names};
 
 use super::places::FirstPlaces;

@@ -5,7 +5,7 @@ use Rattle.std.specs.Prelude.{IfSome}
 use Rattle.class_tree.specs.Lookups.{FieldOf}
 use Rattle.class_tree.proofs.LawFacts.{look_up_finds, path_finds}
 use Rattle.class_tree.proofs.Selected.{selection_finds}
-use Rattle.jim_ast.proofs.Places.{slice_get-below}
+use Rattle.lists.proofs.Places.{slice_get-below}
 use Rattle.link_rules.specs.Classes.{fields_of, methods_of}
 use Rattle.jim_ast.specs.declared.syntax.Mode.{Mode}
 use Rattle.jim_ast.specs.declared.syntax.Mode.TheVariants.{Special, Virtual, Interface, Static}

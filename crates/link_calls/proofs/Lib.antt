@@ -1,4 +1,3 @@
 pub mod Below
-pub mod Keys
 pub mod Pairs
 pub mod Selecting

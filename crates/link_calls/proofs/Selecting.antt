@@ -4,12 +4,12 @@ use Rattle.std.specs.Prelude.{AllPairs, Contains, ◌↔◌}
 use Rattle.std.proofs.Math.Nat.{eq-or-lt_of_le}
 use Rattle.std.proofs.lemmas.List.Quantifiers.{all_pairs_push}
 use Rattle.std.proofs.lemmas.Option.{get_or_from_slice_get, slice_get-get_or, slice_get_within}
-use Rattle.class_tree.specs.Lookups.{IsAmbiguous, OnPath, Resolve, ambiguous}
+use Rattle.class_tree.specs.Lookups.{IsAmbiguous, IsDefault, OnPath, Resolve, ambiguous, nowhere}
 use Rattle.class_tree.specs.Rows.{Rows, Sub}
 use Rattle.class_tree.proofs.LawFacts.{path_one}
 use Rattle.class_tree.proofs.Selected.{selection_one}
-use Rattle.jim_ast.specs.Lists.{Adds, Has, IsApart}
-use Rattle.jim_ast.proofs.Places.{Has-adds_itself, IsApart-adds, slice_get-added, slice_get-adds, slice_get-below}
+use Rattle.lists.specs.Lists.{Adds, Has, IsApart}
+use Rattle.lists.proofs.Places.{Has-adds_itself, IsApart-adds, slice_get-added, slice_get-adds, slice_get-below}
 use Rattle.jim_ast.specs.declared.syntax.Mode.{Mode}
 use Rattle.jim_ast.specs.declared.syntax.Mode.TheVariants.{Special, Virtual, Interface, Static}
 use Rattle.link_rules.specs.Faults.{FindsSeveral, FindsSeveralAt}
@@ -36,6 +36,10 @@ some_is_not_none row e = cc
 -- a class with several default methods finds none
 pub several_finds_none : (rows : Rows) (class key row : ℕ) → IsAmbiguous rows class key → Resolve rows class key (Some row) → ⊥
 several_finds_none rows class key row several finds = some_is_not_none row (selection_one rows class key (Some row) None finds (ambiguous several))
+
+-- nothing is along the parents, and there is no default method
+pub selects_nothing : (rows : Rows) (class key : ℕ) → OnPath rows class key None → ((row : ℕ) → IsDefault rows class key row → ⊥) → IsSelection rows class key Nothing
+selects_nothing rows class key off none = (nowhere off none, λ several. none several.one several.is_one)
 
 -- what the receiver selects is what is found from its class
 pub selected_from : (w : World) (class key receiver : ℕ) (s : Selection) → IsInstantiableAt w receiver → Sub w.rows receiver class → IsSelection w.rows receiver key s

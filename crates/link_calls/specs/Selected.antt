@@ -2,7 +2,7 @@
 use Rattle.std.specs.Prelude.{ℕ, ◌<◌, ◌↔◌, Bool, List, Some, None, IsTrue, AllPairs}
 use Rattle.class_tree.specs.Lookups.{IsAmbiguous, Resolve}
 use Rattle.class_tree.specs.Rows.{Rows}
-use Rattle.jim_ast.specs.Lists.{Has, IsApart}
+use Rattle.lists.specs.Lists.{Has, IsApart}
 use Rattle.link_rules.specs.Faults.{FindsSeveralAt}
 use Rattle.link_rules.specs.Targets.{ComesBefore, Selects}
 use Rattle.link_rules.specs.World.{World}

@@ -6,9 +6,10 @@ ghost use Rattle.link_rules.specs.World.{World as AWorld};
 ghost use Rattle.link_calls.specs.Known.{HasAtMost, IsFound};
 
 use super::selection::{Selection, select, selected};
+use class_tree::PathRows;
 use indexmap::IndexSet;
-use jim_ast::NoMemory;
 use link_classes::Classes;
+use lists::NoMemory;
 use std::alloc::Global;
 
 /// The rows of the methods that a call may run, each once, in the order of the classes that select them first; and whether a class on which the
@@ -84,10 +85,12 @@ pub(crate) fn by_objects(
     ensures { IfOk result (IsFound classes.now.world Virtual class key) }
 {
     let below = classes.tree().below(alloc, class)?;
+    let mut kept = PathRows::new(alloc);
     let mut rows = IndexSet::new(alloc);
     let mut several = false;
     for receiver in below.as_slice() {
-        match selected(classes, key, *receiver) {
+        let selection = selected(classes, &mut kept, key, *receiver)?;
+        match selection {
             Selection::Method(row) => {
                 rows.insert(row)?;
             }

@@ -7,8 +7,9 @@ ghost use Rattle.link_rules.specs.World.{AreRows, World as AWorld};
 ghost use Rattle.link_rules.specs.Classes.{methods_of};
 
 use super::finding::{Found, by_name, by_objects, by_path};
-use jim_ast::{Mode, NoMemory};
+use jim_ast::Mode;
 use link_classes::Classes;
+use lists::NoMemory;
 use std::alloc::Global;
 use std::collections::HashMap;
 use std::marker::Model;

@@ -11,7 +11,7 @@ use Rattle.class_tree.specs.declared.rows.MethodRow.{MethodRow}
 use Rattle.jim_ast.specs.declared.syntax.Body.{Body}
 use Rattle.link_rules.specs.Classes.{DeclaredMethod, methods_of}
 use Rattle.link_rules.specs.Keys.{IsMethodKeyNumber, MethodKey}
-use Rattle.link_rules.specs.Lists.{IsFirstOr}
+use Rattle.lists.specs.Lists.{IsFirstOr}
 use Rattle.link_rules.specs.Reach.{DeclaresBody}
 use Rattle.link_rules.specs.World.{World, kind_of_body}
 use Rattle.link_classes.specs.declared.seen.MethodIn.{MethodIn}

@@ -1,6 +1,6 @@
 -- Classes that have the name of an earlier one.
 use Rattle.std.proofs.Common.{◌≡◌, ◌<◌, ◌≤◌, ℕ, List, Some, sym, subst, inl, inr, slice_get, arith}
-use Rattle.jim_ast.proofs.Places.{slice_get-below}
+use Rattle.lists.proofs.Places.{slice_get-below}
 use Rattle.link_rules.specs.Classes.{DeclaredClass, IsNamed, class_name}
 use Rattle.link_rules.specs.Refusals.{HasEarlierName}
 use Rattle.link_rules.specs.World.{IsClassNumber, World}

@@ -1,7 +1,7 @@
 -- The first member with a key, as members come behind others.
 use Rattle.std.proofs.Common.{◌≡◌, ℕ, ◌<◌, ◌⊎◌, ◌++◌, List, [], ◌∷◌, Option, Some, None, Bool, true, false, cond, length, slice_get, refl, sym, ap, subst, ◌∙◌, inl, inr, arith, true≢false}
-use Rattle.class_tree.specs.Paths.{IsLeast}
-use Rattle.jim_ast.proofs.Places.{slice_get-append_left, slice_get-below, slice_get-push, slice_get-pushed, slice_get-there}
+use Rattle.lists.specs.Lists.{IsLeast}
+use Rattle.lists.proofs.Places.{slice_get-append_left, slice_get-below, slice_get-push, slice_get-pushed, slice_get-there}
 use Rattle.link_classes.specs.Tables.{IsFirst}
 
 -- a number more may have the fact

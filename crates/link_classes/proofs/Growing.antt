@@ -1,15 +1,15 @@
 -- Lists of members that grow class by class.
-use Rattle.std.proofs.Common.{◌≡◌, ◌⊎◌, ℕ, suc, ◌+◌, ◌<◌, ◌++◌, List, [], ◌∷◌, flat_map, length, map, take, drop, get_or, sym, ap, subst, ◌∙◌, append_assoc, length-append, arith, slice_get, Some, inl, inr}
+use Rattle.std.proofs.Common.{◌≡◌, ◌⊎◌, ℕ, suc, ◌+◌, ◌<◌, ◌++◌, List, [], ◌∷◌, flat_map, length, map, take, drop, get_or, sym, ap, subst, ◌∙◌, append_assoc, length-append, arith, slice_get, Some, inl, inr, length-take}
 use Rattle.std.specs.List.{enumerate_from}
 use Rattle.std.proofs.lemmas.List.{append-nil, length-map, map-append, take-append-drop, take_more}
-use Rattle.std.proofs.Common.{length-take}
 use Rattle.std.specs.Option.{option_map}
 use Rattle.std.proofs.lemmas.Option.{get_or_from_slice_get, slice_get-get_or, slice_get-map}
 use Rattle.link_rules.specs.Classes.{DeclaredClass}
-use Rattle.link_rules.specs.Lists.{Each}
-use Rattle.jim_ast.proofs.Places.{slice_get-below, slice_get-pushed}
+use Rattle.lists.specs.Lists.{Each}
+use Rattle.lists.proofs.Places.{slice_get-below, slice_get-pushed}
 use Rattle.link_classes.specs.declared.seen.ClassIn.{ClassIn}
 use Rattle.link_classes.specs.Seen.{seen_class, seen_classes}
+use Rattle.lists.proofs.SideBySide.{Each-push}
 
 -- below the next number: below this one, or this one
 pub below_or_last : (n m : ℕ) → n < m + 1 → (n < m) ⊎ (n ≡ m)
@@ -72,22 +72,6 @@ map-more seen made now x xs i y so_far below there same = added_more seen made [
 -- a class where it stands, as it is seen
 pub seen_there : (classes : List ClassIn) (i : ℕ) (c : ClassIn) → i < length classes → c ≡ get_or classes i c → slice_get (seen_classes classes) i ≡ Some (seen_class c)
 seen_there classes i c below is = slice_get-map seen_class classes i ∙ ap (option_map seen_class) (slice_get-get_or classes i c below ∙ ap Some (sym is))
-
--- lists side by side, one element longer
-pub Each-push : {X Y : Type 0} (R : X → Y → Type 0) (xs : List X) (ys : List Y) (x : X) (y : Y) → Each R xs ys → R x y → Each R (xs ++ x ∷ []) (ys ++ y ∷ [])
-Each-push R xs ys x y before last = record {
-  as_many = omega (arith, length-append xs (x ∷ []), length-append ys (y ∷ []), before.as_many);
-  each = λ i a b p q. elim (slice_get-pushed xs x i a p) [
-    | inl old ↦ elim (slice_get-pushed ys y i b q) [
-      | inl too ↦ before.each i a b old too
-      | inr new ↦ absurd (omega (arith, new.0, slice_get-below xs i a old, before.as_many))
-    ]
-    | inr end ↦ elim (slice_get-pushed ys y i b q) [
-      | inl old ↦ absurd (omega (arith, end.0, slice_get-below ys i b old, before.as_many))
-      | inr new ↦ subst (λ b. R a b) (sym new.1) (subst (λ a. R a y) (sym end.1) last)
-    ]
-  ];
-}
 
 -- the same where what is made of the first elements of a list stands behind others
 pub Each-more : {X Y B : Type 0} (R : X → Y → Type 0) (before : List X) (made : B → X) (xs : List B) (i : ℕ) (b : B) (ys : List Y) (y : Y)

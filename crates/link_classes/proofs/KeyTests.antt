@@ -5,7 +5,7 @@ use Rattle.std.proofs.lemmas.List.Elements.{All-tail}
 use Rattle.std.proofs.lemmas.Option.{slice_get-get_or}
 use mathlib.Core.Bool.{beq}
 use lib.Pointwise.{pointwise}
-use Rattle.jim_ast.specs.Lists.{IsApart}
+use Rattle.lists.specs.Lists.{IsApart}
 use Rattle.jim_ast.specs.declared.names.NameId.{NameId}
 use Rattle.link_rules.specs.Classes.{DeclaredField, DeclaredMethod}
 use Rattle.link_rules.specs.Keys.{FieldKey, HasFieldKey, HasMethodKey, MethodKey, field_key, method_key}

@@ -3,7 +3,7 @@ use Rattle.std.proofs.Common.{◌≡◌, ℕ, ◌<◌, List, [], All, Some, leng
 use Rattle.std.specs.Option.{option_map}
 use Rattle.std.proofs.lemmas.List.{length-map}
 use Rattle.std.proofs.lemmas.Option.{get_or_from_slice_get, slice_get-get_or, slice_get-map}
-use Rattle.jim_ast.proofs.Places.{slice_get-below, slice_get-extensional, slice_get-there}
+use Rattle.lists.proofs.Places.{slice_get-below, slice_get-extensional, slice_get-there}
 use Rattle.jim_ast.specs.declared.names.NameId.{NameId}
 use Rattle.jim_ast.specs.declared.syntax.MethodDecl.{MethodDecl}
 use Rattle.link_rules.specs.Conditions.{AreWithin, field_names, method_names}

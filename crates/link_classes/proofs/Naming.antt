@@ -4,9 +4,8 @@ use Rattle.std.specs.List.{slice_set}
 use Rattle.std.specs.Option.{option_or, unwrap_or}
 use Rattle.std.proofs.lemmas.Bool.{cases_order}
 use Rattle.std.proofs.lemmas.List.Elements.{All-nil}
-use Rattle.class_tree.specs.Paths.{IsLeast}
-use Rattle.jim_ast.proofs.Places.{slice_get-append_left, slice_get-below, slice_get-push, slice_get-pushed, slice_get-set_other, slice_get-set_same}
-use Rattle.jim_ast.specs.Lists.{IsApart}
+use Rattle.lists.specs.Lists.{IsLeast, IsApart}
+use Rattle.lists.proofs.Places.{slice_get-append_left, slice_get-below, slice_get-push, slice_get-pushed, slice_get-set_other, slice_get-set_same}
 use Rattle.link_rules.specs.Classes.{DeclaredClass, IsCompleted, IsNamed, class_name, comes, is_left_out}
 use Rattle.link_rules.specs.World.{IsClassNumber}
 use Rattle.link_classes.specs.declared.order.ClassOrder.{ClassOrder}

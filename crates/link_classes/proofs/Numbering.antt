@@ -2,11 +2,11 @@
 use Rattle.std.proofs.Common.{◌≡◌, ℕ, ◌+◌, ◌++◌, List, [], ◌∷◌, slice_get, take, Some, refl, ap, ◌∙◌}
 use Rattle.std.proofs.lemmas.List.{take_more}
 use Rattle.std.proofs.lemmas.Option.{get_or_from_slice_get}
-use Rattle.jim_ast.proofs.Places.{slice_get-adds, slice_get-below}
-use Rattle.jim_ast.specs.Lists.{Adds}
+use Rattle.lists.proofs.Places.{slice_get-adds, slice_get-below}
+use Rattle.lists.specs.Lists.{Adds}
 use Rattle.jim_ast.specs.declared.names.NameId.{NameId}
 use Rattle.link_classes.specs.Numbered.{AreNumbers, IsNumber, Keeps}
-use Rattle.link_classes.proofs.Growing.{Each-push}
+use Rattle.lists.proofs.SideBySide.{Each-push}
 
 -- numbers stay when names come behind others
 pub numbers_kept : (old new names : List (List ℕ)) (ids : List NameId) → AreNumbers old names ids → Keeps old new → AreNumbers new names ids

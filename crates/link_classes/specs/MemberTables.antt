@@ -1,7 +1,7 @@
 -- Members with their rows and the numbers of their keys.
 use Rattle.std.specs.Prelude.{◌≡◌, ◌<◌, ◌^◌, All, length}
 use Rattle.link_rules.specs.Classes.{fields_of, methods_of}
-use Rattle.link_rules.specs.Lists.{Each}
+use Rattle.lists.specs.Lists.{Each}
 use Rattle.link_rules.specs.World.{IsFieldRow, IsMethodRow}
 use Rattle.link_classes.specs.declared.member_tables.FieldTable.{FieldTable}
 use Rattle.link_classes.specs.declared.member_tables.MethodTable.{MethodTable}

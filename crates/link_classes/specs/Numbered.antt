@@ -1,7 +1,7 @@
 -- The names of a program by their numbers among all names.
 use Rattle.std.specs.Prelude.{◌≡◌, ℕ, List, [], ◌∷◌, Some, codes, slice_get}
 use Rattle.jim_ast.specs.declared.names.NameId.{NameId}
-use Rattle.link_rules.specs.Lists.{Each}
+use Rattle.lists.specs.Lists.{Each}
 
 -- the name with this number has this text
 abbrev pub IsNumber : List (List ℕ) → List ℕ → NameId → Type 0

@@ -2,7 +2,7 @@
 use Rattle.std.specs.Prelude.{ℕ, List}
 use Rattle.class_tree.specs.declared.rows.TreeError.{TreeError}
 use Rattle.class_tree.specs.declared.rows.TreeError.TheVariants as error
-use Rattle.class_tree.specs.Paths.{IsLeast}
+use Rattle.lists.specs.Lists.{IsLeast}
 use Rattle.class_tree.specs.Rows.{IsOwnAncestor, NamesUnknown, Rows, rows_of}
 use Rattle.link_rules.specs.Refusals.{HasEarlierName}
 use Rattle.link_rules.specs.World.{AreRows, World}

@@ -1,12 +1,10 @@
 -- What is kept of classes, as the definitions of linking see them.
 use Rattle.std.specs.Prelude.{◌≡◌, ℕ, ◌<◌, ◌^◌, ◌⊎◌, ◌++◌, [], ◌∷◌, List, Option, Some, None, All, length, map}
-use Rattle.class_tree.specs.Paths.{IsLeast}
-use Rattle.jim_ast.specs.Lists.{Has, IsApart}
+use Rattle.lists.specs.Lists.{IsLeast, Has, IsApart, Each}
 use Rattle.jim_ast.specs.declared.syntax.Body.{Body}
 use Rattle.jim_ast.specs.declared.syntax.MethodDecl.{MethodDecl}
 use Rattle.link_rules.specs.Classes.{DeclaredClass, DeclaredField, DeclaredMethod, IsDeclared, IsNamed, IsParentName, class_name}
 use Rattle.link_rules.specs.Conditions.{AreWithin, IsReadBody, class_names, field_names}
-use Rattle.link_rules.specs.Lists.{Each}
 use Rattle.link_rules.specs.Names.{text_of}
 use Rattle.link_rules.specs.World.{IsParentRow}
 use Rattle.link_classes.specs.declared.order.ClassOrder.{ClassOrder}

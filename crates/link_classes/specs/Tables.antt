@@ -1,7 +1,7 @@
 -- Tables from keys to the numbers of the first members that have them.
 use Rattle.std.specs.Prelude.{ℕ, List, Option, Some, None}
 use Rattle.indexmap.specs.IndexMap.{get}
-use Rattle.class_tree.specs.Paths.{IsLeast}
+use Rattle.lists.specs.Lists.{IsLeast}
 use Rattle.link_rules.specs.Classes.{DeclaredField, DeclaredMethod}
 use Rattle.link_rules.specs.Keys.{HasFieldKey, HasMethodKey}
 use Rattle.link_classes.specs.contracts.keys.FieldKeyInPartialEq.TheImpl as field_key_eq

@@ -14,7 +14,8 @@ use super::keys::{FieldKeyIn, MethodKeyIn, method_key_in};
 use super::seen::MethodIn;
 use super::tables::{FieldKeys, MethodKeys};
 use class_tree::Tree;
-use jim_ast::{Base, NameId, NoMemory, Ty};
+use jim_ast::{Base, NameId, Ty};
+use lists::NoMemory;
 use std::alloc::Global;
 
 const VOID: Ty = Ty {

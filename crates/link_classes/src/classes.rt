@@ -29,8 +29,9 @@ use super::row_tables::RowTables;
 use super::seen::{ClassIn, FieldIn, MethodIn};
 use super::tables::{FieldKeys, MethodKeys};
 use class_tree::Tree;
-use jim_ast::{FieldSig, MethodDecl, MethodSig, Mode, Name, NameId, Names, NoMemory, Program};
+use jim_ast::{FieldSig, MethodDecl, MethodSig, Mode, Name, NameId, Names, Program};
 use link_rules::LinkKind;
+use lists::NoMemory;
 use std::alloc::{AllocError, Global};
 use std::marker::Model;
 

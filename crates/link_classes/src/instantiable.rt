@@ -1,6 +1,6 @@
 //! Which classes may have objects.
 ghost use Rattle.std.specs.Prelude.{◌<◌, ◌↔◌, ◌∷◌, ℕ, List, IsTrue, length};
-ghost use Rattle.jim_ast.specs.Lists.{Has};
+ghost use Rattle.lists.specs.Lists.{Has};
 ghost use Rattle.link_rules.specs.Targets.{IsInstantiable, exception_names, nine_names};
 ghost use Rattle.link_classes.specs.Seen.{seen_class};
 

@@ -6,7 +6,8 @@ ghost use Rattle.link_rules.specs.Names.{base_key, type_key};
 ghost use Rattle.link_classes.specs.Classes.{texts_at};
 ghost use Rattle.link_classes.specs.Keyed.{IsBaseWithin, IsFieldKeyIn, IsMethodKeyIn, IsTypeWithin, base_of, field_key_by, method_key_by, type_of};
 
-use jim_ast::{Base, NameId, NoMemory, Ty};
+use jim_ast::{Base, NameId, Ty};
+use lists::NoMemory;
 use std::alloc::Global;
 
 /// A type without its brackets, a class by the number of its name among all names.

@@ -13,7 +13,8 @@ use super::order::ClassOrder;
 use super::seen::{FieldIn, MethodIn};
 use super::tables::{FieldKeys, MethodKeys};
 use class_tree::{BodyKind, FieldRow, MethodRow};
-use jim_ast::{MethodDecl, Names, NoMemory};
+use jim_ast::{MethodDecl, Names};
+use lists::NoMemory;
 use std::alloc::Global;
 
 /// The methods in order, with their rows and the numbers of their keys.

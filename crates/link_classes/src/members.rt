@@ -6,7 +6,8 @@ ghost use Rattle.link_classes.specs.Seen.{IsFieldSeen, IsOrder, IsSeen, seen_cla
 
 use super::order::ClassOrder;
 use super::seen::{ClassIn, FieldIn, MethodIn};
-use jim_ast::{Names, NoMemory};
+use jim_ast::Names;
+use lists::NoMemory;
 use std::alloc::{AllocError, Global};
 
 // Puts a class's methods behind others. There is room for 4,294,967,295.

@@ -1,9 +1,10 @@
 //! The names of two programs as one set.
 ghost use Rattle.std.specs.Prelude.{◌≡◌, ◌<◌, ◌++◌, [], ◌∷◌, ℕ, List, Some, IfOk, OnOk, length, slice_get};
-ghost use Rattle.link_rules.specs.Lists.{FirstSeen};
+ghost use Rattle.lists.specs.Lists.{FirstSeen};
 ghost use Rattle.link_classes.specs.Numbered.{AreNumbers, Keeps, fixed_names};
 
-use jim_ast::{NameId, Names, NoMemory};
+use jim_ast::{NameId, Names};
+use lists::NoMemory;
 use std::alloc::Global;
 
 /// The names of an input and a prelude as one set, together with those that the root needs, and the numbers of each in it.

@@ -9,7 +9,8 @@ ghost use Rattle.link_classes.specs.Seen.{IsFirstNamed, IsOrder, IsPutIfNew, IsS
 
 use super::names::AllNames;
 use super::seen::ClassIn;
-use jim_ast::{NameId, NoMemory, Program};
+use jim_ast::{NameId, Program};
+use lists::NoMemory;
 use std::alloc::{AllocError, Global};
 
 /// The classes in order, and for each of all names the number of the first class that has it.

@@ -1,6 +1,6 @@
 //! The first rule that refuses a program: a class with the name of an earlier one.
 ghost use Rattle.std.specs.Prelude.{◌≡◌, ◌<◌, ℕ, IfNone, IfSome, length};
-ghost use Rattle.class_tree.specs.Paths.{IsLeast};
+ghost use Rattle.lists.specs.Lists.{IsLeast};
 ghost use Rattle.link_rules.specs.Refusals.{HasEarlierName};
 ghost use Rattle.link_rules.specs.World.{World};
 ghost use Rattle.link_classes.specs.Seen.{IsOrder, seen_classes};

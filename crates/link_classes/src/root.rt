@@ -8,9 +8,8 @@ ghost use Rattle.link_classes.specs.RootParts.{plain_return, static_call_of, str
 ghost use Rattle.link_classes.specs.Seen.{IsOrder, seen_classes};
 
 use super::order::{ClassOrder, name_id};
-use jim_ast::{
-    Base, Body, Expr, Imm, Invoke, List, MethodDecl, MethodSig, Mode, NameId, NoMemory, Stmt, Ty,
-};
+use jim_ast::{Base, Body, Expr, Imm, Invoke, List, MethodDecl, MethodSig, Mode, NameId, Stmt, Ty};
+use lists::NoMemory;
 use std::alloc::{AllocError, Global};
 
 const TEXT: NameId = NameId(0);

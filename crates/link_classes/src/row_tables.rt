@@ -7,7 +7,7 @@ use super::member_tables::{FieldTable, MethodTable};
 use super::order::ClassOrder;
 use super::rows::{class_rows, interface_pairs};
 use class_tree::ClassRow;
-use jim_ast::NoMemory;
+use lists::NoMemory;
 use std::alloc::Global;
 
 /// All rows of the classes, with the members.

@@ -1,14 +1,14 @@
 //! The rows of the hierarchy that classes have.
 ghost use Rattle.std.specs.Prelude.{◌≡◌, ◌<◌, ◌++◌, ℕ, List, Option, IfOk, OnOk, All, length};
 ghost use Rattle.link_rules.specs.Classes.{IsParentName, NamedInterface, interfaces_in, named_interfaces, object_name};
-ghost use Rattle.link_rules.specs.Lists.{Each};
+ghost use Rattle.lists.specs.Lists.{Each};
 ghost use Rattle.link_rules.specs.World.{IsClassNumber, IsClassRow, IsInterfacePair, IsParentRow};
 ghost use Rattle.link_classes.specs.Seen.{IsOrder, IsParentOf, IsSeen, seen_class, seen_classes};
 
 use super::order::ClassOrder;
 use super::seen::ClassIn;
 use class_tree::ClassRow;
-use jim_ast::NoMemory;
+use lists::NoMemory;
 use std::alloc::Global;
 
 /// The class that has no parent unless it names one.

@@ -1,7 +1,6 @@
 //! The numbers of keys: each key has that of the first method, or field, with it.
 ghost use Rattle.std.specs.Prelude.{◌≡◌, ℕ, List, [], ◌∷◌, ◌++◌, IfOk, length};
-ghost use Rattle.class_tree.specs.Paths.{IsLeast};
-ghost use Rattle.jim_ast.specs.Lists.{IsApart};
+ghost use Rattle.lists.specs.Lists.{IsLeast, IsApart};
 ghost use Rattle.link_rules.specs.Classes.{DeclaredField, DeclaredMethod};
 ghost use Rattle.link_rules.specs.Keys.{HasFieldKey, HasMethodKey, field_key, method_key};
 ghost use Rattle.link_classes.specs.Keyed.{IsFieldKeyIn, IsFieldKeyWithin, IsMethodKeyIn, IsMethodKeyWithin, field_key_of, method_key_of};
@@ -9,7 +8,7 @@ ghost use Rattle.link_classes.specs.Tables.{IsFirst, KnowsFields, KnowsMethods, 
 
 use super::keys::{FieldKeyIn, MethodKeyIn};
 use indexmap::IndexMap;
-use jim_ast::NoMemory;
+use lists::NoMemory;
 use std::alloc::Global;
 
 /// The numbers of the keys of methods.

@@ -1,7 +1,7 @@
 -- The targets of a call, and its code.
 use Rattle.std.proofs.Common.{◌≡◌, ℕ, List, Some, All, slice_get, get_or, subst}
 use Rattle.std.proofs.lemmas.Option.{slice_get-get_or}
-use Rattle.jim_ast.specs.Lists.{Has}
+use Rattle.lists.specs.Lists.{Has, Each}
 use Rattle.jim_ast.specs.declared.syntax.Imm.{Imm}
 use Rattle.jim_ast.specs.declared.syntax.MethodSig.{MethodSig}
 use Rattle.jim_ast.specs.declared.syntax.Mode.{Mode}
@@ -9,7 +9,6 @@ use Rattle.link_rules.specs.declared.code.Arg.{Arg}
 use Rattle.link_rules.specs.Classes.{IsNamed, methods_of}
 use Rattle.link_rules.specs.Codes.{IsArg, IsCall}
 use Rattle.link_rules.specs.Keys.{IsMethodKeyNumber, called_key}
-use Rattle.link_rules.specs.Lists.{Each}
 use Rattle.link_rules.specs.Names.{text_of}
 use Rattle.link_rules.specs.Targets.{AreTargetRows}
 use Rattle.link_rules.specs.World.{World}

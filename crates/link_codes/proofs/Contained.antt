@@ -2,8 +2,8 @@
 use Rattle.std.proofs.Common.{◌≡◌, ℕ, zero, suc, ◌<◌, ◌++◌, List, [], ◌∷◌, Option, Some, None, length, get_or, slice_get, flat_map, refl, sym, ap, subst, ◌∙◌}
 use Rattle.std.specs.List.{cons_option, filter_map}
 use Rattle.std.proofs.lemmas.Option.{slice_get-get_or, get_or_from_slice_get}
-use Rattle.jim_ast.proofs.Places.{slice_get-append_left, slice_get-below}
-use Rattle.jim_ast.specs.Lists.{Has}
+use Rattle.lists.proofs.Places.{slice_get-append_left, slice_get-below}
+use Rattle.lists.specs.Lists.{Has}
 use Rattle.jim_ast.specs.declared.names.NameId.{NameId}
 use Rattle.jim_ast.specs.declared.syntax.Imm.{Imm}
 use Rattle.link_rules.specs.Conditions.{AreWithin}

@@ -6,7 +6,6 @@ pub mod Decided
 pub mod Linking
 pub mod Numbered
 pub mod Present
-pub mod SideBySide
 pub mod Texts
 pub mod Used
 pub mod Whole

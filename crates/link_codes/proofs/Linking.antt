@@ -5,7 +5,7 @@ use Rattle.std.proofs.lemmas.Grind.{flat_map-append}
 use Rattle.std.proofs.lemmas.List.{append-nil}
 use Rattle.link_rules.specs.Classes.{DeclaredMethod}
 use Rattle.link_rules.specs.Linked.{IsLinkedMethod, LinkedMethod, LinkedProgram, class_text_in, text_in, used_by}
-use Rattle.link_rules.specs.Lists.{FirstSeen}
+use Rattle.lists.specs.Lists.{FirstSeen}
 use Rattle.link_rules.specs.Names.{text_of}
 use Rattle.link_rules.specs.World.{World}
 use Rattle.link_codes.specs.declared.constants.Constants.{Constants}

@@ -3,13 +3,13 @@ use Rattle.std.proofs.Common.{◌≡◌, ℕ, ◌+◌, ◌<◌, ◌++◌, List, 
 use Rattle.std.specs.List.{filter_map}
 use Rattle.std.proofs.lemmas.List.{append-nil, take_more}
 use Rattle.std.proofs.lemmas.List.Elements.{filter_map-append}
-use Rattle.jim_ast.proofs.Places.{slice_get-adds}
-use Rattle.jim_ast.specs.Lists.{Adds}
+use Rattle.lists.proofs.Places.{slice_get-adds}
+use Rattle.lists.specs.Lists.{Adds, FirstSeen}
 use Rattle.jim_ast.specs.declared.names.NameId.{NameId}
 use Rattle.jim_ast.specs.declared.syntax.Imm.{Imm}
 use Rattle.jim_ast.specs.declared.syntax.Imm.TheVariants as imm
 use Rattle.link_rules.specs.Linked.{class_text_in, text_in}
-use Rattle.link_rules.specs.Lists.{FirstSeen, next}
+use Rattle.lists.specs.Lists.{next}
 use Rattle.link_rules.specs.Names.{text_of}
 use Rattle.link_codes.specs.declared.constants.Constants.{Constants}
 use Rattle.link_codes.specs.Constants.{Extends, Uses}

@@ -5,7 +5,7 @@ use Rattle.std.specs.Option.{option_to_list}
 use Rattle.std.proofs.lemmas.List.{append-nil}
 use Rattle.std.proofs.lemmas.List.Elements.{filter_map-append}
 use Rattle.std.proofs.lemmas.Option.{slice_get-get_or}
-use Rattle.jim_ast.specs.Lists.{Has}
+use Rattle.lists.specs.Lists.{Has, FirstSeen}
 use Rattle.jim_ast.specs.declared.syntax.Body.{Body}
 use Rattle.jim_ast.specs.declared.syntax.Imm.{Imm}
 use Rattle.jim_ast.specs.declared.syntax.MethodDecl.{MethodDecl}
@@ -20,7 +20,6 @@ use Rattle.link_rules.specs.declared.refusal.LinkKind.{LinkKind}
 use Rattle.link_rules.specs.Classes.{DeclaredMethod}
 use Rattle.link_rules.specs.Conditions.{AreWithin, body_names, label_names, method_names, stmt_names, trap_names, type_names}
 use Rattle.link_rules.specs.Linked.{class_text_in, elements_of, text_in, used_by}
-use Rattle.link_rules.specs.Lists.{FirstSeen}
 use Rattle.link_rules.specs.Reach.{IsTarget, RefusesAt}
 use Rattle.link_rules.specs.Statements.{HasBody, operands}
 use Rattle.link_codes.specs.declared.constants.Constants.{Constants}

@@ -3,7 +3,7 @@ use Rattle.std.specs.Prelude.{ℕ, ◌++◌, List}
 use Rattle.std.specs.List.{filter_map}
 use Rattle.jim_ast.specs.declared.syntax.Imm.{Imm}
 use Rattle.link_rules.specs.Linked.{class_text_in, text_in}
-use Rattle.link_rules.specs.Lists.{FirstSeen}
+use Rattle.lists.specs.Lists.{FirstSeen}
 use Rattle.link_classes.specs.Numbered.{Keeps}
 use Rattle.link_codes.specs.declared.constants.Constants.{Constants}
 

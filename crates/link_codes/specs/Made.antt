@@ -11,7 +11,7 @@ use Rattle.link_rules.specs.declared.code.Arg.{Arg}
 use Rattle.link_rules.specs.declared.code.Catch.{Catch}
 use Rattle.link_rules.specs.declared.code.Code.{Code}
 use Rattle.link_rules.specs.Codes.{IsArg, IsAssignment, IsCall, IsCatch, IsCode}
-use Rattle.link_rules.specs.Lists.{BothOrNone, Each}
+use Rattle.lists.specs.Lists.{BothOrNone, Each}
 use Rattle.link_codes.specs.declared.calls.CallParts.{CallParts}
 use Rattle.link_codes.specs.declared.constants.Constants.{Constants}
 use Rattle.link_codes.specs.Contexts.{Context, scope_with}

@@ -3,7 +3,7 @@ use Rattle.std.specs.Prelude.{◌≡◌, ℕ, ◌++◌, List}
 use Rattle.jim_ast.specs.declared.syntax.Body.{Body}
 use Rattle.link_rules.specs.Classes.{DeclaredMethod}
 use Rattle.link_rules.specs.Linked.{class_text_in, elements_of, text_in, used_by}
-use Rattle.link_rules.specs.Lists.{FirstSeen}
+use Rattle.lists.specs.Lists.{FirstSeen}
 use Rattle.link_rules.specs.Statements.{HasBody}
 use Rattle.link_rules.specs.World.{World}
 use Rattle.link_codes.specs.declared.constants.Constants.{Constants}

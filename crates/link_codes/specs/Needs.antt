@@ -2,7 +2,7 @@
 use Rattle.std.specs.Prelude.{ℕ, ◌<◌, None, Bool, true, false, All, length}
 use Rattle.std.specs.Option.{ForSome}
 use Rattle.class_tree.specs.Lookups.{FieldOf}
-use Rattle.jim_ast.specs.Lists.{Has}
+use Rattle.lists.specs.Lists.{Has}
 use Rattle.jim_ast.specs.declared.names.NameId.{NameId}
 use Rattle.jim_ast.specs.declared.syntax.Expr.{Expr}
 use Rattle.jim_ast.specs.declared.syntax.Expr.TheVariants as expr

@@ -8,8 +8,9 @@ ghost use Rattle.link_codes.specs.Needs.{HasOperand};
 
 use super::constants::Constants;
 use super::scope::MethodScope;
-use jim_ast::{Imm, List, NoMemory};
+use jim_ast::{Imm, List};
 use link_rules::Arg;
+use lists::NoMemory;
 use std::alloc::Global;
 
 // The code of an operand.

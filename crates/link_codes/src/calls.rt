@@ -1,11 +1,10 @@
 //! The code of calls.
 ghost use Rattle.std.specs.Prelude.{◌≡◌, ℕ, All, IfOk, None, OnOk, Some, slice_get};
 ghost use Rattle.std.specs.Option.{ForSome};
-ghost use Rattle.jim_ast.specs.Lists.{Has};
+ghost use Rattle.lists.specs.Lists.{Has, BothOrNone, Each};
 ghost use Rattle.jim_ast.specs.declared.names.NameId.{NameId as ANameId};
 ghost use Rattle.jim_ast.specs.declared.syntax.Expr.TheVariants as expr;
 ghost use Rattle.jim_ast.specs.declared.syntax.Stmt.TheVariants as stmt;
-ghost use Rattle.link_rules.specs.Lists.{BothOrNone, Each};
 ghost use Rattle.link_rules.specs.Statements.{call_args};
 ghost use Rattle.link_codes.specs.Contexts.{context_of};
 ghost use Rattle.link_codes.specs.Constants.{Uses};
@@ -15,10 +14,11 @@ ghost use Rattle.link_codes.specs.Needs.{HasCall, HasLocal, HasOperand, HasTarge
 use super::args::args;
 use super::constants::Constants;
 use super::scope::MethodScope;
-use jim_ast::{Imm, Invoke, List, MethodSig, Mode, NameId, NoMemory};
+use jim_ast::{Imm, Invoke, List, MethodSig, Mode, NameId};
 use link_calls::Targets;
 use link_program::Numbering;
 use link_rules::{Arg, Code};
+use lists::NoMemory;
 use std::alloc::Global;
 
 // What a call names, its operands, and the numbers of the methods that it may run.

@@ -1,8 +1,9 @@
 //! The constants of a program.
 ghost use Rattle.std.specs.Prelude.{◌≡◌, [], IfOk, OnOk, Some, slice_get};
-ghost use Rattle.jim_ast.specs.Lists.{Adds};
+ghost use Rattle.lists.specs.Lists.{Adds};
 
-use jim_ast::{Names, NoMemory};
+use jim_ast::Names;
+use lists::NoMemory;
 use std::alloc::Global;
 
 /// The constants of a program, each kind numbered from 0 in the order of first use.

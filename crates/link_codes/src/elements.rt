@@ -10,8 +10,9 @@ ghost use Rattle.link_program.specs.Elements.{elements_in};
 
 use super::scope::MethodScope;
 use super::types::push_type;
-use jim_ast::{Expr, Name, NoMemory, Stmt, Ty};
+use jim_ast::{Expr, Name, Stmt, Ty};
 use link_program::ElementText;
+use lists::NoMemory;
 use std::alloc::{AllocError, Global};
 
 // The type of what the innermost arrays hold that a statement makes, if it makes any.

@@ -13,9 +13,10 @@ use super::args::arg;
 use super::calls::call;
 use super::constants::Constants;
 use super::scope::MethodScope;
-use jim_ast::{Base, Expr, Imm, NameId, NoMemory, Ty};
+use jim_ast::{Base, Expr, Imm, NameId, Ty};
 use link_calls::Targets;
 use link_rules::Code;
+use lists::NoMemory;
 use std::alloc::Global;
 
 // Whether a type is primitive: a cast to it is a copy.

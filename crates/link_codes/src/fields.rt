@@ -4,8 +4,8 @@ ghost use Rattle.link_rules.specs.Classes.{DeclaredField, fields_of};
 ghost use Rattle.link_rules.specs.Codes.{instance_number, static_number};
 ghost use Rattle.link_codes.specs.Fields.{field_numbers};
 
-use jim_ast::NoMemory;
 use link_classes::Classes;
+use lists::NoMemory;
 use std::alloc::Global;
 use std::marker::Model;
 

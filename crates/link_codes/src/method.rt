@@ -1,6 +1,6 @@
 //! The code of a method.
 ghost use Rattle.std.specs.Prelude.{◌≡◌, ℕ, All, IfOk, IsSome, OnOk, flat_map};
-ghost use Rattle.jim_ast.specs.Lists.{Has};
+ghost use Rattle.lists.specs.Lists.{Has};
 ghost use Rattle.link_classes.specs.Classes.{IsKnown};
 ghost use Rattle.link_classes.specs.Seen.{seen_method};
 ghost use Rattle.link_rules.specs.declared.refusal.LinkKind.{LinkKind as AKind};
@@ -19,12 +19,13 @@ use super::elements::elements;
 use super::fields::FieldNumbers;
 use super::scope::MethodScope;
 use super::stmts::statement;
-use jim_ast::{NoMemory, Stmt, Trap};
+use jim_ast::{Stmt, Trap};
 use link_bodies::BodyIndex;
 use link_calls::Targets;
 use link_classes::MethodIn;
 use link_program::{ElementText, Numbering};
 use link_rules::{Catch, Code};
+use lists::NoMemory;
 use std::alloc::Global;
 
 /// The code of a method: its statements, its handlers, and the arrays that it makes.

@@ -1,7 +1,7 @@
 //! The code of statements.
 ghost use Rattle.std.specs.Prelude.{◌≡◌, All, IfOk, OnOk, Some};
 ghost use Rattle.link_rules.specs.Bodies.{IsLabel};
-ghost use Rattle.link_rules.specs.Lists.{Each};
+ghost use Rattle.lists.specs.Lists.{Each};
 ghost use Rattle.link_rules.specs.Statements.{operands};
 ghost use Rattle.link_codes.specs.Contexts.{context_of};
 ghost use Rattle.link_codes.specs.Constants.{Uses};
@@ -14,9 +14,10 @@ use super::constants::Constants;
 use super::exprs::assignment;
 use super::scope::MethodScope;
 use super::stores::{put_cell, put_field, put_static};
-use jim_ast::{List, NameId, NoMemory, Stmt};
+use jim_ast::{List, NameId, Stmt};
 use link_calls::Targets;
 use link_rules::Code;
+use lists::NoMemory;
 use std::alloc::Global;
 
 // The indexes that labels stand before, in order.

@@ -9,8 +9,9 @@ ghost use Rattle.link_codes.specs.Needs.{HasField, HasLocal, HasOperand};
 use super::args::arg;
 use super::constants::Constants;
 use super::scope::MethodScope;
-use jim_ast::{FieldSig, Imm, NameId, NoMemory};
+use jim_ast::{FieldSig, Imm, NameId};
 use link_rules::Code;
+use lists::NoMemory;
 
 // The code of a store in a field of the object in a local.
 pub(crate) fn put_field(

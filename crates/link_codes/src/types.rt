@@ -5,7 +5,8 @@ ghost use Rattle.link_classes.specs.Classes.{texts_at};
 ghost use Rattle.link_rules.specs.Conditions.{AreWithin, base_names, type_names};
 ghost use Rattle.link_rules.specs.Names.{base_text, type_text};
 
-use jim_ast::{Base, NameId, Names, NoMemory, Ty};
+use jim_ast::{Base, NameId, Names, Ty};
+use lists::NoMemory;
 
 // Adds the text of a type without its brackets.
 fn push_base(text: &mut String, names: &Names, ids: &[NameId], base: Base) -> Result<(), NoMemory>

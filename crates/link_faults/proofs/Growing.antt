@@ -1,7 +1,7 @@
 -- What is known of a method's statements, when one more is looked at.
 use Rattle.std.proofs.Common.{◌≡◌, ℕ, ◌⊎◌, ◌++◌, Option, None, Some, List, [], ◌∷◌, refl, sym, ap, subst, inl, inr}
 use Rattle.std.specs.Prelude.{◌↔◌, IsSomeAnd, OnOk, Result, Ok, Err}
-use Rattle.jim_ast.specs.Lists.{Has}
+use Rattle.lists.specs.Lists.{Has}
 use Rattle.jim_ast.specs.declared.names.NameId.{NameId}
 use Rattle.jim_ast.specs.declared.syntax.Stmt.{Stmt}
 use Rattle.link_rules.specs.Classes.{DeclaredClass, IsNamed}

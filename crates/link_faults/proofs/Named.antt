@@ -8,7 +8,7 @@ use Rattle.class_tree.specs.Rows.{Rows, Sub}
 use Rattle.class_tree.proofs.LawFacts.{look_up_one, path_one}
 use Rattle.class_tree.proofs.Selected.{selection_one}
 use Rattle.jim_ast.specs.declared.names.NameId.{NameId}
-use Rattle.jim_ast.proofs.Places.{slice_get-below}
+use Rattle.lists.proofs.Places.{slice_get-below}
 use Rattle.link_rules.specs.Classes.{DeclaredClass, IsDeclared, IsNamed, fields_of}
 use Rattle.link_rules.specs.Faults.{IsBelowName}
 use Rattle.link_rules.specs.Keys.{HasFieldKey, IsFieldKeyNumber, accessed_key}

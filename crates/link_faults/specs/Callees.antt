@@ -1,6 +1,6 @@
 -- What a call names and may run.
 use Rattle.std.specs.Prelude.{◌≡◌, ℕ, ◌<◌, ◌↔◌, List, Option, Some, None, IsTrue, All, length}
-use Rattle.jim_ast.specs.Lists.{Has}
+use Rattle.lists.specs.Lists.{Has}
 use Rattle.link_rules.specs.Classes.{IsDeclared, IsNamed, methods_of}
 use Rattle.link_rules.specs.Conditions.{AreWithin, method_sig_names}
 use Rattle.link_rules.specs.Faults.{FindsSeveral}

@@ -1,6 +1,6 @@
 -- What linking has to know of a method.
 use Rattle.std.specs.Prelude.{ℕ, ◌<◌, ◌↔◌, List, MatchOption}
-use Rattle.jim_ast.specs.Lists.{Has}
+use Rattle.lists.specs.Lists.{Has}
 use Rattle.link_rules.specs.declared.refusal.LinkKind.{LinkKind}
 use Rattle.link_rules.specs.Classes.{DeclaredMethod, IsNamed}
 use Rattle.link_rules.specs.Reach.{IsTarget, RefusesAt, Touches}

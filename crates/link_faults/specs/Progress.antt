@@ -1,6 +1,6 @@
 -- What refuses the parts of a method, and what is known of it when its statements up to an index have been looked at.
 use Rattle.std.specs.Prelude.{◌≡◌, ℕ, ◌<◌, ◌⊎◌, ◌↔◌, List, [], Some, None, IsSomeAnd, true, slice_get}
-use Rattle.jim_ast.specs.Lists.{Has}
+use Rattle.lists.specs.Lists.{Has}
 use Rattle.jim_ast.specs.declared.names.NameId.{NameId}
 use Rattle.jim_ast.specs.declared.syntax.Body.{Body}
 use Rattle.jim_ast.specs.declared.syntax.Mode.TheVariants.{Static}

@@ -1,7 +1,7 @@
 -- What refuses a statement where it stands, with the statement given: the rules of statements, each as a fact of its parts.
 use Rattle.std.specs.Prelude.{◌≡◌, ◌≢◌, ℕ, ◌≤◌, ◌⊎◌, List, Some, None, IsSomeAnd, true, length, slice_get}
 use Rattle.class_tree.specs.Lookups.{FieldOf}
-use Rattle.jim_ast.specs.Lists.{Has}
+use Rattle.lists.specs.Lists.{Has}
 use Rattle.jim_ast.specs.declared.names.NameId.{NameId}
 use Rattle.jim_ast.specs.declared.syntax.Base.TheVariants as base
 use Rattle.jim_ast.specs.declared.syntax.Body.{Body}

@@ -1,6 +1,6 @@
 -- What refuses a body for its traps, with the body given.
 use Rattle.std.specs.Prelude.{ℕ, List, Option, Some, None, length}
-use Rattle.jim_ast.specs.Lists.{Has}
+use Rattle.lists.specs.Lists.{Has}
 use Rattle.jim_ast.specs.declared.syntax.Body.{Body}
 use Rattle.jim_ast.specs.declared.syntax.Trap.{Trap}
 use Rattle.link_rules.specs.declared.refusal.LinkKind.{LinkKind}

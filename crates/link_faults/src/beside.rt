@@ -1,6 +1,6 @@
 //! What refuses a body beside its statements.
 ghost use Rattle.std.specs.Prelude.{◌≡◌, ◌^◌, ◌<◌, ◌↔◌, All, IsTrue, length};
-ghost use Rattle.jim_ast.specs.Lists.{Has};
+ghost use Rattle.lists.specs.Lists.{Has};
 ghost use Rattle.jim_ast.specs.declared.syntax.Trap.{Trap as ATrap};
 ghost use Rattle.link_rules.specs.Bodies.{IsLabel, trap_labels};
 ghost use Rattle.link_rules.specs.Classes.{DeclaredMethod};

@@ -1,7 +1,7 @@
 //! What a call names and may run, and the rules on it.
 ghost use Rattle.std.specs.Prelude.{◌≡◌, ◌<◌, ◌↔◌, ℕ, None, All, IfOk, IsTrue, length};
 ghost use Rattle.class_tree.specs.Lookups.{OnPath, Resolve};
-ghost use Rattle.jim_ast.specs.Lists.{Has};
+ghost use Rattle.lists.specs.Lists.{Has};
 ghost use Rattle.jim_ast.specs.declared.syntax.Mode.TheVariants.{Special};
 ghost use Rattle.link_rules.specs.Classes.{methods_of};
 ghost use Rattle.link_rules.specs.Conditions.{AreWithin, method_sig_names};
@@ -14,9 +14,10 @@ ghost use Rattle.link_faults.specs.Sites.{IsNativeRow};
 
 use super::mentioned::class_number;
 use super::parts::Called;
-use jim_ast::{Mode, NoMemory};
+use jim_ast::Mode;
 use link_calls::Targets;
 use link_classes::{Classes, MethodIn};
+use lists::NoMemory;
 use std::alloc::Global;
 
 /// The class and the key that a call names, the methods that it may run, and whether several default methods are there for it.

@@ -1,6 +1,6 @@
 //! How a method is examined, statement by statement.
 ghost use Rattle.std.specs.Prelude.{◌≡◌, ◌+◌, ◌^◌, ◌<◌, ◌⊎◌, ◌↔◌, ℕ, Some, IfOk, OnOk, length, slice_get};
-ghost use Rattle.jim_ast.specs.Lists.{Has};
+ghost use Rattle.lists.specs.Lists.{Has};
 ghost use Rattle.jim_ast.specs.declared.names.NameId.{NameId as ANameId};
 ghost use Rattle.link_rules.specs.Classes.{IsNamed};
 ghost use Rattle.link_rules.specs.Names.{text_of};
@@ -19,10 +19,11 @@ use super::faults::earlier;
 use super::mentioned::class_number;
 use super::parts::{Called, access_of, new_of, plain_call};
 use super::site::Site;
-use jim_ast::{Body, Mode, NameId, NoMemory, Stmt};
+use jim_ast::{Body, Mode, NameId, Stmt};
 use link_bodies::BodyIndex;
 use link_calls::Targets;
 use link_classes::{Classes, MethodIn};
+use lists::NoMemory;
 use std::alloc::{AllocError, Global};
 
 // Puts the targets of the statement's call last.

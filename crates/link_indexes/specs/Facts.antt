@@ -1,6 +1,6 @@
 -- What an index lists a statement for.
 use Rattle.std.specs.Prelude.{◌≡◌, ℕ, ◌<◌}
-use Rattle.jim_ast.specs.Lists.{Has}
+use Rattle.lists.specs.Lists.{Has}
 use Rattle.link_rules.specs.declared.code.Code.{Code}
 use Rattle.link_rules.specs.declared.code.Code.TheVariants.{NewMulti, Store, StoreCell, StoreStatic, Call}
 use Rattle.link_rules.specs.Flow.{IsRaised, IsReturn}

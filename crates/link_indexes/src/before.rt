@@ -6,7 +6,7 @@ ghost use Rattle.link_indexes.specs.Rows.{IsFiled, row};
 ghost use Rattle.link_indexes.specs.Tables.{ArePredecessors, ArePredecessorsBy, codes_of};
 
 use super::filing::Filing;
-use super::lists::number_of;
+use super::listing::number_of;
 use super::method::MethodCode;
 use super::rows::Rows;
 use link_rules::Code;

@@ -1,6 +1,6 @@
 //! What a statement is listed for.
 ghost use Rattle.std.specs.Prelude.{ℕ, ◌↔◌, IsTrue};
-ghost use Rattle.jim_ast.specs.Lists.{Has};
+ghost use Rattle.lists.specs.Lists.{Has};
 ghost use Rattle.link_indexes.specs.Facts.{Calls, HasKey, IsOfKind, Stores, StoresStatic};
 ghost use Rattle.link_rules.specs.Flow.{IsRaised, IsReturn};
 

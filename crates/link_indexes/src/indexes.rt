@@ -5,14 +5,12 @@ ghost use Rattle.link_indexes.specs.Tables.{AreIndexes, codes_of};
 
 use super::before::predecessors_by_method;
 use super::facts::{Key, Kind};
-use super::lists::{indexes_by_method, places_by};
+use super::listing::{indexes_by_method, places_by};
 use super::method::{MethodCode, Place};
 use super::rows::Rows;
-use std::alloc::{AllocError, Global};
+use lists::NoMemory;
+use std::alloc::Global;
 use std::marker::Model;
-
-/// Want of memory.
-pub type NoMemory = AllocError;
 
 /// The indexes of the code of a list of methods. A number that isn't there has the empty list.
 #[derive(Drop)]

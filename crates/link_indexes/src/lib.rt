@@ -6,9 +6,9 @@ mod before;
 mod facts;
 mod filing;
 mod indexes;
-mod lists;
+mod listing;
 mod method;
 mod rows;
 
-pub use indexes::{Indexes, NoMemory};
+pub use indexes::Indexes;
 pub use method::{MethodCode, Place};

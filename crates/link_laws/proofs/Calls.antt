@@ -4,7 +4,7 @@ use Rattle.std.proofs.lemmas.Bool.{cases_eq}
 use Rattle.std.proofs.lemmas.List.{length-map}
 use Rattle.class_tree.specs.Lookups.{OnPath, Resolve, on_path}
 use Rattle.class_tree.specs.Rows.{IsOwnAncestor, NamesUnknown}
-use Rattle.jim_ast.proofs.Places.{slice_get-below}
+use Rattle.lists.proofs.Places.{slice_get-below}
 use Rattle.jim_ast.specs.declared.names.NameId.{NameId}
 use Rattle.jim_ast.specs.declared.syntax.Imm.{Imm}
 use Rattle.jim_ast.specs.declared.syntax.Invoke.TheVariants.{Plain}
@@ -19,7 +19,7 @@ use Rattle.link_rules.specs.Codes.{IsCall, IsMethodNumber}
 use Rattle.link_rules.specs.Faults.{FindsNone, FindsSeveral}
 use Rattle.link_rules.specs.Keys.{HasMethodKey, HasReceiverByMode, IsMethodKeyNumber, MethodKey, called_key, is_static_mode, method_key}
 use Rattle.link_rules.specs.Linked.{IsLinkedRow, LinkedMethod, LinkedProgram, key_of, scope_of}
-use Rattle.link_rules.specs.Lists.{BothOrNone}
+use Rattle.lists.specs.Lists.{BothOrNone}
 use Rattle.link_rules.specs.Refusals.{whole}
 use Rattle.link_rules.specs.Statements.{PlainCallAt, StmtAt, call_of}
 use Rattle.link_rules.specs.Targets.{CallAt, MayRun}

@@ -22,7 +22,7 @@ use Rattle.link_rules.specs.Conditions.{IsReadExpr, IsReadStmt}
 use Rattle.link_rules.specs.Flow.{Next}
 use Rattle.link_rules.specs.Keys.{HasReceiverByMode}
 use Rattle.link_rules.specs.Linked.{LinkedMethod, LinkedProgram, scope_of}
-use Rattle.link_rules.specs.Lists.{BothOrNone}
+use Rattle.lists.specs.Lists.{BothOrNone}
 use Rattle.link_rules.specs.Names.{text_of}
 use Rattle.link_rules.specs.Statements.{StmtAt, call_of}
 use Rattle.link_rules.specs.WellLinked.{FitsArg, FitsCode, IsLocalOf, IsWellLinkedCode}

@@ -1,7 +1,7 @@
 -- The parts of a linked program beside its methods.
 use Rattle.std.proofs.Common.{◌≡◌, ℕ, zero, suc, ◌<◌, Bool, true, false, not, cond, Some, List, [], ◌∷◌, ◌++◌, length, filter, slice_get, All, refl, sym, ap, ◌∙◌, subst, inr, arith}
-use Rattle.jim_ast.specs.Lists.{Has}
-use Rattle.jim_ast.proofs.Places.{slice_get-append_left, slice_get-below, slice_get-push}
+use Rattle.lists.specs.Lists.{Has}
+use Rattle.lists.proofs.Places.{slice_get-append_left, slice_get-below, slice_get-push}
 use Rattle.jim_ast.specs.declared.syntax.Program.{Program}
 use Rattle.link_rules.specs.Classes.{DeclaredClass, DeclaredField, IsCompleted, IsDeclared, class_name, comes, ends, fields_of, is_left_out}
 use Rattle.link_rules.specs.Conditions.{DeclaresNine}

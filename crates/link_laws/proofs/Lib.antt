@@ -13,3 +13,7 @@ pub mod Form
 pub mod CallCode
 pub mod Reaches
 pub mod Whole
+pub mod OneCode
+pub mod OneLink
+pub mod OneList
+pub mod OneRefusal

@@ -4,9 +4,9 @@ use Rattle.std.specs.List.{enumerate_from}
 use Rattle.std.specs.Option.{option_map}
 use Rattle.std.proofs.lemmas.Bool.{cases_order}
 use Rattle.std.proofs.lemmas.Option.{get_or_from_slice_get, slice_get-get_or, slice_get-map}
-use Rattle.jim_ast.specs.Lists.{Has, IsApart}
-use Rattle.jim_ast.proofs.Places.{IsApart-adds, slice_get-below, slice_get-there}
-use Rattle.link_rules.specs.Lists.{AreIncreasing, Each, FirstSeen, none, next}
+use Rattle.lists.specs.Lists.{Has, IsApart, AreIncreasing, Each, FirstSeen}
+use Rattle.lists.proofs.Places.{IsApart-adds, slice_get-below, slice_get-there}
+use Rattle.lists.specs.Lists.{none, next}
 
 module _ {X : Type 0} where
   -- a fact of each element by its place

@@ -6,7 +6,7 @@ use Rattle.class_tree.specs.Lookups.{Declared, FieldOf, Resolve}
 use Rattle.class_tree.specs.declared.rows.MethodRow.{MethodRow}
 use Rattle.class_tree.proofs.LawFacts.{look_up_finds}
 use Rattle.class_tree.proofs.Selected.{selection_finds}
-use Rattle.jim_ast.proofs.Places.{slice_get-below}
+use Rattle.lists.proofs.Places.{slice_get-below}
 use Rattle.link_rules.specs.Classes.{DeclaredField, DeclaredMethod, fields_of, methods_of}
 use Rattle.link_rules.specs.Codes.{instance_number, static_number}
 use Rattle.link_rules.specs.Keys.{FieldKey, HasMethodKey, IsFieldKeyNumber, IsMethodKeyNumber, MethodKey, field_key, method_key}

@@ -1,8 +1,8 @@
 -- Each method of a linked program fits it.
 use Rattle.std.proofs.Common.{◌≡◌, ℕ, ◌<◌, ◌≤◌, Some, length, map, slice_get, All, refl, sym, ap, ◌∙◌, subst, inl, inr, arith}
 use Rattle.std.proofs.lemmas.Bool.{cases_eq}
-use Rattle.jim_ast.specs.Lists.{Has}
-use Rattle.jim_ast.proofs.Places.{slice_get-below}
+use Rattle.lists.specs.Lists.{Has, AreIncreasing}
+use Rattle.lists.proofs.Places.{slice_get-below}
 use Rattle.jim_ast.specs.declared.names.NameId.{NameId}
 use Rattle.jim_ast.specs.declared.syntax.Label.{Label}
 use Rattle.jim_ast.specs.declared.syntax.Stmt.{Stmt}
@@ -15,7 +15,6 @@ use Rattle.link_rules.specs.Codes.{IsCatch, IsCode}
 use Rattle.link_rules.specs.Conditions.{IsReadStmt}
 use Rattle.link_rules.specs.Flow.{Next}
 use Rattle.link_rules.specs.Linked.{Element, LinkedMethod, LinkedProgram, scope_of}
-use Rattle.link_rules.specs.Lists.{AreIncreasing}
 use Rattle.link_rules.specs.Names.{text_of}
 use Rattle.link_rules.specs.Statements.{StmtAt}
 use Rattle.link_rules.specs.WellLinked.{FitsCatch, FitsCode, FitsMethod, IsWellLinkedCode, MakesArrays}

@@ -3,7 +3,7 @@ use Rattle.std.proofs.Common.{◌≡◌, ℕ, ◌<◌, true, false, not, Option,
 use Rattle.std.proofs.lemmas.Bool.{false_from_ne_true}
 use Rattle.std.proofs.lemmas.List.{length-map}
 use Rattle.std.proofs.lemmas.List.Sums.{length-filter}
-use Rattle.jim_ast.proofs.Places.{slice_get-below}
+use Rattle.lists.proofs.Places.{slice_get-below}
 use Rattle.jim_ast.specs.declared.names.NameId.{NameId}
 use Rattle.jim_ast.specs.declared.syntax.Expr.TheVariants as expr
 use Rattle.jim_ast.specs.declared.syntax.FieldSig.{FieldSig}
@@ -17,7 +17,7 @@ use Rattle.link_rules.specs.Classes.{DeclaredClass, DeclaredField, DeclaredMetho
 use Rattle.link_rules.specs.Codes.{IsArg, IsField, IsLocal, IsStatic}
 use Rattle.link_rules.specs.Keys.{FieldKey, accessed_key}
 use Rattle.link_rules.specs.Linked.{IsLinkedClass, LinkedClass, LinkedField, LinkedMethod, LinkedProgram, linked_field_of, scope_of}
-use Rattle.link_rules.specs.Lists.{BothOrNone, Each}
+use Rattle.lists.specs.Lists.{BothOrNone, Each}
 use Rattle.link_rules.specs.Names.{text_of}
 use Rattle.link_rules.specs.Statements.{StmtAt}
 use Rattle.link_rules.specs.Targets.{IsInstantiable}

@@ -1,8 +1,8 @@
 -- Each method of a linked program is reached by targets of calls from the root.
 use Rattle.std.proofs.Common.{◌≡◌, ℕ, zero, suc, ◌+◌, Some, None, List, [], ◌∷◌, ◌++◌, length, map, slice_get, refl, sym, ap, ◌∙◌, subst, inl, inr, arith}
 use Rattle.std.proofs.lemmas.Option.{same_Some}
-use Rattle.jim_ast.specs.Lists.{Has}
-use Rattle.jim_ast.proofs.Places.{slice_get-append_left, slice_get-below, slice_get-pushed}
+use Rattle.lists.specs.Lists.{Has}
+use Rattle.lists.proofs.Places.{slice_get-append_left, slice_get-below, slice_get-pushed}
 use Rattle.jim_ast.specs.declared.syntax.Body.{Body}
 use Rattle.jim_ast.specs.declared.syntax.Stmt.{Stmt}
 use Rattle.jim_ast.specs.declared.syntax.Stmt.TheVariants as stmt

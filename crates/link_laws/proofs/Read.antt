@@ -2,8 +2,8 @@
 use Rattle.std.proofs.Common.{◌≡◌, ◌≢◌, ℕ, zero, suc, ◌⊎◌, Some, None, List, [], ◌∷◌, map, slice_get, sym, ap, ◌∙◌, subst, inl, inr, arith, true≢false, is_some}
 use Rattle.std.specs.List.{enumerate_from}
 use Rattle.std.proofs.lemmas.Option.{same_Some}
-use Rattle.jim_ast.specs.Lists.{Has}
-use Rattle.jim_ast.proofs.Places.{slice_get-pushed}
+use Rattle.lists.specs.Lists.{Has}
+use Rattle.lists.proofs.Places.{slice_get-pushed}
 use Rattle.jim_ast.specs.declared.names.NameId.{NameId}
 use Rattle.jim_ast.specs.declared.syntax.Body.{Body}
 use Rattle.jim_ast.specs.declared.syntax.Class.{Class}

@@ -10,7 +10,7 @@ use Rattle.class_tree.specs.Rows.{HasParent, IsOwnAncestor, NamesUnknown, Rows, 
 use Rattle.class_tree.specs.declared.rows.ClassRow.{ClassRow}
 use Rattle.class_tree.proofs.Decided.{only_or_other, some_default_decided}
 use Rattle.class_tree.proofs.LawFacts.{sub_transitive}
-use Rattle.jim_ast.proofs.Places.{slice_get-there}
+use Rattle.lists.proofs.Places.{slice_get-there}
 
 -- no numbers are apart
 distinct-none : IsDistinct eqb []

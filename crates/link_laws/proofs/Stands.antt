@@ -1,7 +1,7 @@
 -- Each method of a linked program, with what it was linked from.
 use Rattle.std.proofs.Common.{◌≡◌, ℕ, ◌⊎◌, Some, List, length, slice_get, refl, sym, subst, inl, inr, ◌+◌, ap, arith, length-append, ◌∙◌, [], ◌∷◌, ◌++◌}
-use Rattle.jim_ast.specs.Lists.{Has}
-use Rattle.jim_ast.proofs.Places.{slice_get-append_left, slice_get-push, slice_get-pushed}
+use Rattle.lists.specs.Lists.{Has}
+use Rattle.lists.proofs.Places.{slice_get-append_left, slice_get-push, slice_get-pushed}
 use Rattle.jim_ast.specs.declared.syntax.Body.{Body}
 use Rattle.link_rules.specs.declared.refusal.LinkKind.{LinkKind}
 use Rattle.link_rules.specs.Classes.{DeclaredMethod, methods_of}

@@ -3,7 +3,7 @@ use Rattle.std.proofs.Common.{◌≡◌, ℕ, Some, None, List, [], ◌∷◌, l
 use Rattle.std.proofs.lemmas.Option.{same_Some}
 use Rattle.class_tree.proofs.LawFacts.{path_one}
 use Rattle.class_tree.proofs.Selected.{selection_one}
-use Rattle.jim_ast.specs.Lists.{Has, IsApart}
+use Rattle.lists.specs.Lists.{Has, IsApart}
 use Rattle.jim_ast.specs.declared.syntax.Mode.{Mode}
 use Rattle.jim_ast.specs.declared.syntax.Mode.TheVariants.{Special, Virtual, Interface, Static}
 use Rattle.link_rules.specs.Classes.{IsNamed}

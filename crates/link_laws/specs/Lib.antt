@@ -1,1 +1,2 @@
 pub mod Well
+pub mod One

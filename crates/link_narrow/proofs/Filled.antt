@@ -1,7 +1,7 @@
 -- What is left, as it is put together.
 use Rattle.std.proofs.Common.{◌≡◌, ℕ, ◌+◌, ◌⊎◌, ◌++◌, List, [], ◌∷◌, Option, Some, length, slice_get, take, sym, ap, ◌∙◌, subst, inl, inr, arith, length-append}
-use Rattle.jim_ast.specs.Lists.{Adds, Has}
-use Rattle.jim_ast.proofs.Places.{slice_get-pushed}
+use Rattle.lists.specs.Lists.{Adds, Has}
+use Rattle.lists.proofs.Places.{slice_get-pushed}
 use Rattle.link_indexes.specs.declared.method.MethodCode.{MethodCode}
 use Rattle.link_indexes.proofs.Grown.{Has-push, take-next}
 use Rattle.jim_ast.specs.declared.syntax.Mode.{Mode}

@@ -1,9 +1,9 @@
 -- Lists that grow by those with a fact.
 use Rattle.std.proofs.Common.{◌≡◌, ℕ, ◌+◌, ◌≤◌, ◌⊎◌, ◌++◌, List, [], ◌∷◌, Some, length, slice_get, sym, subst, inl, inr, arith}
 use Rattle.std.proofs.lemmas.Bool.{cases_order}
-use Rattle.jim_ast.specs.Lists.{Adds, Has}
+use Rattle.lists.specs.Lists.{Adds, Has}
 use Rattle.jim_ast.specs.declared.syntax.Mode.{Mode}
-use Rattle.jim_ast.proofs.Places.{slice_get-append_left, slice_get-below, slice_get-push, slice_get-pushed}
+use Rattle.lists.proofs.Places.{slice_get-append_left, slice_get-below, slice_get-push, slice_get-pushed}
 use Rattle.link_rules.specs.declared.code.Code.{Code}
 use Rattle.narrow_rules.specs.declared.kept.Kept.{Kept}
 use Rattle.narrow_rules.specs.Narrowed.{IsKept, StaysIn}

@@ -1,8 +1,8 @@
 -- The program that is left.
 use Rattle.std.proofs.Common.{◌≡◌, ℕ, zero, suc, List, [], ◌∷◌, Some, Result, Ok, Err, length, slice_get, refl, ap, ◌∙◌, subst, inl, inr, arith}
 use Rattle.std.specs.Result.{IfOk}
-use Rattle.jim_ast.proofs.Places.{slice_get-below, slice_get-there}
-use Rattle.jim_ast.specs.Lists.{Has}
+use Rattle.lists.proofs.Places.{slice_get-below, slice_get-there}
+use Rattle.lists.specs.Lists.{Has}
 use Rattle.link_indexes.specs.declared.method.MethodCode.{MethodCode}
 use Rattle.link_program.specs.Methods.{coded}
 use Rattle.link_program.specs.Parts.{with_code}

@@ -1,6 +1,6 @@
 -- What is kept, as it is looked up.
 use Rattle.std.specs.Prelude.{ℕ, ◌+◌, ◌*◌, ◌↔◌, List}
-use Rattle.jim_ast.specs.Lists.{Has}
+use Rattle.lists.specs.Lists.{Has}
 use Rattle.link_narrow.specs.declared.names.Spot.{Spot}
 use Rattle.narrow_rules.specs.declared.kept.Kept.{Kept}
 use Rattle.narrow_rules.specs.Narrowed.{IsKept}

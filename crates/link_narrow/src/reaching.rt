@@ -1,6 +1,6 @@
 //! Which methods are still reached.
 ghost use Rattle.std.specs.Prelude.{◌≡◌, ◌<◌, ◌+◌, ℕ, Some, IfOk, OnOk, length, slice_get};
-ghost use Rattle.jim_ast.specs.Lists.{Has};
+ghost use Rattle.lists.specs.Lists.{Has};
 ghost use Rattle.link_rules.specs.Linked.{LinkedMethod};
 ghost use Rattle.link_narrow.specs.Reaching.{AreReached, IsGrownBy, StaysAmong, StaysBefore, StaysFrom};
 

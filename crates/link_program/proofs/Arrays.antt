@@ -6,12 +6,12 @@ use Rattle.std.specs.List.Sorted.{IsNonDecreasingBy, IsPartitionPoint}
 use Rattle.std.proofs.lemmas.List.{length-map}
 use Rattle.std.proofs.Math.Nat.{eq-or-lt_of_le}
 use Rattle.std.proofs.lemmas.Option.{get_or_from_slice_get, slice_get-get_or}
-use Rattle.jim_ast.proofs.Places.{slice_get-below}
+use Rattle.lists.proofs.Places.{slice_get-below}
 use Rattle.link_program.specs.Elements.{element_of, elements_in}
 use Rattle.link_program.specs.declared.elements.ElementText.{ElementText}
 use Rattle.link_rules.specs.Accessed.{HasElementText, MakesArray}
 use Rattle.link_rules.specs.Linked.{Element, LinkedProgram}
-use Rattle.link_rules.specs.Lists.{AreIncreasing}
+use Rattle.lists.specs.Lists.{AreIncreasing}
 use Rattle.link_rules.specs.WellLinked.{FitsMethod, IsInForm}
 use Rattle.link_program.proofs.Found.{at_map, from_map}
 

@@ -2,9 +2,8 @@
 use Rattle.std.proofs.Common.{◌≡◌, ℕ, zero, suc, ◌+◌, ◌<◌, ◌≤◌, List, [], ◌∷◌, Some, length, map, slice_get, get_or, All, refl, sym, ap, subst, ◌∙◌, arith}
 use Rattle.std.specs.Option.{option_map}
 use Rattle.std.proofs.lemmas.Option.{slice_get-get_or, slice_get-map, same_Some}
-use Rattle.class_tree.specs.Paths.{IsLeast}
-use Rattle.jim_ast.specs.Lists.{Has}
-use Rattle.jim_ast.proofs.Places.{slice_get-below, slice_get-there}
+use Rattle.lists.specs.Lists.{IsLeast, Has}
+use Rattle.lists.proofs.Places.{slice_get-below, slice_get-there}
 use Rattle.link_rules.specs.Linked.{LinkedMethod, LinkedProgram}
 use Rattle.link_indexes.specs.declared.method.MethodCode.{MethodCode}
 use Rattle.link_rules.specs.Accessed.{HasText, IsFirstPlace}

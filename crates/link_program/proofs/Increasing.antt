@@ -4,8 +4,8 @@ use Rattle.std.specs.Prelude.{◌↔◌}
 use Rattle.std.specs.List.{slice_set}
 use Rattle.std.proofs.lemmas.Bool.{cases_eq, cases_lt, cases_order}
 use Rattle.std.proofs.lemmas.Option.{get_or_from_slice_get}
-use Rattle.jim_ast.proofs.Places.{slice_get-below, slice_get-set_other, slice_get-set_same, slice_get-there}
-use Rattle.link_rules.specs.Lists.{AreIncreasing}
+use Rattle.lists.proofs.Places.{slice_get-below, slice_get-set_other, slice_get-set_same, slice_get-there}
+use Rattle.lists.specs.Lists.{AreIncreasing}
 use Rattle.link_program.specs.Numbers.{IsNumbering}
 
 -- an earlier row is smaller

@@ -4,8 +4,8 @@ use Rattle.std.specs.Option.{option_map}
 use Rattle.std.proofs.lemmas.Bool.{cases_order}
 use Rattle.std.proofs.lemmas.Option.{same_Some, slice_get-get_or, slice_get-map}
 use Rattle.std.proofs.lemmas.List.{length-map}
-use Rattle.jim_ast.proofs.Places.{slice_get-below}
-use Rattle.class_tree.specs.Paths.{IsLeast}
+use Rattle.lists.proofs.Places.{slice_get-below}
+use Rattle.lists.specs.Lists.{IsLeast}
 use Rattle.link_program.specs.declared.parts.FieldEntry.{FieldEntry}
 use Rattle.link_rules.specs.Linked.{LinkedField, LinkedProgram}
 use Rattle.link_rules.specs.Accessed.{IsEntryNamed, field_class}

@@ -3,9 +3,9 @@ use Rattle.std.proofs.Common.{◌≡◌, ℕ, ◌+◌, ◌<◌, ◌++◌, true, 
 use Rattle.std.proofs.lemmas.List.{take_all, take_more, length-take-le}
 use Rattle.std.specs.Option.{IfNone, IfSome, is_some}
 use Rattle.std.proofs.lemmas.Option.{slice_get-get_or}
-use Rattle.jim_ast.specs.Lists.{Adds, Has}
+use Rattle.lists.specs.Lists.{Adds, Has}
 use Rattle.jim_ast.specs.declared.names.NameId.{NameId}
-use Rattle.jim_ast.proofs.Places.{slice_get-append_left, slice_get-below, slice_get-push, slice_get-pushed}
+use Rattle.lists.proofs.Places.{slice_get-append_left, slice_get-below, slice_get-push, slice_get-pushed}
 use Rattle.link_program.specs.Places.{ArePlaces}
 use Rattle.link_rules.specs.Accessed.{IsFirstPlace}
 use Rattle.link_program.specs.declared.places.FirstPlaces.{FirstPlaces}

@@ -1,8 +1,8 @@
 -- Texts that are looked for one by one.
 use Rattle.std.proofs.Common.{◌≡◌, ℕ, ◌+◌, ◌<◌, ◌≤◌, List, [], ◌∷◌, Some, length, map, slice_get, refl, ap, subst, ◌∙◌, inl, inr, arith}
 use Rattle.std.proofs.lemmas.Bool.{cases_lt}
-use Rattle.jim_ast.specs.Lists.{Has}
-use Rattle.jim_ast.proofs.Places.{slice_get-below}
+use Rattle.lists.specs.Lists.{Has}
+use Rattle.lists.proofs.Places.{slice_get-below}
 use Rattle.link_indexes.specs.declared.method.MethodCode.{MethodCode}
 use Rattle.link_program.specs.declared.method.MethodHead.{MethodHead}
 use Rattle.link_program.specs.Methods.{joined, texts_of}

@@ -1,6 +1,6 @@
 -- The numbers of the methods that are linked.
 use Rattle.std.specs.Prelude.{◌≡◌, ℕ, ◌↔◌, List, Option, Some, slice_get}
-use Rattle.link_rules.specs.Lists.{AreIncreasing}
+use Rattle.lists.specs.Lists.{AreIncreasing}
 
 -- for each row its place among these rows, if it is one of them
 pub record IsNumbering (rows : List ℕ) (numbers : List (Option ℕ)) : Type 0 where

@@ -1,6 +1,6 @@
 -- The first place of each text of a list.
 use Rattle.std.specs.Prelude.{◌≡◌, ℕ, List, Some, length, slice_get}
-use Rattle.jim_ast.specs.Lists.{Has}
+use Rattle.lists.specs.Lists.{Has}
 use Rattle.link_rules.specs.Accessed.{IsFirstPlace}
 use Rattle.link_program.specs.declared.places.FirstPlaces.{FirstPlaces}
 

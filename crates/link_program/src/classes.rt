@@ -1,11 +1,12 @@
 //! The classes of a linked program.
 ghost use Rattle.std.specs.Prelude.{◌≡◌, ◌<◌, ◌++◌, [], ◌∷◌, ℕ, Some, IfNone, IfSome, OnOk, length, slice_get};
-ghost use Rattle.jim_ast.specs.Lists.{Has};
+ghost use Rattle.lists.specs.Lists.{Has};
 ghost use Rattle.link_program.specs.Classes.{AreClasses, classes_in, linked_class};
 ghost use Rattle.link_rules.specs.Accessed.{linked_class_names, IsFirstPlace};
 
 use super::places::FirstPlaces;
-use jim_ast::{Name, NoMemory};
+use jim_ast::Name;
+use lists::NoMemory;
 use std::alloc::{AllocError, Global};
 
 /// A class: its name, and whether it may have objects.

@@ -1,6 +1,6 @@
 //! The instance fields of a linked program.
 ghost use Rattle.std.specs.Prelude.{◌<◌, ◌^◌, ℕ, IfNone, IfSome, length, map};
-ghost use Rattle.class_tree.specs.Paths.{IsLeast};
+ghost use Rattle.lists.specs.Lists.{IsLeast};
 ghost use Rattle.link_rules.specs.Accessed.{IsEntryNamed};
 ghost use Rattle.link_program.specs.Parts.{linked_field};
 

@@ -1,6 +1,6 @@
 //! The methods of a linked program without their code, which narrowed programs share.
 ghost use Rattle.std.specs.Prelude.{◌≡◌, ◌<◌, ℕ, List, IfNone, IfSome, Some, length, slice_get};
-ghost use Rattle.jim_ast.specs.Lists.{Has};
+ghost use Rattle.lists.specs.Lists.{Has};
 ghost use Rattle.link_indexes.specs.declared.method.MethodCode.{MethodCode as ACode};
 ghost use Rattle.link_rules.specs.Linked.{LinkedMethod};
 ghost use Rattle.link_program.specs.Methods.{AreMethodsWith, IsHeadOf, methods_with, texts_of};

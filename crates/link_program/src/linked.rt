@@ -1,7 +1,6 @@
 //! The linked program, and what is read of it.
 ghost use Rattle.std.specs.Prelude.{◌≡◌, ◌+◌, ◌<◌, ◌↔◌, ℕ, Some, IfNone, IfOk, IfSome, length, map, slice_get};
-ghost use Rattle.class_tree.specs.Paths.{IsLeast};
-ghost use Rattle.jim_ast.specs.Lists.{Has};
+ghost use Rattle.lists.specs.Lists.{IsLeast, Has};
 ghost use Rattle.link_rules.specs.WellLinked.{IsInForm};
 ghost use Rattle.link_indexes.specs.Facts.{Calls, Stores, StoresStatic};
 ghost use Rattle.link_rules.specs.Flow.{IsRaised, IsReturn};
@@ -19,9 +18,10 @@ use super::methods::Methods;
 use super::parts::{CodePart, MemberPart, Shared};
 use super::places::first_name;
 use class_tree::Tree;
-use jim_ast::{Name, NoMemory};
+use jim_ast::Name;
 use link_indexes::{Indexes, MethodCode, Place};
 use link_rules::{Catch, Code};
+use lists::NoMemory;
 use std::alloc::Global;
 use std::marker::Model;
 use std::sync::Arc;

@@ -3,8 +3,8 @@ ghost use Rattle.std.specs.Prelude.{◌≡◌, ◌++◌, [], ◌∷◌, OnOk};
 ghost use Rattle.link_program.specs.Methods.{AreMethods, IsHead, linked_method, methods_in};
 
 use super::method::MethodHead;
-use jim_ast::NoMemory;
 use link_indexes::MethodCode;
+use lists::NoMemory;
 use std::alloc::{AllocError, Global};
 
 /// The methods of a linked program in order, fewer than 4,294,967,296.

@@ -1,8 +1,8 @@
 //! The numbers of the methods that are linked.
 ghost use Rattle.std.specs.Prelude.{◌≡◌, ◌<◌, ◌↔◌, ℕ, All, IfOk, Some, slice_get};
-ghost use Rattle.link_rules.specs.Lists.{AreIncreasing};
+ghost use Rattle.lists.specs.Lists.{AreIncreasing};
 
-use jim_ast::NoMemory;
+use lists::NoMemory;
 use std::alloc::Global;
 use std::marker::Model;
 

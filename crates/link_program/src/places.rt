@@ -1,10 +1,11 @@
 //! The first place of each text of a list.
 ghost use Rattle.std.specs.Prelude.{◌≡◌, ◌++◌, [], ◌∷◌, ◌<◌, ◌^◌, ℕ, List, IfNone, IfOk, IfSome, OnOk, length};
-ghost use Rattle.jim_ast.specs.Lists.{Has};
+ghost use Rattle.lists.specs.Lists.{Has};
 ghost use Rattle.link_program.specs.Places.{ArePlaces};
 ghost use Rattle.link_rules.specs.Accessed.{IsFirstPlace};
 
-use jim_ast::{Name, Names, NoMemory};
+use jim_ast::{Name, Names};
+use lists::NoMemory;
 use std::alloc::{AllocError, Global};
 
 /// For each text of a list its first place there, by one hashed look-up.

@@ -10,8 +10,8 @@ use Rattle.std.proofs.lemmas.Option.{slice_get-get_or}
 use Rattle.class_tree.specs.Rows.{HasParent, interfaces_of}
 use Rattle.class_tree.proofs.Listed.{Contains-at}
 use Rattle.class_tree.proofs.Parents.{interface_listed, interface_named}
-use Rattle.jim_ast.specs.Lists.{Adds, Has}
-use Rattle.jim_ast.proofs.Places.{Has-adds_itself, slice_get-added, slice_get-adds, slice_get-append_left, slice_get-push}
+use Rattle.lists.specs.Lists.{Adds, Has}
+use Rattle.lists.proofs.Places.{Has-adds_itself, slice_get-added, slice_get-adds, slice_get-append_left, slice_get-push}
 use Rattle.link_rules.specs.Classes.{DeclaredMethod, methods_of}
 use Rattle.link_rules.specs.Reach.{DeclaresBody, IsMethod}
 use Rattle.link_rules.specs.Root.{initializer_key, root_number, root_of}

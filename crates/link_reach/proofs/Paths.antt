@@ -2,7 +2,7 @@
 use Rattle.std.proofs.Common.{◌≡◌, ℕ, ◌⊎◌, [], refl, subst, inl, inr}
 use Rattle.class_tree.specs.Paths.{Path, here, step}
 use Rattle.class_tree.specs.Rows.{Step, Sub}
-use Rattle.jim_ast.proofs.Places.{slice_get-push}
+use Rattle.lists.proofs.Places.{slice_get-push}
 use Rattle.link_rules.specs.Classes.{DeclaredMethod, methods_of}
 use Rattle.link_rules.specs.Reach.{AsksFor, DeclaresBody, IsInitialized, IsMethod, Reached, asked, called, initialized, root}
 use Rattle.link_rules.specs.Root.{initializer_key, root_number, root_of}

@@ -1,8 +1,7 @@
 -- What is told of all that may be reached.
 use Rattle.std.specs.Prelude.{ℕ, ◌<◌, ◌↔◌, List, length}
-use Rattle.jim_ast.specs.Lists.{Has}
+use Rattle.lists.specs.Lists.{Has, AreIncreasing}
 use Rattle.link_rules.specs.Classes.{methods_of}
-use Rattle.link_rules.specs.Lists.{AreIncreasing}
 use Rattle.link_rules.specs.Reach.{DeclaresBody, Reached}
 use Rattle.link_rules.specs.Root.{initializer_key}
 use Rattle.link_rules.specs.World.{World}

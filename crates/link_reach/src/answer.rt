@@ -1,6 +1,6 @@
 //! Which methods a run may reach, and the first refusal in any of them.
 ghost use Rattle.std.specs.Prelude.{◌≡◌, ◌<◌, ℕ, All, Err, IfOk, MatchOption, length};
-ghost use Rattle.jim_ast.specs.Lists.{Has};
+ghost use Rattle.lists.specs.Lists.{Has};
 ghost use Rattle.link_rules.specs.declared.refusal.LinkKind.{LinkKind as AKind};
 ghost use Rattle.link_rules.specs.Reach.{AreInitialized};
 ghost use Rattle.link_rules.specs.Refusals.{IsAccepted, IsFirst, RefusesWhole, within};
@@ -11,11 +11,11 @@ ghost use Rattle.link_reach.specs.Reaches.{AreReached, AreThose, IsStarted};
 
 use super::search::{Search, search_all};
 use indexmap::IndexSet;
-use jim_ast::NoMemory;
 use link_calls::Targets;
 use link_classes::{Classes, root_method};
 use link_faults::{Fault, examine};
 use link_rules::LinkKind;
+use lists::NoMemory;
 use std::alloc::{AllocError, Global};
 
 /// What a run may reach.

@@ -1,6 +1,6 @@
 //! The first refusal in the methods that were examined.
 ghost use Rattle.std.specs.Prelude.{◌≡◌, ◌++◌, ◌∷◌, [], ℕ, List, Option, MatchOption, Some};
-ghost use Rattle.jim_ast.specs.Lists.{Has};
+ghost use Rattle.lists.specs.Lists.{Has};
 ghost use Rattle.link_rules.specs.Classes.{DeclaredMethod};
 ghost use Rattle.link_rules.specs.World.{World};
 ghost use Rattle.link_faults.specs.Examined.{HasNoFault, IsFirstFault};

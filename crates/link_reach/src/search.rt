@@ -12,10 +12,10 @@ ghost use Rattle.link_reach.specs.Search.{Above, AddsAll, Finds, FromMethod, Ini
 
 use super::firsts::{FaultIn, earlier};
 use indexmap::IndexSet;
-use jim_ast::NoMemory;
 use link_calls::Targets;
 use link_classes::{Classes, root_method};
 use link_faults::{Examined, Fault, examine};
+use lists::NoMemory;
 use std::alloc::Global;
 
 /// The methods that a run may reach, by their rows, and the classes that they ask for, in the order in which they were found.

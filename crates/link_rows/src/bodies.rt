@@ -1,6 +1,7 @@
 //! The locals and the labels of a body, by name.
-use jim_ast::{Body, Label, List, NameId, NoMemory};
+use jim_ast::{Body, Label, List, NameId};
 use link_bodies::BodyIndex;
+use lists::NoMemory;
 use std::alloc::Global;
 use std::test::Fail;
 

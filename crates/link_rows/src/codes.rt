@@ -1,7 +1,8 @@
 //! The numbers of rows that are linked, and the texts of types.
-use jim_ast::{Base, NameId, Names, NoMemory, Ty};
+use jim_ast::{Base, NameId, Names, Ty};
 use link_codes::push_type;
 use link_program::Numbering;
+use lists::NoMemory;
 use std::alloc::Global;
 use std::test::Fail;
 

@@ -1,8 +1,8 @@
 //! The methods that are linked of small programs, and the first refusals of others, by hand.
-use jim_ast::NoMemory;
 use link_program::Linked;
 use link_rules::{Arg, Code};
 use linked_text::{Rows, first_wrong, told_of};
+use lists::NoMemory;
 use std::alloc::Global;
 use std::test::Fail;
 

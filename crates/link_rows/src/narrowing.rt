@@ -1,10 +1,10 @@
 //! What narrowing leaves of a program, by hand.
-use jim_ast::NoMemory;
 use link_indexes::Place;
 use link_narrow::narrow;
 use link_program::Linked;
 use link_rules::Code;
 use linked_text::{Rows, first_wrong};
+use lists::NoMemory;
 use narrow_rules::Kept;
 use std::alloc::Global;
 use std::test::Fail;

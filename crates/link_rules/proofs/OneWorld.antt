@@ -6,13 +6,13 @@ use Rattle.class_tree.specs.declared.rows.BodyKind.{BodyKind}
 use Rattle.class_tree.specs.declared.rows.ClassRow.{ClassRow}
 use Rattle.class_tree.specs.declared.rows.FieldRow.{FieldRow}
 use Rattle.class_tree.specs.declared.rows.MethodRow.{MethodRow}
-use Rattle.jim_ast.proofs.Places.{slice_get-below, slice_get-extensional, slice_get-there}
+use Rattle.lists.proofs.Places.{slice_get-below, slice_get-extensional, slice_get-there}
 use Rattle.jim_ast.specs.declared.names.NameId.{NameId}
 use Rattle.link_rules.specs.Classes.{DeclaredClass, DeclaredField, DeclaredMethod, IsCompleted, IsDeclared, IsDefaultParent, IsNamed, IsParentBy, NamedInterface, class_name, comes, ends, fields_of, is_left_out, methods_of, named_interfaces}
 use Rattle.link_rules.specs.Keys.{HasFieldKey, HasMethodKey, field_key, method_key}
 use Rattle.link_rules.specs.Laws.{HasOneWorld, IsNotBoth}
 use Rattle.link_rules.specs.Refusals.{IsAccepted}
-use Rattle.link_rules.specs.Lists.{Each, IsFirstOr}
+use Rattle.lists.specs.Lists.{Each, IsFirstOr}
 use Rattle.link_rules.specs.World.{AreRows, IsClassRow, IsFieldRow, IsInterfacePair, IsMethodRow, IsParentRow, World}
 
 -- a class order is completed in one way

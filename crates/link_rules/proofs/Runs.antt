@@ -5,8 +5,8 @@ use Rattle.std.proofs.lemmas.Option.{get_or_from_slice_get}
 use Rattle.class_tree.specs.Lookups.{OnPath, Resolve}
 use Rattle.class_tree.proofs.LawFacts.{path_one}
 use Rattle.class_tree.proofs.Selected.{selection_one}
-use Rattle.jim_ast.specs.Lists.{Has, IsApart}
-use Rattle.jim_ast.proofs.Places.{slice_get-below, slice_get-there}
+use Rattle.lists.specs.Lists.{Has, IsApart}
+use Rattle.lists.proofs.Places.{slice_get-below, slice_get-there}
 use Rattle.jim_ast.specs.declared.syntax.Mode.TheVariants.{Special, Virtual, Interface, Static}
 use Rattle.link_rules.specs.Laws.{HasOneOrder}
 use Rattle.link_rules.specs.Targets.{ComesBefore, Selects}

@@ -1,7 +1,6 @@
 -- What is read of a linked program.
 use Rattle.std.specs.Prelude.{◌≡◌, ℕ, zero, suc, ◌+◌, ◌<◌, List, Option, Some, None, length, map, slice_get}
-use Rattle.class_tree.specs.Paths.{IsLeast}
-use Rattle.jim_ast.specs.Lists.{Has}
+use Rattle.lists.specs.Lists.{IsLeast, Has}
 use Rattle.link_rules.specs.declared.code.Code.{Code}
 use Rattle.link_rules.specs.Linked.{Element, LinkedClass, LinkedField, LinkedMethod, LinkedProgram}
 use Rattle.link_rules.specs.WellLinked.{MakesArrays}

@@ -25,7 +25,7 @@ use Rattle.link_rules.specs.declared.code.Code.TheVariants as code
 use Rattle.link_rules.specs.Bodies.{IsLabel}
 use Rattle.link_rules.specs.Classes.{DeclaredField, IsNamed, fields_of, methods_of}
 use Rattle.link_rules.specs.Keys.{IsFieldKeyNumber, IsMethodKeyNumber, accessed_key, called_key}
-use Rattle.link_rules.specs.Lists.{BothOrNone, Each}
+use Rattle.lists.specs.Lists.{BothOrNone, Each}
 use Rattle.link_rules.specs.Names.{text_of}
 use Rattle.link_rules.specs.Targets.{AreTargetRows}
 use Rattle.link_rules.specs.World.{World}

@@ -1,7 +1,7 @@
 -- What linking asks of the two programs.
 use Rattle.std.specs.Prelude.{◌≡◌, ◌≢◌, ℕ, ◌<◌, ◌≤◌, ◌++◌, List, [], ◌∷◌, Some, All, flat_map, length}
 use Rattle.std.specs.Option.{option_to_list}
-use Rattle.jim_ast.specs.Lists.{Has}
+use Rattle.lists.specs.Lists.{Has}
 use Rattle.jim_ast.specs.declared.names.NameId.{NameId}
 use Rattle.jim_ast.specs.declared.syntax.Base.{Base}
 use Rattle.jim_ast.specs.declared.syntax.Base.TheVariants as base

@@ -5,7 +5,7 @@ use Rattle.std.specs.List.{starts_with}
 use Rattle.class_tree.specs.Lookups.{Declared, FieldOf, IsAmbiguous, OnPath, Resolve}
 use Rattle.class_tree.specs.Rows.{Sub}
 use Rattle.class_tree.specs.declared.rows.BodyKind.TheVariants.{Native}
-use Rattle.jim_ast.specs.Lists.{Has}
+use Rattle.lists.specs.Lists.{Has, IsRepeated}
 use Rattle.jim_ast.specs.declared.names.NameId.{NameId}
 use Rattle.jim_ast.specs.declared.syntax.Base.TheVariants as base
 use Rattle.jim_ast.specs.declared.syntax.Body.{Body}
@@ -23,7 +23,6 @@ use Rattle.jim_ast.specs.declared.syntax.Ty.{Ty}
 use Rattle.link_rules.specs.Bodies.{HasNoLabel, IsLabel, MayFollow, trap_labels}
 use Rattle.link_rules.specs.Classes.{DeclaredMethod, IsDeclared, IsNamed, fields_of, methods_of}
 use Rattle.link_rules.specs.Keys.{IsFieldKeyNumber, accessed_key}
-use Rattle.link_rules.specs.Lists.{IsRepeated}
 use Rattle.link_rules.specs.Names.{text_of}
 use Rattle.link_rules.specs.Statements.{Access, HasBody, PlainCallAt, StmtAt, access_of, call_of, locals_of, labels_of, new_of}
 use Rattle.link_rules.specs.Targets.{CallAt, Calls, IsInstantiableAt}

@@ -6,7 +6,7 @@ use Rattle.jim_ast.specs.declared.syntax.MethodSig.{MethodSig}
 use Rattle.jim_ast.specs.declared.syntax.Mode.{Mode}
 use Rattle.jim_ast.specs.declared.syntax.Mode.TheVariants.{Special, Virtual, Interface, Static}
 use Rattle.link_rules.specs.Classes.{DeclaredField, DeclaredMethod}
-use Rattle.link_rules.specs.Lists.{IsFirstOr}
+use Rattle.lists.specs.Lists.{IsFirstOr}
 use Rattle.link_rules.specs.Names.{TypeKey, text_of, type_key}
 
 -- a method's name, the types of its parameters and of its result, and whether it is static

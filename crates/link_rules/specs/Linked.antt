@@ -3,7 +3,7 @@ use Rattle.std.specs.Prelude.{◌≡◌, ℕ, ◌↔◌, ◌++◌, ◌<◌, List
 use Rattle.std.specs.List.{enumerate_from, filter_map}
 use Rattle.std.specs.Option.{option_to_list}
 use Rattle.class_tree.specs.Rows.{Rows}
-use Rattle.jim_ast.specs.Lists.{Has}
+use Rattle.lists.specs.Lists.{Has, AreIncreasing, Each, FirstSeen}
 use Rattle.jim_ast.specs.declared.syntax.Body.{Body}
 use Rattle.jim_ast.specs.declared.syntax.Expr.TheVariants as expr
 use Rattle.jim_ast.specs.declared.syntax.Imm.{Imm}
@@ -16,7 +16,6 @@ use Rattle.link_rules.specs.declared.code.Code.{Code}
 use Rattle.link_rules.specs.declared.refusal.LinkKind.{LinkKind}
 use Rattle.link_rules.specs.Classes.{DeclaredClass, DeclaredField, DeclaredMethod, class_name, fields_of, method_text, methods_of}
 use Rattle.link_rules.specs.Codes.{IsCatch, IsCode, Scope}
-use Rattle.link_rules.specs.Lists.{AreIncreasing, Each, FirstSeen}
 use Rattle.link_rules.specs.Names.{text_of, type_text}
 use Rattle.link_rules.specs.Reach.{AreInitialized, Reached}
 use Rattle.link_rules.specs.Refusals.{IsAccepted, IsFirst, IsTold, Refusal}

@@ -3,7 +3,7 @@ use Rattle.std.specs.Prelude.{◌≡◌, ℕ, ◌⊎◌, ◌↔◌, ◌++◌, Li
 use Rattle.class_tree.specs.Lookups.{own_body}
 use Rattle.class_tree.specs.Rows.{Sub}
 use Rattle.class_tree.specs.declared.rows.BodyKind.TheVariants.{Plain}
-use Rattle.jim_ast.specs.Lists.{Has}
+use Rattle.lists.specs.Lists.{Has, AreIncreasing}
 use Rattle.jim_ast.specs.declared.syntax.Mode.TheVariants.{Static}
 use Rattle.jim_ast.specs.declared.syntax.Stmt.TheVariants as stmt
 use Rattle.link_rules.specs.declared.refusal.LinkKind.{LinkKind}
@@ -11,7 +11,6 @@ use Rattle.link_rules.specs.declared.refusal.LinkKind.TheVariants as rule
 use Rattle.link_rules.specs.Classes.{DeclaredMethod, IsNamed, methods_of}
 use Rattle.link_rules.specs.Faults.{AccessAt, CallsAmbiguous, CallsDynamically, CallsIn, CallsNative, CallsReflection, CallsUndeclared, FindsNoField, HandlesAtEnd, HasLocalTwice, HasWrongArguments, IsEmpty, JumpsNowhere, MakesObject, MakesAbstract, LacksFirstSize, NamesNoClass, NamesNoLocal, NamesNoParam, NamesNoReceiver, RepeatsLabel, RunsOff, TakesNoResult, TrapsNoClass, TrapsNowhere, UsesThreads}
 use Rattle.link_rules.specs.Keys.{IsMethodKeyNumber, MethodKey}
-use Rattle.link_rules.specs.Lists.{AreIncreasing}
 use Rattle.link_rules.specs.Names.{text_of}
 use Rattle.link_rules.specs.Root.{initializer_key, root_number, root_of}
 use Rattle.link_rules.specs.Statements.{StmtAt}

@@ -2,7 +2,7 @@
 use Rattle.std.specs.Prelude.{◌≡◌, ℕ, ◌<◌, ◌⊎◌, ◌↔◌, List, [], ◌∷◌, Some, false, codes, slice_get, AllPairs}
 use Rattle.class_tree.specs.Lookups.{OnPath, Resolve}
 use Rattle.class_tree.specs.Rows.{Sub}
-use Rattle.jim_ast.specs.Lists.{Has, IsApart}
+use Rattle.lists.specs.Lists.{Has, IsApart}
 use Rattle.jim_ast.specs.declared.syntax.Mode.{Mode}
 use Rattle.jim_ast.specs.declared.syntax.Mode.TheVariants.{Special, Virtual, Interface, Static}
 use Rattle.link_rules.specs.Classes.{DeclaredClass, DeclaredMethod, IsNamed, class_name, methods_of, object_name}

@@ -1,7 +1,7 @@
 -- What all layers above use of linking, whatever the program was linked from.
 use Rattle.std.specs.Prelude.{◌≡◌, ◌≢◌, ℕ, ◌+◌, ◌<◌, ◌≤◌, List, [], Option, Some, All, IfSome, true, false, length, map, slice_get}
 use Rattle.std.specs.Option.{is_some}
-use Rattle.jim_ast.specs.Lists.{Has, IsApart}
+use Rattle.lists.specs.Lists.{Has, IsApart, AreIncreasing}
 use Rattle.jim_ast.specs.declared.syntax.Mode.{Mode}
 use Rattle.jim_ast.specs.declared.syntax.Mode.TheVariants.{Special, Virtual, Interface, Static}
 use Rattle.link_rules.specs.declared.code.Arg.{Arg}
@@ -12,7 +12,6 @@ use Rattle.link_rules.specs.declared.code.Code.TheVariants.{This, Param, Caught,
 use Rattle.link_rules.specs.Flow.{Next}
 use Rattle.link_rules.specs.Keys.{HasReceiverByMode, is_static_mode}
 use Rattle.link_rules.specs.Linked.{Element, LinkedClass, LinkedKey, LinkedMethod, LinkedProgram}
-use Rattle.link_rules.specs.Lists.{AreIncreasing}
 use Rattle.link_rules.specs.Targets.{nine_names}
 
 -- a local of the method

@@ -10,7 +10,7 @@ use Rattle.jim_ast.specs.declared.syntax.Body.{Body}
 use Rattle.jim_ast.specs.declared.syntax.Program.{Program}
 use Rattle.link_rules.specs.Classes.{DeclaredClass, DeclaredField, DeclaredMethod, NamedInterface, IsClassOrder, IsNamed, IsParentName, fields_of, named_interfaces, methods_of}
 use Rattle.link_rules.specs.Keys.{IsFieldKeyNumber, IsMethodKeyNumber, field_key, method_key}
-use Rattle.link_rules.specs.Lists.{BothOrNone, Each, IsFirstOr}
+use Rattle.lists.specs.Lists.{BothOrNone, Each, IsFirstOr}
 
 -- the number of the class with this name, the first such one, or the number of classes where there is none
 abbrev pub IsClassNumber : List DeclaredClass → List ℕ → ℕ → Type 0

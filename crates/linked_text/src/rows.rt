@@ -3,9 +3,9 @@
 ghost use Rattle.link_rules.specs.WellLinked.{IsWellLinked};
 
 use super::reading::linked_of;
-use jim_ast::NoMemory;
 use link_program::Linked;
 use link_rules::LinkError;
+use lists::NoMemory;
 use std::alloc::Global;
 
 /// How rows about a linked program are read.

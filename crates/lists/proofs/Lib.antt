@@ -4,3 +4,6 @@ mod Laid
 pub mod Places
 mod Roomy
 mod Tallied
+pub mod SideBySide
+pub mod Keys
+pub mod Cutting

@@ -3,7 +3,7 @@ use Rattle.std.proofs.Common.{◌≡◌, ◌≢◌, ◌⊎◌, ℕ, zero, suc, �
 use Rattle.std.specs.List.{slice_set}
 use Rattle.std.proofs.lemmas.List.{take_more}
 use Rattle.std.proofs.lemmas.Option.{get_or_from_slice_get, slice_get-get_or}
-use Rattle.lists.specs.Lists.{Has, IsApart}
+use Rattle.lists.specs.Lists.{Adds, Has, IsApart}
 
 module _ {X : Type 0} where
   -- an element in front stays where it is
@@ -66,3 +66,33 @@ module _ {X : Type 0} where
         | inl a ↦ elim (slice_get-pushed xs x j y q) [ inl b ↦ apart i j y a b | inr b ↦ absurd (new (i, subst (λ z. slice_get xs i ≡ Some z) b.1 a)) ]
         | inr a ↦ elim (slice_get-pushed xs x j y q) [ inl b ↦ absurd (new (j, subst (λ z. slice_get xs j ≡ Some z) a.1 b)) | inr b ↦ a.0 ∙ sym b.0 ]
       ]
+
+  pub IsApart-adds : (old new : List X) (x : X) → IsApart old → Adds old x new → IsApart new
+  IsApart-adds old new x apart adds =
+      elim adds [
+        | inl a ↦ rw a.1 apart
+        | inr b ↦ rw b.1 (IsApart-push old x apart b.0)
+      ]
+
+  pub Has-adds_itself : (old new : List X) (x : X) → Adds old x new → Has new x
+  Has-adds_itself old new x adds = elim adds [ inl a ↦ rw a.1 a.0 | inr b ↦ rw b.1 (length old, slice_get-push old x) ]
+
+  pub slice_get-adds : (old new : List X) (x : X) → Adds old x new → (i : ℕ) (y : X) → slice_get old i ≡ Some y → slice_get new i ≡ Some y
+  slice_get-adds old new x adds i y h = elim adds [ inl a ↦ rw a.1 h | inr b ↦ rw b.1 (slice_get-append_left old _ i y h) ]
+
+  pub slice_get-added : (old new : List X) (x : X) → Adds old x new → (i : ℕ) (y : X) → slice_get new i ≡ Some y → (slice_get old i ≡ Some y) ⊎ (y ≡ x)
+  slice_get-added old new x adds i y h =
+      elim adds [
+        | inl a ↦ inl (rw a.1 at h)
+        | inr b ↦ elim (slice_get-pushed old x i y (rw b.1 at h)) [ inl p ↦ inl p | inr p ↦ inr p.1 ]
+      ]
+
+  -- lists of one length are equal where they have equal elements at each place
+  pub slice_get-extensional : (xs ys : List X) → length xs ≡ length ys → ((i : ℕ) (x y : X) → slice_get xs i ≡ Some x → slice_get ys i ≡ Some y → x ≡ y) → xs ≡ ys
+  slice_get-extensional [] [] e each = refl
+  slice_get-extensional [] (y ∷ ys) e each = absurd (omega arith)
+  slice_get-extensional (x ∷ xs) [] e each = absurd (omega arith)
+  slice_get-extensional (x ∷ xs) (y ∷ ys) e each =
+      let rest : xs ≡ ys = slice_get-extensional xs ys (omega arith) (λ i a b p q. each (suc i) a b p q) in
+      let first : x ≡ y = each 0 x y refl refl in
+      cc

@@ -1,4 +1,5 @@
-//! Keys by number, and items by key. It stands on nothing, and whatever looks things up by a key can stand on it.
+//! Keys by number, and items by key; and what is said and proved of any list: which elements it has, that none stands at two places, lists side by side.
+//! It stands on nothing of ours, and whatever has lists can stand on it.
 #![tactic(auto)]
 
 mod chains;
@@ -11,3 +12,7 @@ mod rows;
 pub use groups::{Groups, Keyed};
 pub use key::Key;
 pub use numbered::Numbered;
+use std::alloc::AllocError;
+
+/// Memory that was asked for wasn't found.
+pub type NoMemory = AllocError;

@@ -1,9 +1,9 @@
 //! Steps of the machine.
-use jim_ast::NoMemory;
 use jim_step::{Machine, start};
 use link_program::Linked;
 use link_sites::Place;
 use linked_text::linked_of;
+use lists::NoMemory;
 use std::alloc::Global;
 use std::test::Fail;
 

@@ -1,5 +1,6 @@
 //! Names.
-use jim_ast::{NameId, Names, NoMemory};
+use jim_ast::{NameId, Names};
+use lists::NoMemory;
 use std::test::Fail;
 
 // Adds a text, once more where there was no memory.

@@ -1,7 +1,8 @@
 //! Weights that are raised, and works that are settled.
 ghost use Rattle.std.specs.Prelude.{◌≡◌, ◌<◌};
 
-use auto_table::{Entry, NoMemory, Rule, Table};
+use auto_table::{Entry, Rule, Table};
+use lists::NoMemory;
 use post_star::{Start, Work};
 use std::alloc::Global;
 use std::test::Fail;

@@ -1,6 +1,6 @@
 -- The runs of the program that is left.
 use Rattle.std.specs.Prelude.{ℕ, List}
-use Rattle.jim_ast.specs.Lists.{Has}
+use Rattle.lists.specs.Lists.{Has}
 use Rattle.link_rules.specs.Linked.{LinkedProgram}
 use Rattle.link_rules.specs.WellLinked.{IsWellLinked}
 use Rattle.narrow_rules.specs.declared.kept.Kept.{Kept}

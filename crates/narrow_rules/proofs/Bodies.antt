@@ -1,7 +1,7 @@
 -- Lemmas on the statements that are left of a method.
 use Rattle.std.proofs.Common.{◌≡◌, ℕ, zero, suc, ◌<◌, List, [], ◌∷◌, Some, All, length, slice_get, refl, sym, ap, ◌∙◌, subst}
-use Rattle.jim_ast.proofs.Places.{slice_get-below, slice_get-there}
-use Rattle.jim_ast.specs.Lists.{Has}
+use Rattle.lists.proofs.Places.{slice_get-below, slice_get-there}
+use Rattle.lists.specs.Lists.{Has}
 use Rattle.jim_ast.specs.declared.syntax.Mode.{Mode}
 use Rattle.jim_ast.specs.declared.syntax.Mode.TheVariants.{Special, Virtual, Interface, Static}
 use Rattle.link_rules.specs.declared.code.Code.{Code}

@@ -1,6 +1,6 @@
 -- One program is left.
 use Rattle.std.proofs.Common.{◌≡◌, ℕ, ◌<◌, List, sym, ap, ◌∙◌, subst, inl, inr, arith}
-use Rattle.jim_ast.proofs.Places.{slice_get-below, slice_get-extensional, slice_get-there}
+use Rattle.lists.proofs.Places.{slice_get-below, slice_get-extensional, slice_get-there}
 use Rattle.link_rules.specs.declared.code.Catch.{Catch}
 use Rattle.link_rules.specs.declared.code.Code.{Code}
 use Rattle.link_rules.specs.Linked.{LinkedMethod, LinkedProgram}

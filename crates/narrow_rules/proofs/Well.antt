@@ -1,6 +1,6 @@
 -- What is left of a well-linked program is well linked.
 use Rattle.std.proofs.Common.{◌≡◌, ℕ, ◌+◌, ◌<◌, List, [], Option, Some, All, length, slice_get, sym, ap, ◌∙◌, subst, inl, inr, arith}
-use Rattle.jim_ast.proofs.Places.{slice_get-below, slice_get-there}
+use Rattle.lists.proofs.Places.{slice_get-below, slice_get-there}
 use Rattle.link_rules.specs.declared.code.Catch.{Catch}
 use Rattle.link_rules.specs.declared.code.Code.{Code}
 use Rattle.link_rules.specs.declared.code.Code.TheVariants as code

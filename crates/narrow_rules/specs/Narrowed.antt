@@ -1,6 +1,6 @@
 -- The program that is left where calls on objects keep some of their targets. This is this project's own.
 use Rattle.std.specs.Prelude.{◌≡◌, ℕ, ◌+◌, ◌⊎◌, List, [], ◌∷◌, Some, length, map, slice_get, sum}
-use Rattle.jim_ast.specs.Lists.{Has}
+use Rattle.lists.specs.Lists.{Has}
 use Rattle.jim_ast.specs.declared.syntax.Mode.{Mode}
 use Rattle.jim_ast.specs.declared.syntax.Mode.TheVariants.{Special, Virtual, Interface, Static}
 use Rattle.link_rules.specs.declared.code.Code.{Code}

@@ -1,16 +1,16 @@
 -- A path asks for one demand, in whatever order its targets are listed.
 use Rattle.std.proofs.Common.{◌≡◌, ◌↔◌, ◌⊎◌, ℕ, List, inl, inr, refl, sym, ◌∙◌, subst}
-use Rattle.jim_ast.specs.Lists.{Has}
+use Rattle.lists.specs.Lists.{Has, AreAll, HasMore}
 use Rattle.link_rules.specs.Linked.{LinkedProgram}
 use Rattle.spds_rules.specs.declared.node.Node.{Node}
 use Rattle.spds_rules.specs.declared.reach.Reach.{Reach}
 use Rattle.spds_rules.specs.declared.reach.Reach.TheVariants.{Plain}
 use Rattle.spds_rules.specs.declared.store.StoreAt.{StoreAt}
-use Rattle.spds_rules.specs.Demand.{AreAll, Asked, Demand, Demanded, HasMore}
+use Rattle.spds_rules.specs.Demand.{Asked, Demand, Demanded}
 use Rattle.spds_rules.specs.Edges.{IsEdge}
 use Rattle.spds_rules.specs.Stores.{IsStore}
 use Rattle.spds_nodes.specs.Stored.{IsStoreOf}
-use Rattle.demand_walk.specs.Walks.{HasAtMost}
+use Rattle.demand_set.specs.Walks.{HasAtMost}
 use Rattle.path_query.specs.Paths.{AsksPath, IsEndOf}
 
 module _ (p : LinkedProgram) (n : Node) (fields : List ℕ) where

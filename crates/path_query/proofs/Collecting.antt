@@ -1,8 +1,8 @@
 -- What a loop collects, element by element.
 use Rattle.std.proofs.Common.{◌≡◌, ◌↔◌, ◌⊎◌, ℕ, ◌+◌, ◌<◌, ◌≤◌, List, [], ◌∷◌, ◌++◌, length, take, get_or, refl, sym, subst, inl, inr}
 use Rattle.std.proofs.lemmas.List.{take_all}
-use Rattle.jim_ast.specs.Lists.{Has}
-use Rattle.demand_walk.proofs.Appended.{Has-append_left, Has-append_right, Has-appended, Has-one, Has-take_kept, Has-take_last, Has-take_more}
+use Rattle.lists.specs.Lists.{Has}
+use Rattle.demand_set.proofs.Appended.{Has-append_left, Has-append_right, Has-appended, Has-one, Has-take_kept, Has-take_last, Has-take_more}
 
 -- it comes from one of the elements
 abbrev pub From : {X W : Type 0} → (X → W → Type 0) → List X → W → Type 0

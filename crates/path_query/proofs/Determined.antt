@@ -1,12 +1,12 @@
 -- A word names one list of fields, or lacks one; and a path is either within a budget or over it.
 use Rattle.std.proofs.Common.{◌≡◌, ℕ, zero, suc, ◌<◌, List, [], ◌∷◌, Some, slice_get, sym, ◌∙◌, subst, inl, inr}
 use Rattle.std.specs.List.{AllZip}
-use Rattle.class_tree.specs.Paths.{IsLeast}
+use Rattle.lists.specs.Lists.{IsLeast}
 use Rattle.link_rules.specs.Linked.{LinkedProgram}
 use Rattle.link_rules.specs.Accessed.{IsFieldNamed}
 use Rattle.link_sites.specs.declared.site.Site.{Site}
 use Rattle.spds_rules.specs.declared.node.Node.{Node}
-use Rattle.demand_walk.proofs.Counts.{HasMore-not}
+use Rattle.demand_set.proofs.Counts.{HasMore-not}
 use Rattle.query_core.proofs.Determined.{counts_more}
 use Rattle.query_core.proofs.NamedPlaces.{least_one}
 use Rattle.boom_words.specs.Fields.{FieldName, cells, named}

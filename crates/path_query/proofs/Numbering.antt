@@ -5,15 +5,15 @@ use Rattle.std.proofs.lemmas.Bool.{cases_order}
 use Rattle.std.proofs.lemmas.List.{take_more}
 use Rattle.std.proofs.lemmas.List.Quantifiers.{all_pairs_push}
 use Rattle.std.proofs.lemmas.Option.{get_or_from_slice_get, slice_get-get_or}
-use Rattle.jim_ast.specs.Lists.{Has}
-use Rattle.jim_ast.proofs.Places.{slice_get-below, slice_get-pushed}
+use Rattle.lists.specs.Lists.{Has, Each}
+use Rattle.lists.proofs.Places.{slice_get-below, slice_get-pushed}
+use Rattle.lists.proofs.SideBySide.{Each-push}
 use Rattle.link_rules.specs.Linked.{LinkedProgram}
-use Rattle.link_rules.specs.Lists.{Each}
 use Rattle.link_laws.proofs.Lists.{each_left, each_right}
 use Rattle.link_sites.specs.declared.site.Site.{Site}
 use Rattle.link_sites.specs.Sites.{Precedes}
 use Rattle.spds_rules.specs.Answers.{AreSites}
-use Rattle.demand_walk.proofs.Appended.{Has-append_left, Has-append_right, Has-appended, Has-one}
+use Rattle.demand_set.proofs.Appended.{Has-append_left, Has-append_right, Has-appended, Has-one}
 use Rattle.query_core.proofs.OneWay.{sites_one_way}
 use Rattle.query_core.proofs.Ordered.{AllPairs-at}
 use Rattle.path_query.specs.Numbers.{AreNumbersOf}
@@ -131,22 +131,6 @@ sites_of_numbers p sites P numbers found ordered among are at = record { each = 
 pub each_none : {X Y : Type 0} (R : X → Y → Type 0) → Each R [] []
 each_none R = record { as_many = refl; each = λ i x y there too. cc (there) }
 
--- one more stands beside one more
-each_push : {X Y : Type 0} (R : X → Y → Type 0) (xs : List X) (ys : List Y) (x : X) (y : Y) → Each R xs ys → R x y → Each R (xs ++ x ∷ []) (ys ++ y ∷ [])
-each_push {X = X} {Y = Y} R xs ys x y old here = record {
-  as_many = (let same = old.as_many in omega (arith, length-append xs (x ∷ []), length-append ys (y ∷ []), same));
-  each = λ i a b p q. elim (slice_get-pushed xs x i a p) [
-    | inl one ↦ elim (slice_get-pushed ys y i b q) [
-      | inl two ↦ old.each i a b one two
-      | inr two ↦ absurd (let same = old.as_many in let last = two.0 in let below = slice_get-below xs i a one in omega (arith, same, last, below))
-    ]
-    | inr one ↦ elim (slice_get-pushed ys y i b q) [
-      | inl two ↦ absurd (let same = old.as_many in let last = one.0 in let below = slice_get-below ys i b two in omega (arith, same, last, below))
-      | inr two ↦ subst (λ (z : X). R z b) (sym one.1) (subst (λ (z : Y). R x z) (sym two.1) here)
-    ]
-  ];
-}
-
 -- the site of one number more
 pub each_put : (all read : List Site) (numbers : List ℕ) (i : ℕ) (old new : List Site) (d : Site) → read ≡ all → i < length numbers → get_or numbers i 0 < length all
     → Each (λ k o. slice_get all k ≡ Some o) (take i numbers) old → new ≡ old ++ get_or read (get_or numbers i 0) d ∷ []
@@ -157,4 +141,4 @@ each_put all read numbers i old new d same below there so_far is =
     let at = subst (λ (xs : List Site). slice_get all k ≡ Some (get_or xs k d)) (sym same) (slice_get-get_or all k d there) in
     subst (λ (ks : List ℕ). Each (λ j o. slice_get all j ≡ Some o) ks new) (sym (take_more numbers i 0 below))
     (subst (λ (os : List Site). Each (λ j o. slice_get all j ≡ Some o) (take i numbers ++ k ∷ []) os) (sym is)
-    (each_push (λ j o. slice_get all j ≡ Some o) (take i numbers) old k x so_far at))
+    (Each-push (λ j o. slice_get all j ≡ Some o) (take i numbers) old k x so_far at))

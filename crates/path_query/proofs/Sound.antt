@@ -1,6 +1,6 @@
 -- What a path leads to in a run is at its end: each write of a run came by a store whose ends are demanded.
 use Rattle.std.proofs.Common.{◌≡◌, ℕ, suc, List, [], Some, length, slice_get, refl, sym, ap, ◌∙◌, subst, inl, inr}
-use Rattle.jim_ast.specs.Lists.{Has}
+use Rattle.lists.specs.Lists.{Has}
 use Rattle.link_rules.specs.Linked.{LinkedProgram}
 use Rattle.link_rules.specs.WellLinked.{IsWellLinked}
 use Rattle.link_sites.specs.declared.site.Site.{Site}

@@ -1,19 +1,19 @@
 -- The ways over the stores of a field, and the sites to which they lead.
 use Rattle.std.proofs.Common.{◌≡◌, ◌↔◌, ◌⊎◌, ℕ, ◌≤◌, List, [], ◌∷◌, ◌++◌, Some, length, slice_get, refl, sym, subst, inl, inr, arith}
-use Rattle.jim_ast.specs.Lists.{Has, IsApart}
-use Rattle.jim_ast.proofs.Places.{slice_get-below}
+use Rattle.lists.specs.Lists.{Has, IsApart, AreAll}
+use Rattle.lists.proofs.Places.{slice_get-below}
 use Rattle.link_rules.specs.Linked.{LinkedProgram}
 use Rattle.link_sites.specs.declared.site.Site.{Site}
 use Rattle.link_sites.specs.Sites.{HasField}
 use Rattle.spds_rules.specs.declared.node.Node.{Node}
 use Rattle.spds_rules.specs.declared.store.StoreAt.{StoreAt}
 use Rattle.spds_rules.specs.Answers.{IsAnswered}
-use Rattle.spds_rules.specs.Demand.{AreAll, Asked}
+use Rattle.spds_rules.specs.Demand.{Asked}
 use Rattle.spds_rules.specs.Systems.{Calls, Meets}
 use Rattle.spds_laws.proofs.Within.{fields_within}
 use Rattle.spds_nodes.specs.Stored.{IsStoreOf}
 use Rattle.demand_set.specs.Demands.{DemandParts}
-use Rattle.demand_walk.proofs.Appended.{Has-one}
+use Rattle.demand_set.proofs.Appended.{Has-one}
 use Rattle.spds_solve.specs.Solved.{SolvedParts}
 use Rattle.path_query.specs.declared.hops.Way.{Way}
 use Rattle.path_query.specs.Numbers.{AreNumbersOf, IsAmong, IsLedTo, IsNamed, IsPosed, IsWay, IsWayIn}

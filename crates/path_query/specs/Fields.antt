@@ -1,8 +1,7 @@
 -- The fields that a word names, by their numbers.
 use Rattle.std.specs.Prelude.{◌≡◌, ℕ, ◌⊎◌, List}
 use Rattle.std.specs.List.{AllZip}
-use Rattle.class_tree.specs.Paths.{IsLeast}
-use Rattle.jim_ast.specs.Lists.{Has}
+use Rattle.lists.specs.Lists.{IsLeast, Has}
 use Rattle.link_rules.specs.Linked.{LinkedProgram}
 use Rattle.link_rules.specs.Accessed.{IsFieldNamed, linked_class_names}
 use Rattle.link_sites.specs.Sites.{IsNamedClass}

@@ -1,7 +1,7 @@
 -- What a path of fields from a local leads to, and what that says of runs. Sites are followed from store to store over one demand: this rule is the
 -- project's own.
 use Rattle.std.specs.Prelude.{◌≡◌, ◌↔◌, ℕ, ◌⊎◌, List, [], ◌∷◌, Some, slice_get}
-use Rattle.jim_ast.specs.Lists.{Has}
+use Rattle.lists.specs.Lists.{Has, Counts, HasMore}
 use Rattle.link_rules.specs.Linked.{LinkedProgram}
 use Rattle.link_sites.specs.declared.place.Place.{Place}
 use Rattle.link_sites.specs.declared.site.Site.{Site}
@@ -11,11 +11,11 @@ use Rattle.spds_rules.specs.declared.node.Var.TheVariants.{Local}
 use Rattle.spds_rules.specs.declared.reach.Reach.TheVariants.{Plain}
 use Rattle.spds_rules.specs.declared.store.StoreAt.{StoreAt}
 use Rattle.spds_rules.specs.Answers.{AreSites, IsAnswered}
-use Rattle.spds_rules.specs.Demand.{Asked, Counts, Demand, HasMore}
+use Rattle.spds_rules.specs.Demand.{Asked, Demand}
 use Rattle.spds_rules.specs.Nodes.{at}
 use Rattle.spds_rules.specs.Stores.{IsStore}
 use Rattle.spds_rules.specs.Systems.{Calls}
-use Rattle.demand_walk.specs.Walks.{HasAtMost}
+use Rattle.demand_set.specs.Walks.{HasAtMost}
 use Rattle.step_rules.specs.declared.parts.Slot.TheVariants as slot
 use Rattle.step_rules.specs.Runs.{Run}
 use Rattle.step_rules.specs.Slots.{Path}

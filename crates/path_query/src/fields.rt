@@ -4,8 +4,8 @@ ghost use Rattle.boom_words.specs.Fields.{AreFields, FieldName, field_name};
 ghost use Rattle.path_query.specs.Fields.{ArePathFields, IsFieldAt, IsNoField, LacksField};
 
 use boom_words::{FieldWord, read_fields};
-use jim_ast::NoMemory;
 use link_program::Linked;
+use lists::NoMemory;
 use std::alloc::Global;
 
 // The number of a field, if it is there.

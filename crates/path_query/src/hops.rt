@@ -1,6 +1,6 @@
 //! From sites to those behind one of their fields.
 ghost use Rattle.std.specs.Prelude.{◌≡◌, ◌<◌, ◌^◌, ◌↔◌, ◌⊎◌, IfOk, IsTrue, OnOk, Some, length, slice_get};
-ghost use Rattle.jim_ast.specs.Lists.{Has};
+ghost use Rattle.lists.specs.Lists.{Has};
 ghost use Rattle.link_rules.specs.Linked.{LinkedProgram};
 ghost use Rattle.link_sites.specs.declared.site.Site.{Site};
 ghost use Rattle.spds_rules.specs.Demand.{Asked};
@@ -11,7 +11,7 @@ ghost use Rattle.path_query.specs.Numbers.{AreNumbersOf, IsAmong, IsLedTo, IsNam
 ghost use Rattle.path_query.specs.Paths.{IsBehind};
 
 use super::posed::Posed;
-use jim_ast::NoMemory;
+use lists::NoMemory;
 use spds_nodes::{has_field, stores_of};
 use spds_rules::StoreAt;
 use spds_solve::Solved;

@@ -1,16 +1,15 @@
 //! Sites by their numbers.
 ghost use Rattle.std.specs.Prelude.{◌≡◌, ◌<◌, ◌^◌, ℕ, IfOk, Some, length, slice_get};
-ghost use Rattle.jim_ast.specs.Lists.{Has};
+ghost use Rattle.lists.specs.Lists.{Has, Each};
 ghost use Rattle.link_rules.specs.Linked.{LinkedProgram};
-ghost use Rattle.link_rules.specs.Lists.{Each};
 ghost use Rattle.spds_rules.specs.declared.node.Node.{Node};
 ghost use Rattle.spds_rules.specs.Answers.{IsAnswered};
 ghost use Rattle.spds_rules.specs.Demand.{Asked};
 ghost use Rattle.path_query.specs.Numbers.{AreNumbersOf, IsPosed};
 
 use demand_set::Demand;
-use jim_ast::NoMemory;
 use link_sites::Site;
+use lists::NoMemory;
 use spds_solve::Solved;
 use std::alloc::Global;
 

@@ -1,6 +1,6 @@
 //! What a path asks for: its node, and both ends of each store of its fields.
 ghost use Rattle.std.specs.Prelude.{◌≡◌, ◌≢◌, ◌↔◌, ◌≤◌, ◌⊎◌, ℕ, Err, IfOk, IsErr, OnOk, length};
-ghost use Rattle.jim_ast.specs.Lists.{Has};
+ghost use Rattle.lists.specs.Lists.{Has};
 ghost use Rattle.spds_rules.specs.declared.node.Node.{Node as ANode};
 ghost use Rattle.spds_rules.specs.declared.reach.Reach.TheVariants.{Plain};
 ghost use Rattle.spds_rules.specs.Demand.{Asked};
@@ -8,9 +8,10 @@ ghost use Rattle.spds_rules.specs.Nodes.{IsNode};
 ghost use Rattle.demand_set.specs.Demands.{IsDemandOf};
 ghost use Rattle.path_query.specs.Paths.{AsksPath, IsEndOf, IsPathAffordable, IsPathOver};
 
-use demand_set::{Demand, DemandError, Reach, demand};
-use jim_ast::NoMemory;
+use demand_set::{Demand, DemandError, Reach};
 use link_program::Linked;
+use lists::NoMemory;
+use program_demand::demand;
 use spds_nodes::stores_of;
 use spds_rules::Node;
 use std::alloc::Global;

@@ -6,9 +6,9 @@ use Rattle.auto_table.specs.declared.entry.Entry.{Entry}
 use Rattle.auto_table.specs.declared.row.Linked.{Linked}
 use Rattle.post_star.proofs.Pairs.{link_of, link_or}
 use Rattle.auto_table.specs.declared.entry.Entry.TheVariants.{Base, Pushed}
-use Rattle.auto_table.specs.Lists.{Has}
+use Rattle.lists.specs.Lists.{Has}
 use Rattle.auto_table.specs.Cells.{Cells, weight_at, link_at, IsRaisedLink, AreParents}
-use Rattle.auto_table.proofs.Places.{slice_get-below}
+use Rattle.lists.proofs.Places.{slice_get-below}
 use Rattle.post_star.specs.declared.bases.Start.{Start}
 use Rattle.post_star.specs.declared.bases.BaseStep.{BaseStep}
 use Rattle.post_star.specs.declared.rise.Item.{Item}

@@ -2,9 +2,9 @@
 use Rattle.std.proofs.Common.{◌≡◌, ◌⊎◌, inl, inr, ◌∙◌, ℕ, ◌+◌, ◌<◌, ◌≤◌, List, [], length, slice_get, Some, refl, sym, ap, subst, arith}
 use Rattle.auto_table.specs.declared.entry.Entry.{Entry}
 use Rattle.auto_table.specs.declared.entry.Entry.TheVariants.{Base, Pushed}
-use Rattle.auto_table.specs.Lists.{Has}
+use Rattle.lists.specs.Lists.{Has}
 use Rattle.auto_table.specs.Cells.{Cells, weight_at, link_at, by_weight, IsListed, AreMeant}
-use Rattle.auto_table.proofs.Places.{slice_get-below}
+use Rattle.lists.proofs.Places.{slice_get-below}
 use Rattle.post_star.specs.declared.rise.Item.{Item}
 use Rattle.post_star.specs.Derivations.{Combines, none, one, both}
 use Rattle.post_star.specs.Readings.{ReadsAny, any_base, any_link, ReadsAnyAt, any_entry, IsTableAny}

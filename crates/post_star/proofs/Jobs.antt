@@ -1,10 +1,10 @@
 -- What each step of a work leaves.
 use Rattle.std.proofs.Common.{◌≡◌, ◌⊎◌, inl, inr, ◌∙◌, ℕ, suc, ◌+◌, ◌<◌, ◌≤◌, List, [], ◌∷◌, ◌++◌, length, take, get_or, slice_get, Some, Bool, true, false, ◌&&◌, nat_eq, refl, sym, ap, subst, arith, rules, eq-eqb, length-append}
 use Rattle.auto_table.specs.declared.rule.Rule.{Rule}
-use Rattle.auto_table.specs.Lists.{Has}
+use Rattle.lists.specs.Lists.{Has}
 use Rattle.auto_table.specs.Cells.{Cells, IsBlank}
 use Rattle.std.proofs.lemmas.List.{append_assoc, take_all, take_more, take-append-le}
-use Rattle.auto_table.proofs.Places.{slice_get-pushed, slice_get-below}
+use Rattle.lists.proofs.Places.{slice_get-pushed, slice_get-below}
 use Rattle.post_star.specs.declared.bases.Start.{Start}
 use Rattle.post_star.specs.declared.bases.BaseStep.{BaseStep}
 use Rattle.post_star.specs.Derivations.{Leads, by_start, by_base, by_below, IsLed}

@@ -5,9 +5,9 @@ use Rattle.auto_table.specs.declared.rule.Rule.TheVariants.{Flow, Push, Pop}
 use Rattle.auto_table.specs.declared.entry.Entry.{Entry}
 use Rattle.auto_table.specs.declared.entry.Entry.TheVariants.{Base, Pushed}
 use Rattle.auto_table.specs.declared.row.Reached.{Reached}
-use Rattle.auto_table.specs.Lists.{Has}
+use Rattle.lists.specs.Lists.{Has}
 use Rattle.auto_table.specs.Cells.{Cells, weight_at, link_at, IsRow}
-use Rattle.auto_table.proofs.Places.{slice_get-below, slice_get-pushed}
+use Rattle.lists.proofs.Places.{slice_get-below, slice_get-pushed}
 use Rattle.post_star.specs.declared.bases.Start.{Start}
 use Rattle.post_star.specs.declared.bases.BaseStep.{BaseStep}
 use Rattle.post_star.specs.declared.rise.Item.{Item}

@@ -4,9 +4,9 @@ use Rattle.auto_table.specs.declared.rule.Rule.{Rule}
 use Rattle.auto_table.specs.declared.rule.Rule.TheVariants.{Flow, Push, Pop}
 use Rattle.auto_table.specs.declared.entry.Entry.{Entry}
 use Rattle.auto_table.specs.declared.entry.Entry.TheVariants.{Base, Pushed}
-use Rattle.auto_table.specs.Lists.{Has}
+use Rattle.lists.specs.Lists.{Has}
 use Rattle.auto_table.specs.Cells.{Cells, weight_at, link_at, IsRaised, IsRaisedLink}
-use Rattle.auto_table.proofs.Places.{slice_get-append_left, slice_get-push}
+use Rattle.lists.proofs.Places.{slice_get-append_left, slice_get-push}
 use Rattle.post_star.proofs.Pairs.{link_of, link_or, spot_of, spot_or}
 use Rattle.post_star.specs.declared.bases.Start.{Start}
 use Rattle.post_star.specs.declared.bases.BaseStep.{BaseStep}

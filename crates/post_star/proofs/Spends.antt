@@ -1,9 +1,9 @@
 -- Each rise takes more from the work that is left than the item that it puts there.
 use Rattle.std.proofs.Common.{◌≡◌, ◌≢◌, ◌⊎◌, inl, inr, ℕ, zero, suc, ◌<◌, ◌≤◌, List, [], ◌∷◌, ◌++◌, length, slice_get, Some, refl, sym, ap, ◌∙◌, subst, arith}
 use Rattle.auto_table.specs.declared.entry.Entry.{Entry}
-use Rattle.auto_table.specs.Lists.{Has}
+use Rattle.lists.specs.Lists.{Has}
 use Rattle.auto_table.specs.Cells.{Cells, weight_at, link_at}
-use Rattle.auto_table.proofs.Places.{slice_get-pushed}
+use Rattle.lists.proofs.Places.{slice_get-pushed}
 use Rattle.post_star.specs.declared.bases.BaseStep.{BaseStep}
 use Rattle.post_star.specs.declared.rise.Item.{Item}
 use Rattle.post_star.specs.declared.rise.Item.TheVariants.{At, Between}

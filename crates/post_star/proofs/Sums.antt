@@ -3,12 +3,12 @@ use Rattle.std.proofs.Common.{◌≡◌, ◌⊎◌, inl, inr, ℕ, ◌+◌, ◌<
 use Rattle.auto_table.specs.declared.entry.Entry.{Entry}
 use Rattle.auto_table.specs.declared.entry.Entry.TheVariants.{Base, Pushed}
 use Rattle.auto_table.specs.declared.row.Linked.{Linked}
-use Rattle.auto_table.specs.Lists.{Has}
+use Rattle.lists.specs.Lists.{Has}
 use Rattle.std.specs.Option.{option_map}
 use Rattle.std.proofs.lemmas.Option.{slice_get-map}
 use Rattle.post_star.proofs.Scopes.{has_map, length_map}
 use Rattle.auto_table.specs.Cells.{Cells, weight_at, link_at, IsListed, AreMeant, AreParents, by_weight}
-use Rattle.auto_table.proofs.Places.{slice_get-below}
+use Rattle.lists.proofs.Places.{slice_get-below}
 use Rattle.post_star.specs.declared.bases.BaseStep.{BaseStep}
 use Rattle.post_star.specs.Derivations.{Leads, Combines, none, one, both, IsSumOf}
 use Rattle.post_star.specs.Readings.{Reads, at_base, at_link, ReadsAt, from_entry}

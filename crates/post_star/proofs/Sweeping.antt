@@ -4,9 +4,9 @@ use Rattle.auto_table.specs.declared.entry.Entry.{Entry}
 use Rattle.auto_table.specs.declared.entry.Entry.TheVariants.{Pushed}
 use Rattle.auto_table.specs.declared.row.Linked.{Linked}
 use Rattle.auto_table.specs.contracts.entry.EntryPartialEq.TheImpl as entry
-use Rattle.auto_table.specs.Lists.{Has}
+use Rattle.lists.specs.Lists.{Has}
 use Rattle.auto_table.specs.Cells.{Cells, weight_at, link_at, IsUsed, by_weight, by_child, by_parent, AreMeant, AreParents, IsBlank}
-use Rattle.auto_table.proofs.Places.{slice_get-below, slice_get-pushed}
+use Rattle.lists.proofs.Places.{slice_get-below, slice_get-pushed}
 use Rattle.auto_table.proofs.Raises.{meant_blank, meant_raised}
 use Rattle.auto_table.proofs.Same.{same_entry, self_entry}
 use Rattle.auto_table.proofs.Weighed.{link_cell, weight_cell}

@@ -5,10 +5,10 @@ use Rattle.std.specs.List.{list_any}
 use Rattle.auto_table.specs.declared.rule.Rule.{Rule}
 use Rattle.auto_table.specs.declared.entry.Entry.{Entry}
 use Rattle.auto_table.specs.declared.row.Reached.{Reached}
-use Rattle.auto_table.specs.Lists.{Has, Adds}
+use Rattle.lists.specs.Lists.{Has, Adds}
 use Rattle.auto_table.specs.Cells.{Cells, weight_at, IsRow, IsListed, by_weight}
-use Rattle.auto_table.proofs.Keys.{Adds-insert_key, Has-list_any}
-use Rattle.auto_table.proofs.Places.{slice_get-below, slice_get-adds, Has-adds_itself}
+use Rattle.lists.proofs.Keys.{Adds-insert_key, Has-list_any}
+use Rattle.lists.proofs.Places.{slice_get-below, slice_get-adds, Has-adds_itself}
 use Rattle.post_star.specs.declared.rise.Item.{Item}
 use Rattle.post_star.specs.declared.rise.Item.TheVariants.{At}
 use Rattle.post_star.specs.Index.{from_of}

@@ -2,7 +2,7 @@ ghost use Rattle.std.specs.Prelude.{◌≡◌, IfOk, OnOk};
 ghost use Rattle.auto_table.specs.declared.rule.Rule.TheVariants.{Pop};
 ghost use Rattle.auto_table.specs.declared.entry.Entry.TheVariants.{Base, Pushed};
 ghost use Rattle.auto_table.specs.Cells.{AreParents, weight_at};
-ghost use Rattle.auto_table.specs.Lists.{Has};
+ghost use Rattle.lists.specs.Lists.{Has};
 ghost use Rattle.post_star.specs.Systems.{IsIndexed, rules_of};
 ghost use Rattle.post_star.specs.Works.{IsTold, IsSound, IsProgress, IsApplied, IsAppliedBetween};
 
@@ -10,7 +10,8 @@ use super::copies::copied;
 use super::key::Key;
 use super::rise::Rising;
 use super::system::System;
-use auto_table::{Entry, Linked, NoMemory, Rule};
+use auto_table::{Entry, Linked, Rule};
+use lists::NoMemory;
 use weight_laws::Weight;
 
 /// What a pop says.

@@ -4,8 +4,7 @@ ghost use Rattle.post_star.specs.declared.key.Key.{Key as AKey};
 ghost use Rattle.post_star.specs.Groups.{found_at, IsAdded};
 
 use super::key::Key;
-use auto_table::NoMemory;
-use lists::Numbered;
+use lists::{NoMemory, Numbered};
 use std::alloc::Global;
 use std::marker::Model;
 

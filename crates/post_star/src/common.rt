@@ -5,7 +5,8 @@ ghost use Rattle.post_star.specs.Works.{AreTold, weight_of};
 
 use super::bases::{BaseStep, Bases};
 use super::index::Index;
-use auto_table::{NoMemory, Rule};
+use auto_table::Rule;
+use lists::NoMemory;
 use std::alloc::Global;
 use std::marker::Model;
 use weight_laws::Weight;

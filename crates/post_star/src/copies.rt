@@ -1,6 +1,6 @@
 ghost use Rattle.std.specs.Prelude.{◌≡◌, IfOk};
 
-use auto_table::NoMemory;
+use lists::NoMemory;
 use std::alloc::Global;
 
 /// A list of its own with the elements of the slice.

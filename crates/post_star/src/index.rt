@@ -9,7 +9,8 @@ ghost use Rattle.post_star.specs.Index.{from_of, IsIndex};
 use super::bases::BaseStep;
 use super::by_key::ByKey;
 use super::key::Key;
-use auto_table::{Entry, NoMemory, Rule};
+use auto_table::{Entry, Rule};
+use lists::NoMemory;
 use std::alloc::Global;
 
 /// The node from which a rule leads.

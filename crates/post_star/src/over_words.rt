@@ -7,7 +7,8 @@ ghost use Rattle.post_star.specs.Readings.{IsTableAny};
 ghost use Rattle.post_star.specs.Sweeps.{AreBegun, AreEntriesAt, IsSumAtBases, IsSweeping, used_scope};
 
 use super::rise::{Item, Rising};
-use auto_table::{Entry, NoMemory, Table};
+use auto_table::{Entry, Table};
+use lists::NoMemory;
 use std::alloc::Global;
 use weight_laws::Weight;
 

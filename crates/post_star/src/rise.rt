@@ -2,7 +2,8 @@ ghost use Rattle.std.specs.Prelude.{◌≡◌, [], OnOk};
 ghost use Rattle.auto_table.specs.Cells.{IsBlank};
 ghost use Rattle.post_star.specs.Works.{IsRisen, IsRisenLink};
 
-use auto_table::{Entry, NoMemory, Table};
+use auto_table::{Entry, Table};
+use lists::NoMemory;
 use std::alloc::Global;
 use std::collections::VecDeque;
 use weight_laws::Weight;

@@ -5,7 +5,8 @@ ghost use Rattle.post_star.specs.Readings.{IsSaturated};
 use super::bases::{Bases, Start};
 use super::copies::copied;
 use super::work::Work;
-use auto_table::{NoMemory, Rule, Table};
+use auto_table::{Rule, Table};
+use lists::NoMemory;
 use std::alloc::Global;
 use weight_laws::Weight;
 

@@ -1,6 +1,6 @@
 ghost use Rattle.std.specs.Prelude.{◌≡◌, ◌≢◌, ℕ, ◌≤◌, length, slice_get, Some, OnOk, IfOk};
 ghost use Rattle.auto_table.specs.declared.rule.Rule.{Rule as ARule};
-ghost use Rattle.auto_table.specs.Lists.{Has};
+ghost use Rattle.lists.specs.Lists.{Has};
 ghost use Rattle.auto_table.specs.Cells.{weight_at};
 ghost use Rattle.post_star.specs.declared.rise.Item.{Item as AnItem};
 ghost use Rattle.post_star.specs.declared.rise.Item.TheVariants.{At};
@@ -11,8 +11,9 @@ ghost use Rattle.post_star.specs.Works.{IsTold, IsBegun, IsSettling, AreTaken};
 use super::index::from_node;
 use super::rise::{Item, Rising};
 use super::system::System;
-use auto_table::{Entry, NoMemory, Rule, Table};
+use auto_table::{Entry, Rule, Table};
 use indexmap::IndexSet;
+use lists::NoMemory;
 use std::alloc::Global;
 use std::collections::VecDeque;
 use weight_laws::Weight;

@@ -2,7 +2,7 @@ ghost use Rattle.std.specs.Prelude.{◌≡◌, ◌≤◌, ◌++◌, ◌∷◌, [
 ghost use Rattle.post_star.specs.declared.bases.BaseStep.{BaseStep as AStep};
 ghost use Rattle.auto_table.specs.declared.rule.Rule.{Rule as ARule};
 ghost use Rattle.auto_table.specs.declared.entry.Entry.TheVariants.{Pushed};
-ghost use Rattle.auto_table.specs.Lists.{Has};
+ghost use Rattle.lists.specs.Lists.{Has};
 ghost use Rattle.post_star.specs.Index.{from_of, IsIndex};
 ghost use Rattle.post_star.specs.Systems.{IsIndexed, rules_of};
 ghost use Rattle.post_star.specs.Measures.{Scope, IsScope, IsWithin, work_left};
@@ -12,7 +12,8 @@ use super::copies::copied;
 use super::key::Key;
 use super::rise::{Item, Rising};
 use super::system::{Part, System};
-use auto_table::{Entry, NoMemory, Rule};
+use auto_table::{Entry, Rule};
+use lists::NoMemory;
 use weight_laws::Weight;
 
 impl<W: Weight> Rising<W> {

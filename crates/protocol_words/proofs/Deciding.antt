@@ -3,21 +3,21 @@ use Rattle.std.proofs.Common.{◌≡◌, ℕ, zero, suc, ◌+◌, ◌<◌, ◌�
 use Rattle.std.proofs.lemmas.Bool.{cases_eq, cases_lt}
 use Rattle.std.proofs.lemmas.List.{append-nil, take_all}
 use Rattle.class_tree.proofs.Decided.{IsDecided, both_decided, same_decided}
-use Rattle.jim_ast.specs.Lists.{Adds, Has}
-use Rattle.jim_ast.proofs.Places.{IsApart-adds, slice_get-append_left, slice_get-there}
+use Rattle.lists.specs.Lists.{Adds, Has, Each, FirstSeen, none, next}
+use Rattle.lists.proofs.Places.{IsApart-adds, slice_get-append_left, slice_get-there}
 use Rattle.link_indexes.proofs.Grown.{take-next}
 use Rattle.link_laws.proofs.Lists.{map_at, slice_get-append_right}
-use Rattle.link_once.proofs.OneList.{first_seen_one}
+use Rattle.link_laws.proofs.OneList.{first_seen_one}
 use Rattle.link_rules.specs.Accessed.{linked_class_names}
 use Rattle.link_rules.specs.Linked.{LinkedProgram}
-use Rattle.link_rules.specs.Lists.{Each, FirstSeen, none, next}
 use Rattle.step_rules.proofs.Deciding.{least_of, same_text_decided}
 use Rattle.track_rules.specs.declared.row.ProtocolRow.{ProtocolRow}
 use Rattle.track_rules.specs.Protocols.{AreParts, Breaks, IsName, IsNoProtocol, IsNumbered, NamedProtocol, NamedRow, NamesTooMany, Spells, named_events, named_states}
 use Rattle.protocol_words.specs.Laws.{EachWordHasAnOutcome, Outcome, IsOutcome, is_protocol, breaks_at, crowds_at, lacks_class}
 use Rattle.protocol_words.specs.Spellings.{AreRows, IsHead, IsRow}
 use Rattle.protocol_words.proofs.Counting.{few_names, front, states_in}
-use Rattle.protocol_words.proofs.Names.{has_between, head_one, row_head, row_one}
+use Rattle.protocol_words.proofs.Names.{head_one, row_head, row_one}
+use Rattle.lists.proofs.Cutting.{has_between}
 use Rattle.protocol_words.proofs.Parts.{are_parts, ends}
 use Rattle.protocol_words.proofs.Rows.{IsRead, are_rows, breaks_again, breaks_form, key_of, read_more, read_none, unbroken}
 use Rattle.protocol_words.proofs.Seen.{seen_has}

@@ -4,8 +4,9 @@ use Rattle.std.specs.Str.{NoCharPasses}
 use Rattle.std.specs.Str.Pattern.{FindsChar, RFindsChar}
 use Rattle.std.proofs.lemmas.Option.{get_or_from_slice_get}
 use Rattle.std.proofs.lemmas.Str.Pattern.{IsSplitOnceResult, NoCharPasses-char, contains_char, drop_at_char, split_parts}
-use Rattle.jim_ast.specs.Lists.{Has}
-use Rattle.jim_ast.proofs.Places.{slice_get-below}
+use Rattle.lists.specs.Lists.{Has}
+use Rattle.lists.proofs.Cutting.{cut_first, has_between, has_more}
+use Rattle.lists.proofs.Places.{slice_get-below}
 use Rattle.track_rules.specs.Protocols.{AreNames, IsName, NamedRow, head_text}
 use Rattle.protocol_words.specs.Spellings.{IsHead, IsRow}
 
@@ -29,27 +30,8 @@ pub name_unless : (text : List ℕ) (r : Bool) → 0 < length text → (Has text
 name_unless text true some no_blank has none = ((λ e. absurd (true≢false (sym e))), λ name. absurd (name.no_semicolon (has refl)))
 name_unless text false some no_blank has none = ((λ e. record { some = some; no_blank = no_blank; no_semicolon = none refl }), λ name. refl)
 
--- a character that stands in a list
-pub has_between : (xs ys : List ℕ) (c : ℕ) → Has (xs ++ c ∷ ys) c
-has_between [] ys c = (0, refl)
-has_between (x ∷ xs) ys c = let rest = has_between xs ys c in (suc rest.0, rest.1)
-
-has_more : (x c : ℕ) (xs : List ℕ) → Has xs c → Has (x ∷ xs) c
-has_more x c xs h = (suc h.0, h.1)
-
 module _ (c : ℕ) where
-  -- a list is cut in one way at the first place of a character
-  pub cut_first : (xs ys zs ws : List ℕ) → (Has xs c → ⊥) → (Has zs c → ⊥) → xs ++ c ∷ ys ≡ zs ++ c ∷ ws → (xs ≡ zs) × (ys ≡ ws)
-  cut_first [] ys [] ws p q e = (refl, cc)
-  cut_first [] ys (z ∷ zs) ws p q e = let same : z ≡ c = cc in absurd (q (0, ap Some same))
-  cut_first (x ∷ xs) ys [] ws p q e = let same : x ≡ c = cc in absurd (p (0, ap Some same))
-  cut_first (x ∷ xs) ys (z ∷ zs) ws p q e =
-      let first : x ≡ z = cc in
-      let rest : xs ++ c ∷ ys ≡ zs ++ c ∷ ws = cc in
-      let more = cut_first xs ys zs ws (λ h. p (has_more x c xs h)) (λ h. q (has_more z c zs h)) rest in
-      (cc (first, more.0), more.1)
-
-  -- and in one way at the last place
+  -- a list is cut in one way at the last place of a character
   pub cut_last : (xs ys zs ws : List ℕ) → (Has ys c → ⊥) → (Has ws c → ⊥) → xs ++ c ∷ ys ≡ zs ++ c ∷ ws → (xs ≡ zs) × (ys ≡ ws)
   cut_last [] ys [] ws p q e = (refl, cc)
   cut_last [] ys (z ∷ zs) ws p q e = let same : ys ≡ zs ++ c ∷ ws = cc in absurd (p (subst (λ l. Has l c) (sym same) (has_between zs ws c)))

@@ -1,20 +1,18 @@
 -- Each word is one thing at most.
 use Rattle.std.proofs.Common.{◌≡◌, ℕ, zero, suc, List, [], ◌∷◌, Some, length, map, slice_get, refl, ap, subst, ◌∙◌, arith}
 use Rattle.std.proofs.lemmas.List.{take_all}
-use Rattle.class_tree.specs.Paths.{IsLeast}
-use Rattle.jim_ast.specs.Lists.{Has, IsApart}
+use Rattle.lists.specs.Lists.{IsLeast, Has, IsApart, Each, FirstSeen}
 use Rattle.link_laws.proofs.Lists.{first_seen_apart}
-use Rattle.link_once.proofs.OneList.{each_one, first_seen_one}
+use Rattle.link_laws.proofs.OneList.{each_one, first_seen_one}
 use Rattle.link_rules.specs.Accessed.{linked_class_names}
 use Rattle.link_rules.specs.Linked.{LinkedProgram}
-use Rattle.link_rules.specs.Lists.{Each, FirstSeen}
 use Rattle.link_sites.specs.Sites.{IsNamedClass}
 use Rattle.step_rules.proofs.Determined.{least_one}
 use Rattle.track_rules.specs.declared.row.ProtocolRow.{ProtocolRow}
 use Rattle.track_rules.specs.Protocols.{AreNames, Breaks, HasTooManyStates, IsNoProtocol, IsNumbered, IsOfUnknownClass, IsProtocolOf, NamedProtocol, NamedRow, NamesTooMany, ProtocolParts, Spells, head_text, named_events, named_states, row_text}
 use Rattle.protocol_words.specs.Laws.{HasOneOutcome, is_protocol, breaks_at, crowds_at, lacks_class}
 use Rattle.protocol_words.proofs.Counting.{few_names}
-use Rattle.protocol_words.proofs.Names.{cut_first}
+use Rattle.lists.proofs.Cutting.{cut_first}
 use Rattle.protocol_words.proofs.Parts.{parts_one, spelled_parts}
 use Rattle.protocol_words.proofs.Rows.{row_text_one, unbroken}
 use Rattle.protocol_words.proofs.Spelled.{head_unbroken}

@@ -2,13 +2,14 @@
 use Rattle.std.proofs.Common.{◌≡◌, ℕ, zero, suc, ◌+◌, ◌<◌, List, [], ◌∷◌, ◌++◌, Option, Some, None, IfSome, IfNone, is_some, true, false, true≢false, Bor, length, map, get_or, slice_get, take, refl, sym, ap, subst, ◌∙◌, inl, inr, arith}
 use Rattle.std.proofs.lemmas.List.{map-append}
 use Rattle.jim_ast.specs.declared.names.NameId.{NameId}
-use Rattle.jim_ast.specs.Lists.{Adds, Has, IsApart}
-use Rattle.jim_ast.proofs.Places.{slice_get-below, slice_get-pushed, slice_get-there}
+use Rattle.lists.specs.Lists.{Adds, Has, IsApart}
+use Rattle.lists.proofs.Places.{slice_get-below, slice_get-pushed, slice_get-there}
 use Rattle.link_indexes.proofs.Grown.{take-next}
 use Rattle.link_laws.proofs.Lists.{at_map, map_at}
 use Rattle.track_rules.specs.Protocols.{AreNames, Breaks, IsRowAt, NamedRow, head_text, row_text}
 use Rattle.protocol_words.specs.Spellings.{AreRows, IsRow, texts}
-use Rattle.protocol_words.proofs.Names.{cut_first, cut_last}
+use Rattle.protocol_words.proofs.Names.{cut_last}
+use Rattle.lists.proofs.Cutting.{cut_first}
 
 module _ {X : Type 0} where
   -- what stands in the front of a list stands there in the list

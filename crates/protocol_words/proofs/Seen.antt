@@ -1,10 +1,10 @@
 -- Names in the order of their first appearance.
 use Rattle.std.proofs.Common.{◌≡◌, ℕ, ◌≤◌, ◌⊎◌, List, [], ◌∷◌, ◌++◌, Some, length, length-append, slice_get, refl, sym, ap, subst, ◌∙◌, inl, inr, arith}
 use Rattle.std.proofs.lemmas.List.{append-nil}
-use Rattle.jim_ast.specs.Lists.{Adds, Has}
-use Rattle.jim_ast.proofs.Places.{Has-adds_itself, slice_get-adds, slice_get-pushed}
-use Rattle.link_once.proofs.OneList.{first_seen_one}
-use Rattle.link_rules.specs.Lists.{FirstSeen, none, next}
+use Rattle.lists.specs.Lists.{Adds, Has, FirstSeen}
+use Rattle.lists.proofs.Places.{Has-adds_itself, slice_get-adds, slice_get-pushed}
+use Rattle.link_laws.proofs.OneList.{first_seen_one}
+use Rattle.lists.specs.Lists.{none, next}
 
 module _ {X : Type 0} where
   -- what is named is there

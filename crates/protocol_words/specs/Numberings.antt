@@ -1,7 +1,6 @@
 -- The names of protocols by their numbers.
 use Rattle.std.specs.Prelude.{ℕ, ◌≤◌, length}
-use Rattle.class_tree.specs.Paths.{IsLeast}
-use Rattle.link_rules.specs.Lists.{Each, FirstSeen}
+use Rattle.lists.specs.Lists.{IsLeast, Each, FirstSeen}
 use Rattle.track_rules.specs.Protocols.{IsNumbered, NamedProtocol, NamesTooMany, ProtocolParts, named_events, named_states}
 use Rattle.protocol_words.specs.declared.error.ProtocolError.{ProtocolError}
 use Rattle.protocol_words.specs.declared.error.ProtocolError.TheVariants.{NoMemory, NotProtocol, TooManyStates, UnknownClass}

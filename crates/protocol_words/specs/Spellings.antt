@@ -1,7 +1,7 @@
 -- Protocols by names, as the parts of a word spell them.
 use Rattle.std.specs.Prelude.{◌≡◌, ℕ, ◌<◌, List, map}
 use Rattle.std.specs.Borrow.{Bor}
-use Rattle.jim_ast.specs.Lists.{Has}
+use Rattle.lists.specs.Lists.{Has}
 use Rattle.track_rules.specs.Protocols.{AreApart, AreNames, Breaks, IsName, IsNoProtocol, NamedProtocol, NamedRow, head_text, row_text}
 use Rattle.protocol_words.specs.declared.error.ProtocolError.{ProtocolError}
 use Rattle.protocol_words.specs.declared.error.ProtocolError.TheVariants.{NoMemory, NotProtocol, TooManyStates, UnknownClass}

@@ -1,5 +1,5 @@
 //! Why a word is no protocol.
-use jim_ast::NoMemory;
+use lists::NoMemory;
 use std::alloc::AllocFailed;
 
 /// Why there is no protocol. Parts are numbered from 0.

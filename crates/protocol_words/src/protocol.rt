@@ -1,6 +1,6 @@
 //! A protocol.
 ghost use Rattle.std.specs.Prelude.{◌≡◌, ◌<◌, ℕ, IfNone, IfSome, Some, length, slice_get};
-ghost use Rattle.jim_ast.specs.Lists.{Has};
+ghost use Rattle.lists.specs.Lists.{Has};
 ghost use Rattle.track_rules.specs.Protocols.{HasRow, IsProtocol};
 ghost use Rattle.protocol_words.specs.Numberings.{protocol_parts};
 

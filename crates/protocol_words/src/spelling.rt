@@ -5,7 +5,8 @@ ghost use Rattle.protocol_words.specs.Spellings.{AreRows, BreaksAfterHead, IsUns
 
 use super::error::ProtocolError;
 use super::words::{RowNames, row_names, two_names};
-use jim_ast::{Names, NoMemory};
+use jim_ast::Names;
+use lists::NoMemory;
 use std::alloc::{AllocError, Global};
 
 /// A protocol by its names: the class, the state in which objects begin, and the rows.

@@ -5,9 +5,9 @@ use Rattle.link_sites.specs.declared.site.Site.{Site}
 use Rattle.link_sites.specs.Sites.{Precedes}
 use Rattle.spds_rules.specs.declared.node.Node.{Node}
 use Rattle.spds_rules.specs.Answers.{AreSites}
-use Rattle.spds_rules.specs.Demand.{Counts, HasMore}
-use Rattle.demand_walk.specs.Walks.{HasAtMost}
-use Rattle.demand_walk.proofs.Counts.{length-IsApart}
+use Rattle.lists.specs.Lists.{Counts, HasMore}
+use Rattle.demand_set.specs.Walks.{HasAtMost}
+use Rattle.demand_set.proofs.Counts.{length-IsApart}
 use Rattle.query_core.specs.Answers.{AreSharedBy, IsAffordable, IsAnswerTo, IsOver}
 use Rattle.query_core.proofs.OneWay.{sites_one_way}
 use Rattle.query_core.proofs.Ordered.{ordered_one}

@@ -4,13 +4,13 @@ use Rattle.std.specs.List.{AllPairs}
 use Rattle.std.proofs.lemmas.List.{length-take, take_all}
 use Rattle.std.proofs.lemmas.List.Quantifiers.{all_pairs_push}
 use Rattle.std.proofs.lemmas.Option.{get_or_from_slice_get, slice_get-get_or}
-use Rattle.jim_ast.specs.Lists.{Has}
-use Rattle.jim_ast.proofs.Places.{slice_get-below}
+use Rattle.lists.specs.Lists.{Has}
+use Rattle.lists.proofs.Places.{slice_get-below}
 use Rattle.link_rules.specs.Linked.{LinkedProgram}
 use Rattle.link_sites.specs.declared.site.Site.{Site}
 use Rattle.link_sites.specs.Sites.{Precedes}
 use Rattle.spds_rules.specs.Answers.{AreSites}
-use Rattle.demand_walk.proofs.Appended.{Has-append_left, Has-append_right, Has-appended, Has-one, Has-take_kept, Has-take_last, Has-take_more, slice_get-take}
+use Rattle.demand_set.proofs.Appended.{Has-append_left, Has-append_right, Has-appended, Has-one, Has-take_kept, Has-take_last, Has-take_more, slice_get-take}
 use Rattle.query_core.proofs.OneWay.{sites_one_way}
 use Rattle.query_core.proofs.Ordered.{AllPairs-at}
 

@@ -1,6 +1,6 @@
 -- What a query names: one place at most, and either a place or one part that isn't there.
 use Rattle.std.proofs.Common.{◌≡◌, ℕ, ◌<◌, ◌≤◌, List, Some, length, slice_get, refl, ap, arith, subst}
-use Rattle.class_tree.specs.Paths.{IsLeast}
+use Rattle.lists.specs.Lists.{IsLeast}
 use Rattle.link_rules.specs.Linked.{LinkedMethod, LinkedProgram}
 use Rattle.link_rules.specs.Accessed.{IsFirstPlace}
 use Rattle.spds_rules.specs.declared.node.Node.{Node}

@@ -1,8 +1,8 @@
 -- What a query asks for is in its demand, and its sites are among those of the demand.
 use Rattle.std.proofs.Common.{◌≡◌, ◌↔◌, ℕ, zero, suc, ◌≤◌, List, Option, Some, None, Bool, IsTrue, length, map, slice_get, refl, sym, ap, ◌∙◌, subst, arith}
 use Rattle.std.proofs.lemmas.List.{length-map}
-use Rattle.jim_ast.specs.Lists.{Has, IsApart}
-use Rattle.jim_ast.proofs.Places.{slice_get-below, slice_get-there}
+use Rattle.lists.specs.Lists.{Has, IsApart}
+use Rattle.lists.proofs.Places.{slice_get-below, slice_get-there}
 use Rattle.link_rules.specs.Linked.{LinkedProgram}
 use Rattle.link_program.proofs.Found.{at_map, from_map}
 use Rattle.link_sites.specs.declared.place.Place.{Place}
@@ -16,8 +16,8 @@ use Rattle.spds_rules.specs.declared.node.Var.TheVariants.{Local}
 use Rattle.spds_rules.specs.Nodes.{IsNode, at, site_of}
 use Rattle.spds_rules.specs.Systems.{Calls, Meets}
 use Rattle.spds_laws.proofs.Within.{fields_site}
-use Rattle.demand_walk.proofs.Appended.{Has-one}
-use Rattle.demand_walk.proofs.Counts.{length-IsApart}
+use Rattle.demand_set.proofs.Appended.{Has-one}
+use Rattle.demand_set.proofs.Counts.{length-IsApart}
 use Rattle.demand_set.specs.Demands.{DemandParts, IsDemandOf}
 use Rattle.query_core.specs.Places.{IsPlaceOf}
 use Rattle.query_core.specs.Sought.{IsNumbered, IsSought, asked_of, nodes_of}

@@ -2,8 +2,8 @@
 use Rattle.std.proofs.Common.{◌≡◌, ◌↔◌, ℕ, Ok, Err, ap, ◌∙◌, subst}
 use Rattle.std.specs.Result.{IfOk, IsErrAnd}
 use Rattle.std.specs.declared.result.Result.{Result}
-use Rattle.demand_walk.specs.declared.demanded.DemandError.{DemandError}
-use Rattle.demand_walk.specs.declared.demanded.DemandError.TheVariants as demand
+use Rattle.demand_set.specs.declared.demanded.DemandError.{DemandError}
+use Rattle.demand_set.specs.declared.demanded.DemandError.TheVariants as demand
 use Rattle.query_core.specs.declared.error.QueryError.{QueryError}
 use Rattle.query_core.specs.declared.error.QueryError.TheVariants.{NoSuchPlace, OverBudget}
 use Rattle.query_core.specs.declared.places.Which.{Which}

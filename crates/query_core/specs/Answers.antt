@@ -1,15 +1,15 @@
 -- What a query answers, and what that says of runs.
 use Rattle.std.specs.Prelude.{◌≡◌, ℕ, List, [], ◌∷◌, Some, slice_get}
-use Rattle.jim_ast.specs.Lists.{Has}
+use Rattle.lists.specs.Lists.{Has, Counts, HasMore}
 use Rattle.link_rules.specs.Linked.{LinkedProgram}
 use Rattle.link_sites.specs.declared.site.Site.{Site}
 use Rattle.spds_rules.specs.declared.node.Node.{Node}
 use Rattle.spds_rules.specs.declared.node.Var.TheVariants.{Local}
 use Rattle.spds_rules.specs.declared.reach.Reach.TheVariants.{Plain}
 use Rattle.spds_rules.specs.Answers.{AreAnswered, AreSites, IsShared}
-use Rattle.spds_rules.specs.Demand.{Asked, Counts, Demand, HasMore}
+use Rattle.spds_rules.specs.Demand.{Asked, Demand}
 use Rattle.spds_rules.specs.Nodes.{at}
-use Rattle.demand_walk.specs.Walks.{HasAtMost}
+use Rattle.demand_set.specs.Walks.{HasAtMost}
 use Rattle.step_rules.specs.Runs.{Run}
 use Rattle.step_rules.specs.States.{Frame, HeapObject, State, place_of}
 use Rattle.run_sound.specs.Simulated.{Holds}

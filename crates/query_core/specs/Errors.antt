@@ -1,7 +1,7 @@
 -- Why a query has no answer.
 use Rattle.std.specs.Prelude.{◌≡◌}
-use Rattle.demand_walk.specs.declared.demanded.DemandError.{DemandError}
-use Rattle.demand_walk.specs.declared.demanded.DemandError.TheVariants as demand
+use Rattle.demand_set.specs.declared.demanded.DemandError.{DemandError}
+use Rattle.demand_set.specs.declared.demanded.DemandError.TheVariants as demand
 use Rattle.query_core.specs.declared.error.QueryError.{QueryError}
 use Rattle.query_core.specs.declared.error.QueryError.TheVariants as query
 

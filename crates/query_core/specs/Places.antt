@@ -1,7 +1,6 @@
 -- The places that queries name.
 use Rattle.std.specs.Prelude.{◌≡◌, ℕ, ◌<◌, ◌≤◌, List, Some, length, slice_get}
-use Rattle.class_tree.specs.Paths.{IsLeast}
-use Rattle.jim_ast.specs.Lists.{Has}
+use Rattle.lists.specs.Lists.{IsLeast, Has}
 use Rattle.link_rules.specs.Linked.{LinkedMethod, LinkedProgram}
 use Rattle.link_rules.specs.Accessed.{HasText, IsFirstPlace}
 use Rattle.link_sites.specs.Places.{before}

@@ -1,6 +1,6 @@
 //! What both queries find: the sites of one node, or of two, over their demand.
 ghost use Rattle.std.specs.Prelude.{◌≡◌, ◌≢◌, ◌↔◌, ◌≤◌, ◌<◌, ◌^◌, ◌∷◌, [], ℕ, Err, IfOk, IfSome, IsErr, IsTrue, Option, Some, length, slice_get};
-ghost use Rattle.jim_ast.specs.Lists.{Has};
+ghost use Rattle.lists.specs.Lists.{Has};
 ghost use Rattle.link_rules.specs.Linked.{LinkedProgram};
 ghost use Rattle.link_rules.specs.WellLinked.{IsWellLinked};
 ghost use Rattle.link_sites.specs.declared.site.Site.{Site as ASite};
@@ -14,10 +14,12 @@ ghost use Rattle.query_core.specs.Answers.{IsAffordable, IsOver, asked};
 ghost use Rattle.query_core.specs.Sought.{AreFound, IsNumbered, IsPosed, IsSought, asked_of, nodes_of};
 
 use super::hands::Solver;
-use demand_set::{Demand, DemandError, Reach, demand};
-use jim_ast::{List, NoMemory};
+use demand_set::{Demand, DemandError, Reach};
+use jim_ast::List;
 use link_program::Linked;
 use link_sites::Site;
+use lists::NoMemory;
+use program_demand::demand;
 use spds_rules::Node;
 use spds_solve::Solved;
 use std::alloc::Global;

@@ -6,8 +6,8 @@ ghost use Rattle.spds_rules.specs.Demand.{Asked};
 ghost use Rattle.spds_solve.specs.Solved.{IsSolved};
 
 use demand_set::Demand;
-use jim_ast::NoMemory;
 use link_program::Linked;
+use lists::NoMemory;
 use spds_solve::{Gate, Solved, solve_with};
 use std::alloc::Global;
 use std::marker::Sync;

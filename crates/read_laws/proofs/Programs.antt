@@ -1,7 +1,7 @@
 -- A program that tokens derive is as linking asks.
 use Rattle.std.proofs.Common.{ℕ, ◌<◌, List, [], length, flat_map, sym, subst}
 use Rattle.std.proofs.lemmas.List.Elements.{All-from_recursion}
-use Rattle.jim_ast.specs.Lists.{Has}
+use Rattle.lists.specs.Lists.{Has}
 use Rattle.jim_ast.specs.declared.names.NameId.{NameId}
 use Rattle.jim_ast.specs.declared.syntax.Class.{Class}
 use Rattle.jim_ast.specs.declared.syntax.Program.{Program}

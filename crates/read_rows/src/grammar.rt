@@ -1,8 +1,8 @@
 //! Where texts leave the grammar, by hand.
-use jim_ast::NoMemory;
 use jim_grammar::{LeadSet, least_refused};
 use jim_signs::{Lead, Sign, signs};
 use jim_text::lex;
+use lists::NoMemory;
 use std::alloc::Global;
 use std::test::Fail;
 

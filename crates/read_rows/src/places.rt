@@ -2,9 +2,9 @@
 ghost use Rattle.std.specs.Prelude.{◌^◌, ◌<◌, length};
 ghost use Rattle.jim_text.specs.Lexes.{Lexes};
 
-use jim_ast::NoMemory;
 use jim_parse::{ParseError, parse};
 use jim_text::{Token, lex};
+use lists::NoMemory;
 use std::alloc::Global;
 use std::test::Fail;
 

@@ -1,11 +1,11 @@
 //! What programs of texts are, shown as texts.
 use jim_ast::{
-    Base, Body, Class, Expr, FieldDecl, Imm, Invoke, MethodDecl, NameId, Names, NoMemory, Program,
-    Stmt, Ty,
+    Base, Body, Class, Expr, FieldDecl, Imm, Invoke, MethodDecl, NameId, Names, Program, Stmt, Ty,
 };
 use jim_build::build;
 use jim_signs::{Signs, signs};
 use jim_text::lex;
+use lists::NoMemory;
 use std::alloc::Global;
 use std::test::Fail;
 

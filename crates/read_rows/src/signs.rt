@@ -1,7 +1,8 @@
 //! The classes of tokens, and the numbers of what they name.
-use jim_ast::{NameId, NoMemory};
+use jim_ast::NameId;
 use jim_signs::{Signs, signs};
 use jim_text::lex;
+use lists::NoMemory;
 use std::alloc::Global;
 use std::test::Fail;
 

@@ -1,10 +1,11 @@
 //! What statements and their parts are, shown as texts.
-use jim_ast::{Expr, FieldSig, Imm, Invoke, List, MethodSig, NameId, NoMemory, Stmt, Ty};
+use jim_ast::{Expr, FieldSig, Imm, Invoke, List, MethodSig, NameId, Stmt, Ty};
 use jim_signs::{Lead, Sign, signs};
 use jim_stmts::{
     Reader, expr, field_sig, imm, invoke, maybe_types, method_sig, names, outcome, stmt, ty, types,
 };
 use jim_text::lex;
+use lists::NoMemory;
 use std::alloc::Global;
 use std::test::Fail;
 

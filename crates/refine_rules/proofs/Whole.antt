@@ -1,7 +1,7 @@
 -- Rounds keep runs.
 use Rattle.std.proofs.Common.{◌≡◌, ℕ, List, Option, Some, None, length, refl, sym, ap, subst, inr}
-use Rattle.jim_ast.proofs.Places.{slice_get-push}
-use Rattle.jim_ast.specs.Lists.{Has}
+use Rattle.lists.proofs.Places.{slice_get-push}
+use Rattle.lists.specs.Lists.{Has}
 use Rattle.jim_ast.specs.declared.syntax.Mode.{Mode}
 use Rattle.jim_ast.specs.declared.syntax.Mode.TheVariants.{Special, Virtual, Interface, Static}
 use Rattle.link_rules.specs.declared.code.Code.TheVariants as code

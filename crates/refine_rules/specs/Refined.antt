@@ -16,7 +16,8 @@ use Rattle.spds_rules.specs.declared.node.Node.{Node}
 use Rattle.spds_rules.specs.declared.node.Var.TheVariants.{Local}
 use Rattle.spds_rules.specs.declared.reach.Reach.TheVariants.{Plain}
 use Rattle.spds_rules.specs.Answers.{IsAnswered}
-use Rattle.spds_rules.specs.Demand.{Asked, Demand, HasMore}
+use Rattle.spds_rules.specs.Demand.{Asked, Demand}
+use Rattle.lists.specs.Lists.{HasMore}
 use Rattle.spds_rules.specs.Nodes.{at}
 
 -- a query of the node alone. It needs no back edges

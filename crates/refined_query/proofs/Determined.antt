@@ -1,12 +1,12 @@
 -- An answer over the program that is left isn't over the budget too.
 use Rattle.std.proofs.Common.{ℕ, ◌<◌, List, subst}
-use Rattle.demand_walk.proofs.Counts.{HasMore-not}
+use Rattle.demand_set.proofs.Counts.{HasMore-not}
 use Rattle.link_rules.specs.Linked.{LinkedProgram}
 use Rattle.link_sites.specs.declared.site.Site.{Site}
 use Rattle.query_core.proofs.Determined.{counts_more}
 use Rattle.refine_rules.proofs.Once.{rounds_determined}
 use Rattle.spds_rules.specs.declared.node.Node.{Node}
-use Rattle.spds_rules.specs.Demand.{HasMore}
+use Rattle.lists.specs.Lists.{HasMore}
 use Rattle.refined_query.specs.Answers.{IsDemandedBy, IsRefinedAffordable, IsRefinedAnswer, IsRefinedOver}
 
 module _ (p : LinkedProgram) (rounds budget : ℕ) (n : Node) where

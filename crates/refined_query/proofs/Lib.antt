@@ -5,3 +5,7 @@ pub mod Left
 pub mod Over
 pub mod Sound
 pub mod Standing
+pub mod Adding
+pub mod Called
+pub mod Chosen
+pub mod Selection

@@ -1,8 +1,8 @@
 -- What a query demands of a program that is left, where its node stands and where its method has lost its statements.
 use Rattle.std.proofs.Common.{◌≡◌, ℕ, List, [], ◌∷◌, Some, length, slice_get, refl, sym, ap, ◌∙◌, inl, inr, arith}
-use Rattle.jim_ast.proofs.Places.{slice_get-there}
+use Rattle.lists.proofs.Places.{slice_get-there}
 use Rattle.demand_set.specs.Demands.{DemandParts, IsDemandOf}
-use Rattle.demand_walk.specs.Walks.{HasAtMost}
+use Rattle.demand_set.specs.Walks.{HasAtMost}
 use Rattle.link_rules.specs.declared.code.Code.{Code}
 use Rattle.link_rules.specs.Linked.{LinkedMethod, LinkedProgram}
 use Rattle.link_sites.specs.declared.site.Site.{Site}
@@ -10,7 +10,8 @@ use Rattle.refine_rules.specs.Refined.{query_of}
 use Rattle.spds_laws.proofs.Within.{fields_within}
 use Rattle.spds_rules.specs.declared.node.Node.{Node}
 use Rattle.spds_rules.specs.Answers.{AreAnswered}
-use Rattle.spds_rules.specs.Demand.{Demand, HasMore}
+use Rattle.spds_rules.specs.Demand.{Demand}
+use Rattle.lists.specs.Lists.{HasMore}
 use Rattle.spds_rules.specs.Nodes.{IsNode}
 use Rattle.spds_rules.specs.Systems.{Meets}
 use Rattle.refined_query.specs.Answers.{IsAnswerOver, IsDemandedBy}

@@ -1,6 +1,6 @@
 -- What becomes of nodes and sites where a program is narrowed.
 use Rattle.std.proofs.Common.{◌≡◌, ℕ, ◌<◌, List, [], ◌∷◌, Some, Bool, true, false, length, slice_get, refl, sym, ap, ◌∙◌, subst, inl, inr, arith}
-use Rattle.jim_ast.proofs.Places.{slice_get-below, slice_get-there}
+use Rattle.lists.proofs.Places.{slice_get-below, slice_get-there}
 use Rattle.link_rules.specs.declared.code.Code.{Code}
 use Rattle.link_rules.specs.declared.code.Code.TheVariants as code
 use Rattle.link_rules.specs.Flow.{MayRaise}

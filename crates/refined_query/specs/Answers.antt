@@ -3,12 +3,13 @@
 use Rattle.std.specs.Prelude.{ℕ, List}
 use Rattle.link_rules.specs.Linked.{LinkedProgram}
 use Rattle.link_sites.specs.declared.site.Site.{Site}
-use Rattle.demand_walk.specs.Walks.{HasAtMost}
+use Rattle.demand_set.specs.Walks.{HasAtMost}
 use Rattle.narrow_rules.specs.Narrowed.{LacksPairs}
 use Rattle.refine_rules.specs.Refined.{IsRefinedBy, query_of}
 use Rattle.spds_rules.specs.declared.node.Node.{Node}
 use Rattle.spds_rules.specs.Answers.{AreAnswered}
-use Rattle.spds_rules.specs.Demand.{Counts, Demand, HasMore}
+use Rattle.spds_rules.specs.Demand.{Demand}
+use Rattle.lists.specs.Lists.{Counts, HasMore}
 use Rattle.spds_rules.specs.Nodes.{IsNode}
 
 -- the query of the node demands the other one: where the node's method has lost its statements, it is no node any more, and nothing is demanded

@@ -1,7 +1,7 @@
 //! What a query answers over the program that is left.
 ghost use Rattle.std.specs.Prelude.{◌≡◌, ◌≢◌, ◌≤◌, ◌<◌, ◌^◌, ℕ, Err, IfOk, IsErr, length};
 ghost use Rattle.demand_set.specs.Demands.{IsDemandOf};
-ghost use Rattle.demand_walk.specs.Walks.{HasAtMost};
+ghost use Rattle.demand_set.specs.Walks.{HasAtMost};
 ghost use Rattle.link_rules.specs.WellLinked.{IsWellLinked};
 ghost use Rattle.query_core.specs.Answers.{HoldsAllRuns};
 ghost use Rattle.narrow_rules.specs.Narrowed.{LacksPairs, pairs_in};
@@ -10,15 +10,17 @@ ghost use Rattle.refined_query.specs.Answers.{IsAnswerOver, IsDemandedBy, IsRefi
 ghost use Rattle.refined_query.specs.Rounds.{StandsOrIsLost};
 ghost use Rattle.run_covers.specs.Covers.{IsCovered};
 ghost use Rattle.spds_rules.specs.Answers.{AreAnswered};
-ghost use Rattle.spds_rules.specs.Demand.{HasMore};
+ghost use Rattle.lists.specs.Lists.{HasMore};
 ghost use Rattle.spds_rules.specs.Nodes.{IsNode};
 
 use super::pairs::lacking;
 use super::rounds::{left_of, rounds_of};
-use demand_set::{Demand, DemandError, Reach, demand};
-use jim_ast::{List, NoMemory};
+use demand_set::{Demand, DemandError, Reach};
+use jim_ast::List;
 use link_program::Linked;
 use link_sites::Site;
+use lists::NoMemory;
+use program_demand::demand;
 use query_core::{Hands, answer_sites};
 use spds_rules::Node;
 use spds_solve::Gate;

@@ -1,8 +1,8 @@
 -- Texts that grow by lines.
 use Rattle.std.proofs.Common.{◌≡◌, ℕ, zero, suc, ◌+◌, add-one, codes, ◌<◌, List, [], ◌∷◌, ◌++◌, length, take, get_or, refl, sym, ap, ◌∙◌, append_assoc, append-nil}
 use Rattle.std.proofs.lemmas.List.{take_more}
-use Rattle.link_rules.specs.Lists.{Each}
-use Rattle.link_classes.proofs.Growing.{Each-push}
+use Rattle.lists.specs.Lists.{Each}
+use Rattle.lists.proofs.SideBySide.{Each-push}
 use Rattle.link_rules.specs.Names.{brackets}
 use Rattle.report_text.specs.Lines.{AddsLine, AddsLines, text_of}
 use Rattle.report_text.specs.Texts.{AddsText}

@@ -1,7 +1,7 @@
 -- What the statement at a place makes.
 use Rattle.std.proofs.Common.{◌≡◌, ℕ, List, Some, get_or, slice_get, refl, sym, subst, ◌∙◌}
 use Rattle.std.proofs.lemmas.Option.{get_or_from_slice_get}
-use Rattle.jim_ast.proofs.Places.{slice_get-below, slice_get-there}
+use Rattle.lists.proofs.Places.{slice_get-below, slice_get-there}
 use Rattle.link_rules.specs.declared.code.Code.{Code}
 use Rattle.link_rules.specs.declared.code.Code.TheVariants.{New, NewArray, NewMulti}
 use Rattle.link_rules.specs.Linked.{LinkedClass, LinkedMethod, LinkedProgram}

@@ -1,6 +1,6 @@
 -- The places of statements, and the nodes of locals.
 use Rattle.std.proofs.Common.{◌≡◌, ℕ, ◌<◌, List, Some, false, length, refl, slice_get, subst, sym}
-use Rattle.jim_ast.proofs.Places.{slice_get-there}
+use Rattle.lists.proofs.Places.{slice_get-there}
 use Rattle.link_rules.specs.Accessed.{At}
 use Rattle.link_rules.specs.declared.code.Code.{Code}
 use Rattle.link_rules.specs.Linked.{LinkedProgram}

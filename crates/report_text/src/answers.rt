@@ -1,7 +1,7 @@
 //! The texts of answers.
 ghost use Rattle.std.specs.Prelude.{◌≡◌, ◌++◌, ◌∷◌, [], All, IfOk, OnOk, codes, length, string_bytes};
 ghost use Rattle.std.specs.Fmt.{decimal};
-ghost use Rattle.link_rules.specs.Lists.{Each};
+ghost use Rattle.lists.specs.Lists.{Each};
 ghost use Rattle.link_sites.specs.Sites.{IsSite};
 ghost use Rattle.report_text.specs.Aliases.{IsAliasLine, IsAliasText, verdict_lines};
 ghost use Rattle.report_text.specs.Answers.{IsAcceptedText, IsAnswerText, IsQueryLine, IsQueryNode, IsRefinedText, IsTargetText, IsVarName, IsWordedSite, count_lines, narrowed_line};
@@ -10,9 +10,9 @@ ghost use Rattle.report_text.specs.Texts.{AddsText};
 
 use super::places::push_place_text;
 use super::sites::push_site_text;
-use jim_ast::NoMemory;
 use link_program::Linked;
 use link_sites::Site;
+use lists::NoMemory;
 use spds_rules::{Node, Var};
 use std::alloc::Global;
 

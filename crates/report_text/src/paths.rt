@@ -6,9 +6,9 @@ ghost use Rattle.report_text.specs.Lines.{AddsLine};
 ghost use Rattle.report_text.specs.Paths.{IsPathLine, IsPathText};
 
 use super::answers::{push_counts, push_site_lines, push_target};
-use jim_ast::NoMemory;
 use link_program::Linked;
 use link_sites::Site;
+use lists::NoMemory;
 use spds_rules::Node;
 use std::alloc::Global;
 

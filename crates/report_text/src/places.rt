@@ -3,9 +3,9 @@ ghost use Rattle.std.specs.Prelude.{IfOk, OnOk, string_bytes};
 ghost use Rattle.link_sites.specs.Places.{IsPlace};
 ghost use Rattle.report_text.specs.Texts.{AddsText, IsPlaceText};
 
-use jim_ast::NoMemory;
 use link_program::Linked;
 use link_sites::Place;
+use lists::NoMemory;
 use std::alloc::Global;
 
 /// Adds the text of a place of the program: the text of its method, which is `root` for the root, one space, and the index of the statement. Whether an

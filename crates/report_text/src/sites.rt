@@ -8,10 +8,10 @@ ghost use Rattle.link_sites.specs.Sites.{IsSite, IsUnraised};
 ghost use Rattle.report_text.specs.Texts.{AddsText, IsArrayText, IsMadeAt, IsNewText, IsRaisedText, IsSiteText, MakesLevel, constant_text};
 
 use super::places::push_place_text;
-use jim_ast::NoMemory;
 use link_program::Linked;
 use link_rules::Code;
 use link_sites::{Place, Site};
+use lists::NoMemory;
 use std::alloc::Global;
 
 // The name of the class of the exceptions of a kind.

@@ -3,8 +3,8 @@ use Rattle.std.proofs.Common.{◌≡◌, ◌<◌, ◌+◌, ℕ, List, [], ◌∷
 use Rattle.std.proofs.lemmas.List.{take_all, take_more}
 use Rattle.std.proofs.lemmas.Option.{slice_get-get_or}
 use Rattle.auto_table.specs.declared.rule.Rule.{Rule}
-use Rattle.auto_table.specs.Lists.{Has}
-use Rattle.auto_table.proofs.Places.{slice_get-below, slice_get-pushed}
+use Rattle.lists.specs.Lists.{Has}
+use Rattle.lists.proofs.Places.{slice_get-below, slice_get-pushed}
 use Rattle.post_star.specs.Measures.{to_of}
 use Rattle.post_star.proofs.Scopes.{has_last, has_left}
 use Rattle.weight_laws.specs.Law.{Domain}

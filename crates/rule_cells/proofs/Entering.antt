@@ -4,8 +4,8 @@ use Rattle.std.proofs.lemmas.Bool.{cases_order}
 use Rattle.std.proofs.lemmas.List.{take-append-le, take_all}
 use Rattle.auto_table.specs.declared.rule.Rule.{Rule}
 use Rattle.auto_table.specs.declared.rule.Rule.TheVariants.{Flow}
-use Rattle.auto_table.specs.Lists.{Has}
-use Rattle.auto_table.proofs.Places.{slice_get-below, slice_get-pushed}
+use Rattle.lists.specs.Lists.{Has}
+use Rattle.lists.proofs.Places.{slice_get-below, slice_get-pushed}
 use Rattle.post_star.specs.Measures.{to_of}
 use Rattle.post_star.proofs.Scopes.{has_last, has_left}
 use Rattle.rule_cells.specs.declared.entered.Entered.{Entered}

@@ -3,8 +3,8 @@ use Rattle.std.proofs.Common.{◌≡◌, ◌+◌, ◌<◌, ◌≤◌, ◌==◌, 
 use Rattle.std.proofs.lemmas.Bool.{eq-eqb, eqb-false, eqb-true, ne_eqb}
 use Rattle.std.proofs.lemmas.List.{take_all, take_more}
 use Rattle.auto_table.specs.declared.rule.Rule.{Rule}
-use Rattle.auto_table.specs.Lists.{Has}
-use Rattle.auto_table.proofs.Places.{IsApart-adds, slice_get-append_left, slice_get-push, slice_get-pushed}
+use Rattle.lists.specs.Lists.{Has}
+use Rattle.lists.proofs.Places.{IsApart-adds, slice_get-append_left, slice_get-push, slice_get-pushed}
 use Rattle.weight_laws.specs.Law.{Domain}
 use Rattle.rule_cells.specs.declared.cells.Cell.{Cell}
 use Rattle.rule_cells.specs.Made.{head_at}

@@ -6,7 +6,7 @@ use Rattle.std.proofs.lemmas.List.{get_or-set_other, get_or-set_same, get_or_pas
 use Rattle.std.proofs.lemmas.Option.{get_or_from_slice_get}
 use Rattle.auto_table.specs.declared.rule.Rule.{Rule}
 use Rattle.auto_table.specs.declared.rule.Rule.TheVariants.{Flow}
-use Rattle.auto_table.proofs.Places.{slice_get-below, slice_get-there}
+use Rattle.lists.proofs.Places.{slice_get-below, slice_get-there}
 use Rattle.post_star.specs.Works.{AreTold}
 use Rattle.weight_laws.specs.Law.{Domain, IsLawful}
 use Rattle.rule_cells.specs.declared.cells.Cell.{Cell}

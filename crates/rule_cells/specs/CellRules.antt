@@ -1,7 +1,7 @@
 -- Rules over nodes, and rules over the cells of these, where the rules that systems have in common weigh one.
 use Rattle.std.specs.Prelude.{◌↔◌, ℕ, List, ◌++◌, map}
 use Rattle.auto_table.specs.declared.rule.Rule.{Rule}
-use Rattle.auto_table.specs.Lists.{Has}
+use Rattle.lists.specs.Lists.{Has}
 use Rattle.post_star.specs.declared.bases.BaseStep.{BaseStep}
 use Rattle.post_star.specs.declared.bases.Start.{Start}
 use Rattle.post_star.specs.Derivations.{Derives}

@@ -2,7 +2,7 @@
 use Rattle.std.specs.Prelude.{ℕ, List, ◌+◌, ◌*◌, ◌^◌, ◌↔◌}
 use Rattle.auto_table.specs.declared.rule.Rule.{Rule}
 use Rattle.auto_table.specs.declared.rule.Rule.TheVariants as rule
-use Rattle.auto_table.specs.Lists.{Has}
+use Rattle.lists.specs.Lists.{Has}
 use Rattle.weight_laws.specs.Law.{Domain}
 use Rattle.rule_cells.specs.declared.distinct.Shape.{Shape}
 use Rattle.rule_cells.specs.declared.distinct.Shape.TheVariants as shape

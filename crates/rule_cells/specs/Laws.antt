@@ -1,7 +1,7 @@
 -- What a system derives, its contraction derives at the heads.
 use Rattle.std.specs.Prelude.{◌≡◌, ◌↔◌, ℕ, List, ◌++◌}
 use Rattle.auto_table.specs.declared.rule.Rule.{Rule}
-use Rattle.auto_table.specs.Lists.{Has}
+use Rattle.lists.specs.Lists.{Has}
 use Rattle.post_star.specs.declared.bases.Start.{Start}
 use Rattle.post_star.specs.declared.bases.BaseStep.{BaseStep}
 use Rattle.post_star.specs.Derivations.{Derives, DerivesAny, IsAnyValue, IsValue}

@@ -2,7 +2,7 @@
 use Rattle.std.specs.Prelude.{◌≡◌, ◌↔◌, ◌<◌, ◌≤◌, ◌==◌, ◌++◌, ◌∷◌, [], ℕ, List, Some, cond, get_or, length, slice_get}
 use Rattle.auto_table.specs.declared.rule.Rule.{Rule}
 use Rattle.auto_table.specs.declared.rule.Rule.TheVariants.{Flow, Push, Pop}
-use Rattle.auto_table.specs.Lists.{Has, IsApart}
+use Rattle.lists.specs.Lists.{Has, IsApart}
 use Rattle.post_star.specs.declared.bases.Start.{Start}
 use Rattle.post_star.specs.declared.bases.BaseStep.{BaseStep}
 use Rattle.post_star.specs.Derivations.{Derives, DerivesAny}

@@ -1,7 +1,7 @@
 //! The rules between cells, by numbers of these.
 ghost use Rattle.std.specs.Prelude.{◌≡◌, length, IfOk};
 ghost use Rattle.auto_table.specs.declared.rule.Rule.{Rule as ARule};
-ghost use Rattle.auto_table.specs.Lists.{Has};
+ghost use Rattle.lists.specs.Lists.{Has};
 ghost use Rattle.post_star.specs.Works.{weight_of};
 ghost use Rattle.rule_cells.specs.CellRules.{HaveCells};
 
@@ -10,7 +10,8 @@ use super::contraction::contract;
 use super::distinct::distinct;
 use super::followed::thinned;
 use super::numbers::{number_heads, renumber};
-use auto_table::{NoMemory, Rule};
+use auto_table::Rule;
+use lists::NoMemory;
 use std::alloc::Global;
 use weight_laws::Weight;
 

@@ -9,7 +9,8 @@ ghost use Rattle.rule_cells.specs.Forests.{AreFlat, AreRooted, IsConverged, IsFo
 ghost use Rattle.rule_cells.specs.Made.{AreConverged, cell_at, head_at, offset_at, own_cell};
 
 use super::entered::{Entered, entries_of};
-use auto_table::{NoMemory, Rule};
+use auto_table::Rule;
+use lists::NoMemory;
 use std::alloc::Global;
 use weight_laws::Weight;
 

@@ -6,7 +6,8 @@ ghost use Rattle.rule_cells.specs.Made.{AreSources, head_at, offset_at};
 
 use super::cells::{Cell, cell_of};
 use super::entered::target;
-use auto_table::{NoMemory, Rule};
+use auto_table::Rule;
+use lists::NoMemory;
 use std::alloc::Global;
 use weight_laws::Weight;
 

@@ -1,12 +1,12 @@
 //! Rules that weigh one, each once.
 ghost use Rattle.std.specs.Prelude.{◌≡◌, ◌↔◌, ◌⊎◌, IfOk, OnOk};
 ghost use Rattle.auto_table.specs.declared.rule.Rule.{Rule as ARule};
-ghost use Rattle.auto_table.specs.Lists.{Has};
+ghost use Rattle.lists.specs.Lists.{Has};
 ghost use Rattle.post_star.specs.Works.{weight_of};
 ghost use Rattle.rule_cells.specs.Distinct.{AreShapes, shape_of};
 
-use auto_table::{NoMemory, Rule};
-use lists::{Key, Numbered};
+use auto_table::Rule;
+use lists::{Key, NoMemory, Numbered};
 use std::alloc::Global;
 use weight_laws::Weight;
 

@@ -6,7 +6,8 @@ ghost use Rattle.post_star.specs.Measures.{to_of};
 ghost use Rattle.rule_cells.specs.declared.entered.Entered.TheVariants.{Never as NotEntered};
 ghost use Rattle.rule_cells.specs.Entered.{AreEntered, IsEntered};
 
-use auto_table::{NoMemory, Rule};
+use auto_table::Rule;
+use lists::NoMemory;
 use std::alloc::Global;
 use weight_laws::Weight;
 

@@ -1,7 +1,7 @@
 //! Flows that follow from others.
 ghost use Rattle.std.specs.Prelude.{◌≡◌, ◌↔◌, ◌⊎◌, ◌∷◌, [], ℕ, List, IsTrue, IfOk, OnOk};
 ghost use Rattle.auto_table.specs.declared.rule.Rule.{Rule as ARule};
-ghost use Rattle.auto_table.specs.Lists.{Has};
+ghost use Rattle.lists.specs.Lists.{Has};
 ghost use Rattle.post_star.specs.Works.{weight_of};
 ghost use Rattle.rule_cells.specs.declared.distinct.Shape.{Shape as AShape};
 ghost use Rattle.rule_cells.specs.Distinct.{rule_of, shape_of};
@@ -10,8 +10,8 @@ ghost use Rattle.rule_cells.specs.Made.{head_at, offset_at};
 
 use super::cells::{Cell, cell_of, cells_of};
 use super::distinct::{Shape, shape_of};
-use auto_table::{NoMemory, Rule};
-use lists::Numbered;
+use auto_table::Rule;
+use lists::{NoMemory, Numbered};
 use std::alloc::Global;
 use weight_laws::Weight;
 

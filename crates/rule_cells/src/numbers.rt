@@ -4,7 +4,8 @@ ghost use Rattle.rule_cells.specs.Made.{head_at};
 ghost use Rattle.rule_cells.specs.Renamed.{AreHeadsTo, AreNumbered, HaveNumbersTo, number_in, renamed as renamed_rule, with_head};
 
 use super::cells::{Cell, cell_of};
-use auto_table::{NoMemory, Rule};
+use auto_table::Rule;
+use lists::NoMemory;
 use std::alloc::Global;
 use weight_laws::Weight;
 

@@ -4,7 +4,7 @@ use Rattle.std.proofs.lemmas.Bool.{cases_eq}
 use Rattle.std.proofs.lemmas.List.{get_or-set_other}
 use Rattle.auto_table.specs.declared.rule.Rule.{Rule}
 use Rattle.auto_table.specs.declared.rule.Rule.TheVariants.{Flow, Push, Pop}
-use Rattle.auto_table.specs.Lists.{Has}
+use Rattle.lists.specs.Lists.{Has}
 use Rattle.post_star.proofs.Parted.{has_either}
 use Rattle.post_star.proofs.Scopes.{has_last, has_left, has_right}
 use Rattle.post_star.specs.declared.bases.BaseStep.{BaseStep}

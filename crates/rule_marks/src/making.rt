@@ -1,13 +1,14 @@
 //! The system with split marks, by lists of numbers.
 ghost use Rattle.std.specs.Prelude.{◌≡◌, ◌⊎◌, ◌*◌, ◌+◌, ◌<◌, ◌^◌, ◌++◌, ◌∷◌, [], ℕ, true, false, slice_index_or, IfOk, OnOk};
 ghost use Rattle.auto_table.specs.declared.rule.Rule.TheVariants.{Push, Pop};
-ghost use Rattle.auto_table.specs.Lists.{Has};
+ghost use Rattle.lists.specs.Lists.{Has};
 ghost use Rattle.post_star.specs.declared.bases.BaseStep.{BaseStep as AStep};
 ghost use Rattle.rule_marks.specs.Joined.{source, target};
 ghost use Rattle.rule_marks.specs.Making.{AreAdded, AreSplitRules, AreStepsOf, WritesOne, WritesStep, splits_by, splitting_of};
 ghost use Rattle.rule_marks.specs.Sharing.{AreBelow};
 
-use auto_table::{NoMemory, Rule};
+use auto_table::Rule;
+use lists::NoMemory;
 use post_star::BaseStep;
 use std::alloc::Global;
 use weight_laws::Weight;

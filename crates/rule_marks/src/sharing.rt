@@ -1,12 +1,13 @@
 //! The joined system of nodes that share rules.
 ghost use Rattle.std.specs.Prelude.{◌≡◌, ◌⊎◌, ◌*◌, ◌<◌, ◌^◌, ◌↔◌, ℕ, IsTrue, true, false, length, slice_index_or, IfOk, OnOk};
 ghost use Rattle.auto_table.specs.declared.rule.Rule.{Rule as ARule};
-ghost use Rattle.auto_table.specs.Lists.{Has};
+ghost use Rattle.lists.specs.Lists.{Has};
 ghost use Rattle.rule_marks.specs.Joined.{source as source_in};
 ghost use Rattle.rule_marks.specs.Sharing.{IsAdded, IsAddedIf, IsOfJoined, JoinsOne, SharedRulesAreJoined, at_node as rule_at, leader_in};
 
 use super::making::{flag, put, unflagged};
-use auto_table::{NoMemory, Rule};
+use auto_table::Rule;
+use lists::NoMemory;
 use std::alloc::Global;
 use weight_laws::Weight;
 

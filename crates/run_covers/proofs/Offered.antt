@@ -1,6 +1,6 @@
 -- A fact of all that a step may do, by the parts of the table.
 use Rattle.std.proofs.Common.{◌≡◌, ℕ, zero, suc, ◌++◌, Option, Some, None, List, [], ◌∷◌, map, slice_get, sym, subst, inl, inr}
-use Rattle.jim_ast.specs.Lists.{Has}
+use Rattle.lists.specs.Lists.{Has}
 use Rattle.step_rules.specs.declared.parts.Value.{Value}
 use Rattle.step_rules.specs.declared.parts.Value.TheVariants.{Null, Number, Object}
 use Rattle.step_rules.specs.Effects.{Effect, is_ill_typed, raises}

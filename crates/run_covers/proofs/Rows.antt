@@ -14,13 +14,12 @@ use Rattle.link_sites.specs.declared.site.Site.{Site}
 use Rattle.link_sites.specs.Places.{CodeAt}
 use Rattle.step_rules.specs.declared.parts.Value.{Value}
 use Rattle.step_rules.specs.Effects.{Effect, is_ill_typed, raises, throws, goes, gets, makes, nests, writes, sets, calls, returns, handles, leaves}
-use Rattle.step_rules.specs.Offers.{AtObject, Only, Where, WithObject, WithValue, CallsOn, CallsWith, Enters, EntersBelow, EntersBy, Finds, FindsElement, GivesBack, Nests, Offers, OffersBy, Row, UnwindsAt}
+use Rattle.step_rules.specs.Offers.{AtObject, Only, Where, WithObject, WithValue, CallsOn, CallsWith, Enters, EntersBelow, EntersBy, Finds, FindsElement, GivesBack, Nests, Offers, OffersBy, Row, UnwindsAt, returned}
 use Rattle.link_sites.specs.Sites.{HasDeclared, IsArraySite}
 use Rattle.step_rules.specs.Slots.{cells, field_of, local_of, operand_of, operands_of}
 use Rattle.step_rules.specs.States.{Frame, HeapObject, Point}
-use Rattle.step_rules.specs.Offers.{returned}
 use Rattle.step_rules.specs.declared.parts.Value.TheVariants.{Null, Number, Object}
-use Rattle.jim_ast.specs.Lists.{Has}
+use Rattle.lists.specs.Lists.{Has}
 use Rattle.run_covers.specs.Found.{LooksFrom}
 use Rattle.run_covers.proofs.Heap.{object_real}
 use Rattle.run_covers.proofs.Offered.{AllOf, all_mapped, ill_typed, mapped, one_of, only, where_so, with_object, with_value}

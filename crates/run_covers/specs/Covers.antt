@@ -1,6 +1,6 @@
 -- Which methods a run enters.
 use Rattle.std.specs.Prelude.{ℕ, List}
-use Rattle.jim_ast.specs.Lists.{Has}
+use Rattle.lists.specs.Lists.{Has}
 use Rattle.jim_ast.specs.declared.syntax.Program.{Program}
 use Rattle.link_rules.specs.Conditions.{DeclaresNine, IsRead}
 use Rattle.link_rules.specs.Linked.{LinkedProgram, Links}

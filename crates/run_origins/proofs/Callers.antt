@@ -1,6 +1,6 @@
 -- A step to the frame below.
 use Rattle.std.proofs.Common.{◌≡◌, ℕ, ◌+◌, ◌<◌, ◌⊎◌, ◌++◌, Option, Some, None, IfSome, Bool, true, false, List, [], ◌∷◌, length, length-append, slice_get, refl, sym, ap, ◌∙◌, subst, inl, inr}
-use Rattle.jim_ast.proofs.Places.{slice_get-append_left, slice_get-push}
+use Rattle.lists.proofs.Places.{slice_get-append_left, slice_get-push}
 use Rattle.link_rules.specs.declared.code.Code.{Code}
 use Rattle.link_rules.specs.declared.code.Code.TheVariants as code
 use Rattle.link_rules.specs.Linked.{LinkedMethod, LinkedProgram}

@@ -1,6 +1,6 @@
 -- By which facts of a statement each effect of it puts an object into a slot.
 use Rattle.std.proofs.Common.{◌≡◌, ℕ, ◌+◌, ◌<◌, ◌⊎◌, Option, Some, false, length, slice_get, refl}
-use Rattle.jim_ast.specs.Lists.{Has}
+use Rattle.lists.specs.Lists.{Has}
 use Rattle.link_rules.specs.declared.code.Arg.{Arg}
 use Rattle.link_rules.specs.declared.code.Arg.TheVariants as arg
 use Rattle.link_rules.specs.declared.code.Code.{Code}

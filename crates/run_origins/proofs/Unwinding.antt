@@ -1,6 +1,6 @@
 -- Steps with an exception in flight.
 use Rattle.std.proofs.Common.{◌≡◌, ℕ, ◌++◌, Option, Some, None, true, false, List, [], ◌∷◌, slice_get, refl, sym, ap, ◌∙◌, subst, inl, inr}
-use Rattle.jim_ast.specs.Lists as Lists
+use Rattle.lists.specs.Lists as Lists
 use Rattle.link_rules.specs.declared.code.Catch.{Catch}
 use Rattle.link_rules.specs.Flow.{CoversPlace, Handles}
 use Rattle.link_rules.specs.Linked.{LinkedMethod, LinkedProgram}

@@ -1,6 +1,6 @@
 -- What is told of how a run stands.
 use Rattle.std.proofs.Common.{◌≡◌, ℕ, ◌+◌, ◌-◌, ◌<◌, ◌++◌, ◌∷◌, [], List, Bool, true, false, Option, Some, None, codes, length, slice_get, sym, subst, ◌∙◌, ap, refl, append_assoc, append-nil, length-append, arith}
-use Rattle.jim_ast.proofs.Places.{slice_get-push, slice_get-there}
+use Rattle.lists.proofs.Places.{slice_get-push, slice_get-there}
 use Rattle.link_rules.specs.Accessed.{At}
 use Rattle.link_rules.specs.Linked.{LinkedProgram}
 use Rattle.link_sites.specs.declared.place.Place.{Place}

@@ -10,10 +10,10 @@ ghost use Rattle.step_rules.specs.Steps.{told};
 
 use super::locals::push_locals;
 use super::objects::{push_object, push_value};
-use jim_ast::NoMemory;
 use jim_step::Machine;
 use link_program::Linked;
 use link_sites::Place;
+use lists::NoMemory;
 use report_text::push_place_text;
 use step_rules::{Moved, Slot};
 

@@ -6,9 +6,9 @@ ghost use Rattle.run_report.specs.Reports.{AddsLocal, AreLocalLines, AreSited};
 ghost use Rattle.step_rules.specs.Shapes.{FitsFrame};
 
 use super::objects::push_local;
-use jim_ast::NoMemory;
 use jim_step::Machine;
 use link_program::Linked;
+use lists::NoMemory;
 use std::alloc::AllocError;
 use step_rules::Slot;
 

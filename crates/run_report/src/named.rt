@@ -7,8 +7,8 @@ ghost use Rattle.step_rules.specs.Runs.{IsFirstState};
 ghost use Rattle.step_rules.specs.States.{running};
 ghost use Rattle.step_rules.specs.Steps.{told};
 
-use jim_ast::NoMemory;
 use jim_step::Machine;
+use lists::NoMemory;
 use std::alloc::Global;
 use step_rules::Moved;
 

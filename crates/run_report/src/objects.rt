@@ -5,9 +5,9 @@ ghost use Rattle.report_text.specs.Texts.{AddsText};
 ghost use Rattle.run_report.specs.Reports.{AreSited, IsLocalLine, IsObjectText, IsValueText};
 ghost use Rattle.step_rules.specs.Shapes.{FitsValue};
 
-use jim_ast::NoMemory;
 use jim_step::Machine;
 use link_program::Linked;
+use lists::NoMemory;
 use report_text::push_site_text;
 use step_rules::Value;
 

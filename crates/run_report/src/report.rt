@@ -10,9 +10,9 @@ ghost use Rattle.step_rules.specs.Runs.{IsFirstState};
 
 use super::ends::push_end;
 use super::named::run_to;
-use jim_ast::NoMemory;
 use jim_step::{Machine, start};
 use link_program::Linked;
+use lists::NoMemory;
 use std::alloc::Global;
 
 // Adds the lines with the class that the run begins with and with the number of its steps.

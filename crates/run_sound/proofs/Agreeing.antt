@@ -1,6 +1,6 @@
 -- A state that is kept agrees with the program.
 use Rattle.std.proofs.Common.{◌≡◌, ℕ, ◌+◌, ◌<◌, ◌++◌, Some, List, [], ◌∷◌, length, slice_get, refl, sym, ap, ◌∙◌, subst, inl, inr, arith, length-append}
-use Rattle.jim_ast.proofs.Places.{slice_get-below, slice_get-pushed}
+use Rattle.lists.proofs.Places.{slice_get-below, slice_get-pushed}
 use Rattle.link_rules.specs.Linked.{LinkedMethod, LinkedProgram}
 use Rattle.link_rules.specs.WellLinked.{HasTarget, IsInForm, IsRoot}
 use Rattle.link_sites.specs.declared.place.Place.{Place}

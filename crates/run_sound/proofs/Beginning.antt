@@ -4,7 +4,7 @@ use Rattle.std.specs.List.{range_with_len}
 use Rattle.std.proofs.lemmas.List.{length-replicate}
 use Rattle.std.proofs.lemmas.List.FromFn.{get_or-map-range_with_len, length-map-range_with_len}
 use Rattle.std.proofs.lemmas.Option.{slice_get_read}
-use Rattle.jim_ast.proofs.Places.{slice_get-append_left, slice_get-below, slice_get-there}
+use Rattle.lists.proofs.Places.{slice_get-append_left, slice_get-below, slice_get-there}
 use Rattle.link_rules.specs.declared.code.Code.{Code}
 use Rattle.link_rules.specs.Linked.{LinkedProgram}
 use Rattle.link_laws.proofs.Lists.{map_at, slice_get-append_right, slice_get-appended}

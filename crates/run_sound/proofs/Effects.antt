@@ -1,7 +1,7 @@
 -- By which facts of a statement each effect of it keeps what is known, and that it does.
 use Rattle.std.proofs.Common.{◌≡◌, ℕ, ◌+◌, ◌<◌, ◌++◌, Some, true, false, List, [], ◌∷◌, length, slice_get, refl, subst, inl, inr}
 use Rattle.std.specs.List.{slice_set}
-use Rattle.jim_ast.proofs.Places.{slice_get-push}
+use Rattle.lists.proofs.Places.{slice_get-push}
 use Rattle.link_rules.specs.declared.code.Code.{Code}
 use Rattle.link_rules.specs.declared.code.Code.TheVariants as code
 use Rattle.link_rules.specs.Classes.{object_name}

@@ -1,7 +1,7 @@
 -- What is kept stays so while the heap grows.
 use Rattle.std.proofs.Common.{◌≡◌, ℕ, List, [], ◌∷◌, ◌++◌, Some, slice_get}
 use Rattle.std.proofs.lemmas.List.{map-append}
-use Rattle.jim_ast.proofs.Places.{slice_get-append_left}
+use Rattle.lists.proofs.Places.{slice_get-append_left}
 use Rattle.link_rules.specs.Linked.{LinkedProgram}
 use Rattle.link_sites.specs.declared.place.Place.{Place}
 use Rattle.link_sites.specs.declared.site.Site.{Site}

@@ -1,7 +1,7 @@
 -- Lemmas on lists.
 use Rattle.std.proofs.Common.{◌≡◌, ℕ, zero, suc, ◌⊎◌, Bool, true, false, cond, List, [], ◌∷◌, ◌++◌, length, map, filter, slice_get, Some, Option, refl, ap, ◌∙◌, subst, inl, inr}
 use Rattle.std.specs.List.{last_or, slice_set}
-use Rattle.jim_ast.specs.Lists.{Has}
+use Rattle.lists.specs.Lists.{Has}
 
 module _ {X : Type 0} where
   -- a list with a last element isn't empty

@@ -1,6 +1,6 @@
 -- Each step of the machine keeps what is known.
 use Rattle.std.proofs.Common.{◌≡◌, ℕ, Some, Bool, true, false, List, slice_get, sym, ap, ◌∙◌, subst, inl, inr}
-use Rattle.jim_ast.specs.Lists.{Has}
+use Rattle.lists.specs.Lists.{Has}
 use Rattle.link_rules.specs.declared.code.Code.{Code}
 use Rattle.link_rules.specs.declared.code.Code.TheVariants as code
 use Rattle.link_rules.specs.Linked.{LinkedMethod, LinkedProgram}

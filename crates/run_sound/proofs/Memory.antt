@@ -1,7 +1,7 @@
 -- The heap and the static fields, as steps change them.
 use Rattle.std.proofs.Common.{◌≡◌, ℕ, ◌++◌, List, [], ◌∷◌, Some, slice_get, refl, sym, subst, inl, inr}
 use Rattle.std.specs.List.{slice_set}
-use Rattle.jim_ast.proofs.Places.{slice_get-pushed}
+use Rattle.lists.proofs.Places.{slice_get-pushed}
 use Rattle.link_rules.specs.Linked.{LinkedMethod, LinkedProgram}
 use Rattle.link_sites.specs.declared.place.Place.{Place}
 use Rattle.link_sites.specs.declared.site.Site.{Site}

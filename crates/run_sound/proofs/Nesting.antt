@@ -1,7 +1,7 @@
 -- An array of an inner level comes to be where an element of an array of arrays is loaded.
 use Rattle.std.proofs.Common.{◌≡◌, ℕ, zero, suc, ◌+◌, ◌<◌, ◌++◌, Some, false, List, [], ◌∷◌, length, slice_get, refl, sym, ap, ◌∙◌, subst, inl, arith}
 use Rattle.std.specs.List.{slice_set}
-use Rattle.jim_ast.proofs.Places.{slice_get-append_left, slice_get-below, slice_get-push, slice_get-set_same}
+use Rattle.lists.proofs.Places.{slice_get-append_left, slice_get-below, slice_get-push, slice_get-set_same}
 use Rattle.link_rules.specs.declared.code.Code.{Code}
 use Rattle.link_rules.specs.declared.code.Code.TheVariants as code
 use Rattle.link_rules.specs.Classes.{object_name}

@@ -1,6 +1,6 @@
 -- Slots that hold something have nodes.
 use Rattle.std.proofs.Common.{◌≡◌, ℕ, ◌<◌, Option, Some, None, Bool, true, false, is_some, length, slice_get, refl, sym, ap, ◌∙◌, subst}
-use Rattle.jim_ast.proofs.Places.{slice_get-below, slice_get-there}
+use Rattle.lists.proofs.Places.{slice_get-below, slice_get-there}
 use Rattle.link_rules.specs.declared.code.Code.{Code}
 use Rattle.link_rules.specs.Flow.{Next}
 use Rattle.link_rules.specs.Linked.{LinkedMethod, LinkedProgram}

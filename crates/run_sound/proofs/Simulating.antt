@@ -1,6 +1,6 @@
 -- Runs are simulated.
 use Rattle.std.proofs.Common.{◌≡◌, ℕ, ◌++◌, Some, List, [], ◌∷◌, slice_get, sym, ap, ◌∙◌, subst, inl, inr, arith}
-use Rattle.jim_ast.proofs.Places.{slice_get-below, slice_get-pushed}
+use Rattle.lists.proofs.Places.{slice_get-below, slice_get-pushed}
 use Rattle.link_rules.specs.Linked.{LinkedProgram}
 use Rattle.link_rules.specs.WellLinked.{IsWellLinked}
 use Rattle.link_sites.specs.declared.place.Place.{Place}

@@ -1,6 +1,6 @@
 -- What each state of a run has of its program, whatever is asked.
 use Rattle.std.specs.Prelude.{◌≡◌, ℕ, ◌+◌, Some, false, slice_get}
-use Rattle.jim_ast.specs.Lists.{Has}
+use Rattle.lists.specs.Lists.{Has}
 use Rattle.link_rules.specs.Linked.{LinkedMethod, LinkedProgram}
 use Rattle.link_rules.specs.WellLinked.{HasTarget, IsRoot}
 use Rattle.link_sites.specs.Sites.{HasField, IsSiteClass}

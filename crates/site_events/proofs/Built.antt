@@ -4,8 +4,8 @@ use Rattle.std.specs.Global.{Vec}
 use Rattle.std.specs.Int.{bit_at}
 use Rattle.std.proofs.lemmas.Bool.{cases_lt}
 use Rattle.std.proofs.lemmas.Nat.Bits.{bit_at_above}
-use Rattle.jim_ast.specs.Lists.{Has}
-use Rattle.jim_ast.proofs.Places.{slice_get-below}
+use Rattle.lists.specs.Lists.{Has}
+use Rattle.lists.proofs.Places.{slice_get-below}
 use Rattle.link_program.proofs.Found.{at_map, from_map}
 use Rattle.link_rules.specs.declared.code.Code.{Code}
 use Rattle.link_rules.specs.declared.code.Code.TheVariants.{Call}
@@ -19,8 +19,8 @@ use Rattle.spds_rules.specs.Demand.{Asked}
 use Rattle.spds_rules.specs.Nodes.{at}
 use Rattle.track_rules.specs.Protocols.{HasRow, IsProtocol, ProtocolParts}
 use Rattle.track_runs.specs.Events.{IsEventCall}
-use Rattle.track_events.specs.Leading.{Leads}
-use Rattle.track_events.specs.Leading as leading
+use Rattle.site_events.specs.Leading.{Leads}
+use Rattle.site_events.specs.Leading as leading
 use Rattle.track_systems.specs.Events.{Goes, IsEventOn}
 use Rattle.track_systems.specs.Laws.{IsAmongSixteen}
 use Rattle.track_systems.specs.Values.{IsWeight}

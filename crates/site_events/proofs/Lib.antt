@@ -2,3 +2,15 @@ pub mod Told
 pub mod Used
 pub mod Built
 pub mod Led
+pub mod Counted
+pub mod Sharing
+pub mod Acting
+pub mod Asking
+pub mod Closing
+pub mod Entering
+pub mod Calling
+pub mod Searching
+pub mod Holding
+pub mod Joining
+pub mod Weighed
+pub mod Changing

@@ -1,7 +1,7 @@
 -- The event statements by event.
 use Rattle.std.proofs.Common.{◌≡◌, ℕ, ◌↔◌, Bool, false, List, [], ◌∷◌, ◌++◌, Some, eqb, length, map, slice_get, inl, inr, refl, sym, ap, subst, ◌∙◌}
-use Rattle.jim_ast.specs.Lists.{Has}
-use Rattle.jim_ast.proofs.Places.{slice_get-pushed}
+use Rattle.lists.specs.Lists.{Has}
+use Rattle.lists.proofs.Places.{slice_get-pushed}
 use Rattle.link_indexes.proofs.Grown.{Has-push}
 use Rattle.link_program.proofs.Found.{at_map, from_map}
 use Rattle.lists.specs.declared.groups.Keyed.{Keyed}
@@ -16,9 +16,9 @@ use Rattle.spds_rules.specs.Answers.{IsAnswered}
 use Rattle.spds_rules.specs.Demand.{Asked}
 use Rattle.spds_rules.specs.Nodes.{at}
 use Rattle.track_rules.specs.Protocols.{HasRow, ProtocolParts}
-use Rattle.track_events.specs.declared.statement.EventStatement.{EventStatement}
-use Rattle.track_events.specs.Statements.{AreEventStatements, IsEventStatement, receiver_node}
-use Rattle.track_events.proofs.Calling.{Has-items_with}
+use Rattle.site_events.specs.declared.event_statement.EventStatement.{EventStatement}
+use Rattle.site_events.specs.EventStatements.{AreEventStatements, IsEventStatement, receiver_node}
+use Rattle.site_events.proofs.Calling.{Has-items_with}
 use Rattle.track_systems.specs.Events.{IsEventOn}
 use Rattle.track_systems.specs.Values.{IsWeight}
 use Rattle.weight_laws.specs.declared.rel.Rel.{Rel}

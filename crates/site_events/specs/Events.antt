@@ -1,6 +1,6 @@
 -- The event statements of a program, as the sites of a demand share them.
 use Rattle.std.specs.Prelude.{◌≡◌, ◌↔◌, ℕ, List, Some, length, map, slice_get}
-use Rattle.jim_ast.specs.Lists.{Has}
+use Rattle.lists.specs.Lists.{Has}
 use Rattle.lists.specs.declared.groups.Keyed.{Keyed}
 use Rattle.link_rules.specs.Linked.{LinkedProgram}
 use Rattle.link_sites.specs.declared.site.Site.{Site}
@@ -9,9 +9,9 @@ use Rattle.spds_rules.specs.Answers.{IsAnswered}
 use Rattle.spds_rules.specs.Demand.{Asked}
 use Rattle.spds_rules.specs.Nodes.{at}
 use Rattle.track_rules.specs.Protocols.{HasRow, IsProtocol, ProtocolParts}
-use Rattle.track_events.specs.Callers.{AreCallers}
-use Rattle.track_events.specs.declared.statement.EventStatement.{EventStatement}
-use Rattle.track_events.specs.Statements.{AreEventStatements, receiver_node}
+use Rattle.site_events.specs.Callers.{AreCallers}
+use Rattle.site_events.specs.declared.event_statement.EventStatement.{EventStatement}
+use Rattle.site_events.specs.EventStatements.{AreEventStatements, receiver_node}
 use Rattle.track_systems.specs.Events.{IsEventOn}
 use Rattle.track_systems.specs.Values.{IsWeight}
 use Rattle.weight_laws.specs.declared.rel.Rel.{Rel}

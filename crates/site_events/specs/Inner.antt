@@ -1,6 +1,6 @@
 -- Methods that calls may enter.
 use Rattle.std.specs.Prelude.{ℕ, List}
-use Rattle.jim_ast.specs.Lists.{Has}
+use Rattle.lists.specs.Lists.{Has}
 use Rattle.link_rules.specs.Linked.{LinkedProgram}
 use Rattle.link_rules.specs.WellLinked.{HasTarget}
 use Rattle.link_sites.specs.declared.place.Place.{Place}

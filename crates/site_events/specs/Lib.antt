@@ -3,3 +3,8 @@ pub mod Tables
 pub mod Inner
 pub mod Events
 pub mod Sites
+pub mod EventStatements
+pub mod Leading
+pub mod Callers
+pub mod Loud
+pub mod Passed

@@ -3,9 +3,9 @@ ghost use Rattle.std.specs.Prelude.{◌≡◌, List, [], IfNone, IfOk, IfSome, O
 ghost use Rattle.link_rules.specs.Linked.{LinkedProgram};
 ghost use Rattle.link_sites.specs.declared.site.Site.{Site};
 ghost use Rattle.spds_rules.specs.Demand.{Asked};
-ghost use Rattle.track_events.specs.declared.statement.EventStatement.{EventStatement as AnEvent};
-ghost use Rattle.track_events.specs.Callers.{AreCallers};
-ghost use Rattle.track_events.specs.Leading.{Leads};
+ghost use Rattle.site_events.specs.declared.event_statement.EventStatement.{EventStatement as AnEvent};
+ghost use Rattle.site_events.specs.Callers.{AreCallers};
+ghost use Rattle.site_events.specs.Leading.{Leads};
 ghost use Rattle.track_rules.specs.Protocols.{ProtocolParts};
 ghost use Rattle.track_systems.specs.Events.{Goes};
 ghost use Rattle.track_systems.specs.Values.{IsWeight};
@@ -18,15 +18,15 @@ ghost use Rattle.site_events.specs.Tables.{HasOne};
 
 use super::events::Events;
 use super::inner::{Inner, inside_of};
+use super::loud::loud_methods;
 use super::places::targets_at;
 use super::relations::Relations;
+use super::star::closure;
 use super::statement::{Statement, statement_at};
-use jim_ast::NoMemory;
 use link_program::Linked;
 use link_sites::Place;
-use lists::Groups;
+use lists::{Groups, NoMemory};
 use std::alloc::Global;
-use track_events::{closure, loud_methods};
 use weight_laws::{Rel, Weight};
 
 /// What events do to the objects of one site.

@@ -4,11 +4,12 @@ ghost use Rattle.link_rules.specs.WellLinked.{IsWellLinked};
 ghost use Rattle.spds_rules.specs.Demand.{Asked};
 ghost use Rattle.spds_rules.specs.Nodes.{IsNode};
 
-use demand_set::{Demand, DemandError, Reach, demand};
-use jim_ast::NoMemory;
+use demand_set::{Demand, DemandError, Reach};
 use link_program::Linked;
 use linked_text::linked_of;
 use linked_text::spelled::node;
+use lists::NoMemory;
+use program_demand::demand;
 use spds_nodes::is_node;
 use spds_rules::Node;
 use spds_solve::{Met, Solved, solve, solve_here};

@@ -6,12 +6,13 @@ ghost use Rattle.spds_rules.specs.Demand.{Asked};
 ghost use Rattle.spds_rules.specs.Nodes.{IsNode};
 
 use super::programs::{COPIES, CROWDED, PASSED_ON, THREE_CELLS, TWO_BOXES};
-use demand_set::{Demand, DemandError, Reach, demand};
-use jim_ast::NoMemory;
+use demand_set::{Demand, DemandError, Reach};
 use link_program::Linked;
 use link_sites::Site;
 use linked_text::spelled::{is_string, node, site};
 use linked_text::{Rows, first_wrong};
+use lists::NoMemory;
+use program_demand::demand;
 use spds_nodes::is_node;
 use spds_rules::Node;
 use spds_solve::{Met, Solved, solve_here};

@@ -1,12 +1,12 @@
 //! Which targets calls keep by the answers of their receivers, by hand.
 ghost use Rattle.link_rules.specs.WellLinked.{IsWellLinked};
 
-use call_refine::refine;
-use jim_ast::NoMemory;
 use link_program::Linked;
 use link_rules::Code;
 use linked_text::linked_of;
+use lists::NoMemory;
 use query_core::Hands;
+use refined_query::refine;
 use spds_solve::Open;
 use std::marker::Sync;
 use std::test::Fail;

@@ -1,6 +1,6 @@
 -- Call strings and the methods that they belong to.
 use Rattle.std.proofs.Common.{◌≡◌, ℕ, ◌+◌, List, [], ◌∷◌, length, refl, sym, subst, arith}
-use Rattle.jim_ast.proofs.Places.{slice_get-below}
+use Rattle.lists.proofs.Places.{slice_get-below}
 use Rattle.link_rules.specs.Linked.{LinkedProgram}
 use Rattle.link_rules.specs.WellLinked.{HasTarget, IsReachedByCalls, IsWellLinked}
 use Rattle.link_sites.specs.declared.place.Place.{Place}

@@ -1,7 +1,7 @@
 -- The call system without what forgets call strings. Static fields and stores are no pushdown rules: what comes through them may be at its node under
 -- each string of the method, as at a start node. So they make further start nodes, and these in turn may make more.
 use Rattle.std.specs.Prelude.{◌↔◌, List, ◌∷◌}
-use Rattle.jim_ast.specs.Lists.{Has}
+use Rattle.lists.specs.Lists.{Has}
 use Rattle.link_rules.specs.Linked.{LinkedProgram}
 use Rattle.link_sites.specs.declared.place.Place.{Place}
 use Rattle.link_sites.specs.declared.site.Site.{Site}

@@ -1,7 +1,7 @@
 -- The back edges that end in a node.
 use Rattle.std.proofs.Common.{◌≡◌, ℕ, ◌+◌, ◌↔◌, ◌⊎◌, Bool, List, [], Option, Some, false, true, length, refl, sym, ap, subst, ◌∙◌, inl, inr, arith}
-use Rattle.jim_ast.specs.Lists.{Has}
-use Rattle.jim_ast.proofs.Places.{slice_get-below}
+use Rattle.lists.specs.Lists.{Has, AreAll}
+use Rattle.lists.proofs.Places.{slice_get-below}
 use Rattle.link_rules.specs.declared.code.Arg.{Arg}
 use Rattle.link_rules.specs.declared.code.Arg.TheVariants as arg
 use Rattle.link_rules.specs.declared.code.Code.{Code}
@@ -18,7 +18,6 @@ use Rattle.spds_rules.specs.declared.node.Node.{Node}
 use Rattle.spds_rules.specs.declared.node.Var.{Var}
 use Rattle.spds_rules.specs.declared.node.Var.TheVariants.{Local, This, Param}
 use Rattle.spds_rules.specs.declared.reach.Reach.TheVariants.{Plain, Tracked}
-use Rattle.spds_rules.specs.Demand.{AreAll}
 use Rattle.spds_rules.specs.Edges.{IsBack, IsBackByReturn, IsBackInFlight, IsEdge, IsReturned, IsRow, Passes}
 use Rattle.spds_rules.specs.Formals.{HasFormal, IsPosition, formal}
 use Rattle.spds_rules.specs.Nodes.{IsNode, MayStand, arg_var, at}

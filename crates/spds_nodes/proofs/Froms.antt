@@ -1,7 +1,7 @@
 -- Edges from what is found at a place.
 use Rattle.std.proofs.Common.{◌≡◌, ℕ, ◌<◌, ◌↔◌, List, ap, ◌∙◌, inl, inr, arith}
 use Rattle.std.specs.List.{AllPairs}
-use Rattle.jim_ast.specs.Lists.{IsApart}
+use Rattle.lists.specs.Lists.{IsApart}
 use Rattle.link_indexes.specs.declared.method.Place.{Place as Indexed}
 use Rattle.link_indexes.specs.Rows.{Precedes}
 use Rattle.link_sites.specs.declared.place.Place.{Place}

@@ -4,10 +4,9 @@ use Rattle.std.proofs.lemmas.List.{take_all}
 use Rattle.std.proofs.lemmas.Bool.{cases_order}
 use Rattle.std.proofs.lemmas.Option.{get_or_from_slice_get, same_Some}
 use Rattle.std.specs.List.{AllPairs, Contains}
-use Rattle.jim_ast.specs.Lists.{Has, IsApart}
-use Rattle.jim_ast.proofs.Places.{slice_get-append_left, slice_get-below}
+use Rattle.lists.specs.Lists.{Has, IsApart, AreAll}
+use Rattle.lists.proofs.Places.{slice_get-append_left, slice_get-below}
 use Rattle.link_indexes.proofs.Grown.{Has-push, slice_get-read, take-next}
-use Rattle.spds_rules.specs.Demand.{AreAll}
 use Rattle.spds_nodes.specs.Added.{IsAdded, Over}
 
 module _ {X : Type 0} where

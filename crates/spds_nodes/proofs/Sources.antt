@@ -1,7 +1,7 @@
 -- What edges come from are nodes, and where the parts of a program stand in its indexes.
 use Rattle.std.proofs.Common.{◌≡◌, ℕ, ◌+◌, Some, None, true, false, slice_get, refl, sym, subst, ◌∙◌}
 use Rattle.std.proofs.lemmas.Option.{same_Some}
-use Rattle.jim_ast.specs.Lists.{Has}
+use Rattle.lists.specs.Lists.{Has}
 use Rattle.link_rules.specs.declared.code.Arg.{Arg}
 use Rattle.link_rules.specs.declared.code.Arg.TheVariants as arg
 use Rattle.link_rules.specs.declared.code.Code.{Code}

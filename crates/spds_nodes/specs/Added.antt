@@ -1,6 +1,6 @@
 -- Lists that exactly the elements with a fact are added to.
 use Rattle.std.specs.Prelude.{◌≡◌, ◌++◌, List}
-use Rattle.spds_rules.specs.Demand.{AreAll}
+use Rattle.lists.specs.Lists.{AreAll}
 
 -- exactly the elements with the fact, each once, are added at the end
 pub record IsAdded {X : Type 0} (P : X → Type 0) (old new : List X) : Type 0 where

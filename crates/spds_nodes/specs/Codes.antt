@@ -1,6 +1,6 @@
 -- What one statement says of the nodes around it.
 use Rattle.std.specs.Prelude.{◌≡◌, ℕ, ◌<◌, ◌≤◌, Some, slice_get}
-use Rattle.jim_ast.specs.Lists.{Has}
+use Rattle.lists.specs.Lists.{Has}
 use Rattle.link_rules.specs.declared.code.Code.{Code}
 use Rattle.link_rules.specs.declared.code.Code.TheVariants as code
 use Rattle.link_rules.specs.Flow.{Handles}

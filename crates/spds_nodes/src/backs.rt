@@ -1,6 +1,6 @@
 //! The back edges into a node.
 ghost use Rattle.std.specs.Prelude.{◌≡◌, ◌↔◌, ℕ, OnOk, Some};
-ghost use Rattle.jim_ast.specs.Lists.{Has, IsApart};
+ghost use Rattle.lists.specs.Lists.{Has, IsApart};
 ghost use Rattle.link_indexes.specs.Rows.{AreTheIndexes};
 ghost use Rattle.link_indexes.specs.Tables.{IsInMethod};
 ghost use Rattle.link_rules.specs.Accessed.{codes_in};
@@ -17,9 +17,9 @@ use super::nodes::is_node;
 use super::places::{before, code_at};
 use super::positions::passed_back;
 use super::rows::each_once;
-use jim_ast::NoMemory;
 use link_program::Linked;
 use link_sites::Place;
+use lists::NoMemory;
 use spds_rules::{Edge, EdgeKind, Node, Var};
 use std::alloc::Global;
 

@@ -7,10 +7,10 @@ use super::flows::{brought, loaded_static, taken_from};
 use super::found::push_found;
 use super::places::{before, code_at};
 use super::rows::{push_jumps, push_returns};
-use jim_ast::NoMemory;
 use link_program::Linked;
 use link_rules::Code;
 use link_sites::Place;
+use lists::NoMemory;
 use spds_rules::{Edge, Node, Var};
 use std::alloc::Global;
 

@@ -1,6 +1,6 @@
 //! What a statement hands on, makes and raises.
 ghost use Rattle.std.specs.Prelude.{◌≡◌, ◌<◌, ◌≤◌, ◌↔◌, ℕ, IsTrue};
-ghost use Rattle.jim_ast.specs.Lists.{Has};
+ghost use Rattle.lists.specs.Lists.{Has};
 ghost use Rattle.link_rules.specs.Flow.{MayRaise, IsRaised};
 ghost use Rattle.link_rules.specs.WellLinked.{MakesArrays};
 ghost use Rattle.link_sites.specs.Sites.{HasLevel, Makes};

@@ -1,6 +1,6 @@
 //! The edges that end in a node.
 ghost use Rattle.std.specs.Prelude.{IfOk, OnOk};
-ghost use Rattle.spds_rules.specs.Demand.{AreAll};
+ghost use Rattle.lists.specs.Lists.{AreAll};
 ghost use Rattle.spds_rules.specs.declared.reach.Reach.TheVariants.{Plain};
 ghost use Rattle.spds_rules.specs.Nodes.{IsNode};
 ghost use Rattle.spds_nodes.specs.Added.{IsAdded};
@@ -13,8 +13,8 @@ use super::found::covered_by;
 use super::nodes::is_node;
 use super::raised::push_into_raised;
 use super::rows::{push_handled, push_kept, push_passed};
-use jim_ast::NoMemory;
 use link_program::Linked;
+use lists::NoMemory;
 use spds_rules::{Edge, Node, Reach};
 use std::alloc::Global;
 

@@ -1,6 +1,6 @@
 //! Where a statement takes the variables from that it assigns, throws, returns, stores and passes.
 ghost use Rattle.std.specs.Prelude.{◌≡◌, ◌↔◌, ℕ, IsTrue, None, Some};
-ghost use Rattle.jim_ast.specs.Lists.{Has};
+ghost use Rattle.lists.specs.Lists.{Has};
 ghost use Rattle.link_indexes.specs.Facts.{Calls};
 ghost use Rattle.spds_rules.specs.Formals.{IsPosition, assigned, assigns};
 ghost use Rattle.spds_rules.specs.Edges.{AssignsTo, IsCaughtAs, IsOfFrame, Leaves, LoadsStatic, Passes, Returns, StoresStatic};

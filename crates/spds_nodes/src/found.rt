@@ -1,6 +1,6 @@
 //! One edge at most, and whether it is there.
 ghost use Rattle.std.specs.Prelude.{◌≡◌, ◌<◌, ◌≤◌, ◌↔◌, ℕ, ◌++◌, [], ◌∷◌, IsTrue, OnOk, Some};
-ghost use Rattle.jim_ast.specs.Lists.{Has};
+ghost use Rattle.lists.specs.Lists.{Has};
 ghost use Rattle.link_rules.specs.declared.code.Catch.{Catch as Handler};
 ghost use Rattle.link_sites.specs.Places.{HasCode};
 ghost use Rattle.spds_rules.specs.Edges.{Leaves, Returns, StoresStatic};
@@ -11,10 +11,10 @@ ghost use Rattle.spds_nodes.specs.Into.{IsFrom};
 
 use super::flows::{leaves, passed, returned, stored_static};
 use super::places::code_at;
-use jim_ast::NoMemory;
 use link_program::Linked;
 use link_rules::Catch;
 use link_sites::Place;
+use lists::NoMemory;
 use spds_rules::{Edge, EdgeKind, Node, Var};
 
 /// Adds the edge of the kind to the node from the variable at the place, where there is one.

@@ -19,7 +19,8 @@ mod starts;
 mod stores;
 
 pub use edges::into;
-pub use nodes::{is_node, site_of};
+pub use nodes::is_node;
 pub use sites::{has_field, site_class};
+pub use spds_rules::site_of;
 pub use starts::starts_of;
 pub use stores::stores_of;

@@ -2,7 +2,7 @@
 ghost use Rattle.std.specs.Prelude.{◌≡◌, ◌<◌, ◌↔◌, IsTrue, length};
 ghost use Rattle.link_rules.specs.WellLinked.{IsInForm};
 ghost use Rattle.link_rules.specs.Accessed.{At};
-ghost use Rattle.spds_rules.specs.Nodes.{HasVar, IsNode, MayStand, site_of};
+ghost use Rattle.spds_rules.specs.Nodes.{HasVar, IsNode, MayStand};
 
 use super::codes::{hands, has_level, is_raised, makes, may_raise};
 use super::places::code_at;
@@ -47,20 +47,5 @@ pub fn is_node(linked: &Linked, node: Node) -> bool
                 && has_var(linked, node.place.method, code, node.place.raised, node.var)
         }
         None => false,
-    }
-}
-
-/// The site of the object that comes to be at the node: that of what its statement makes, raises or hands on as a constant. Other variables have
-/// none. Takes no memory.
-pub fn site_of(node: Node) -> Option<Site>
-    ensures { result ≡ site_of node }
-{
-    match node.var {
-        Var::Made => Some(Site::New(node.place)),
-        Var::Nested(level) => Some(Site::Nested(node.place, level)),
-        Var::Raised(kind) => Some(Site::Raised(node.place, kind)),
-        Var::Text(number) => Some(Site::Text(number)),
-        Var::Class(number) => Some(Site::Class(number)),
-        _ => None,
     }
 }

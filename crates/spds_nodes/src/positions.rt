@@ -2,13 +2,13 @@
 ghost use Rattle.std.specs.Prelude.{◌≡◌, ◌<◌, ◌↔◌, IfOk, IsTrue, OnOk, length};
 ghost use Rattle.link_rules.specs.declared.code.Arg.TheVariants.{Local as LocalArg};
 ghost use Rattle.spds_rules.specs.declared.node.Var.TheVariants.{Local, Param};
-ghost use Rattle.spds_rules.specs.Demand.{AreAll};
+ghost use Rattle.lists.specs.Lists.{AreAll};
 ghost use Rattle.spds_rules.specs.Edges.{Passes};
 ghost use Rattle.spds_nodes.specs.Added.{IsAdded};
 ghost use Rattle.spds_nodes.specs.Backs.{IsParam, IsParamAt, IsReceiver, PassesBack};
 
-use jim_ast::NoMemory;
 use link_rules::{Arg, Code};
+use lists::NoMemory;
 use spds_rules::Var;
 use std::alloc::{AllocError, Global};
 

@@ -11,10 +11,10 @@ use super::flows::{of_frame, targets_of, thrown};
 use super::found::push_found;
 use super::places::{before, code_at};
 use super::rows::push_escapes;
-use jim_ast::NoMemory;
 use link_program::Linked;
 use link_rules::Code;
 use link_sites::Place;
+use lists::NoMemory;
 use spds_rules::{Edge, EdgeKind, Node, Var};
 use std::alloc::Global;
 

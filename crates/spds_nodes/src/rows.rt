@@ -1,15 +1,15 @@
 //! The rows of the table of edges, each from all its places into one node.
 ghost use Rattle.std.specs.Prelude.{ℕ, ◌<◌, ◌≤◌, ◌↔◌, IfOk, OnOk};
-ghost use Rattle.jim_ast.specs.Lists.{Has, IsApart};
+ghost use Rattle.lists.specs.Lists.{Has, IsApart};
 ghost use Rattle.spds_nodes.specs.Added.{IsAdded, Over};
 ghost use Rattle.spds_nodes.specs.Codes.{HandlesAt};
 ghost use Rattle.spds_nodes.specs.Into.{IsEscapeOf, IsHandled, IsHandledFrom, IsJumpOf, IsKept, IsPassed, IsReturnOf};
 
 use super::found::{Covered, handled_at, kept_at, passed_at, push_found, returned_at, stored_at};
 use super::places::{before, in_flight};
-use jim_ast::NoMemory;
 use link_program::Linked;
 use link_sites::Place;
+use lists::NoMemory;
 use spds_rules::{Edge, EdgeKind, Node, Var};
 use std::alloc::Global;
 

@@ -1,6 +1,6 @@
 //! The sites of a program: the classes of their objects, and the fields that these have.
 ghost use Rattle.std.specs.Prelude.{◌≡◌, ℕ, ◌<◌, ◌↔◌, IfNone, IfSome, IsSome, IsTrue, Some, List, codes, false, length, map, slice_get};
-ghost use Rattle.jim_ast.specs.Lists.{Has};
+ghost use Rattle.lists.specs.Lists.{Has};
 ghost use Rattle.link_rules.specs.Flow.{MayRaise};
 ghost use Rattle.link_rules.specs.Targets.{exception_names, nine_names};
 ghost use Rattle.link_rules.specs.declared.code.Code.{Code as Statement};

@@ -1,6 +1,6 @@
 //! The start nodes of a site.
 ghost use Rattle.std.specs.Prelude.{◌<◌, IfOk, OnOk, length};
-ghost use Rattle.spds_rules.specs.Demand.{AreAll};
+ghost use Rattle.lists.specs.Lists.{AreAll};
 ghost use Rattle.link_sites.specs.Places.{before};
 ghost use Rattle.spds_rules.specs.Nodes.{IsStart, at};
 ghost use Rattle.spds_nodes.specs.Added.{IsAdded};
@@ -8,9 +8,9 @@ ghost use Rattle.spds_nodes.specs.Starts.{IsBefore, IsBeforeIn, IsThere};
 
 use super::nodes::is_node;
 use super::places::before;
-use jim_ast::NoMemory;
 use link_program::Linked;
 use link_sites::Site;
+use lists::NoMemory;
 use spds_rules::{Node, Var};
 use std::alloc::{AllocError, Global};
 

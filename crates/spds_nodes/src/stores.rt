@@ -1,15 +1,15 @@
 //! The stores of a field.
 ghost use Rattle.std.specs.Prelude.{◌≡◌, AllPairs, IfOk, OnOk, false};
-ghost use Rattle.spds_rules.specs.Demand.{AreAll};
+ghost use Rattle.lists.specs.Lists.{AreAll};
 ghost use Rattle.spds_rules.specs.Stores.{level_var};
 ghost use Rattle.spds_nodes.specs.Stored.{IsFiled, IsInnerStore, IsLocalStore, IsStoreAt, IsStoreOf, IsStoredBy, StorePrecedes};
 
 use super::codes::arg_var;
 use super::places::{before, code_at};
-use jim_ast::NoMemory;
 use link_program::Linked;
 use link_rules::{Arg, Code};
 use link_sites::Place;
+use lists::NoMemory;
 use spds_rules::{Node, StoreAt, Var};
 use std::alloc::Global;
 

@@ -1,6 +1,6 @@
 -- What a query answers.
 use Rattle.std.specs.Prelude.{◌↔◌, List, [], AllPairs}
-use Rattle.jim_ast.specs.Lists.{Has}
+use Rattle.lists.specs.Lists.{Has}
 use Rattle.link_rules.specs.Linked.{LinkedProgram}
 use Rattle.link_sites.specs.declared.place.Place.{Place}
 use Rattle.link_sites.specs.declared.site.Site.{Site}

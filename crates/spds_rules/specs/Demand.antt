@@ -1,6 +1,6 @@
 -- What a query needs to look at, found backwards from what it asks for (Späth, Ali and Bodden 2019).
 use Rattle.std.specs.Prelude.{◌≡◌, ℕ, ◌<◌, List, length}
-use Rattle.jim_ast.specs.Lists.{Has, IsApart}
+use Rattle.lists.specs.Lists.{Has, IsApart}
 use Rattle.link_rules.specs.Linked.{LinkedProgram}
 use Rattle.link_sites.specs.declared.site.Site.{Site}
 use Rattle.spds_rules.specs.declared.edge.EdgeKind.{EdgeKind}
@@ -28,23 +28,6 @@ pub record IsFieldDemanded (Edges : Node → EdgeKind → Node → Type 0) (Stor
   pub to : Node
   pub edge : Edges from (Load field) to
   pub demanded : Demanded Edges Stores targets to
-
--- the list has each element with the fact once, and no other
-pub record AreAll {X : Type 0} (P : X → Type 0) (xs : List X) : Type 0 where
-  pub each : (x : X) → Has xs x → P x
-  pub all : (x : X) → P x → Has xs x
-  pub apart : IsApart xs
-
--- so many elements have the fact
-abbrev pub Counts : {X : Type 0} → (X → Type 0) → ℕ → Type 0
-Counts {X} P size = (xs : List X) × AreAll P xs × (length xs ≡ size)
-
--- more elements than the bound have the fact: so many, each once, are named
-pub record HasMore {X : Type 0} (P : X → Type 0) (bound : ℕ) : Type 0 where
-  pub some : List X
-  pub each : (x : X) → Has some x → P x
-  pub apart : IsApart some
-  pub more : bound < length some
 
 -- what a query asks for, and over which edges
 pub record Asked : Type 0 where

@@ -8,6 +8,6 @@ mod reach;
 mod store;
 
 pub use edge::{Edge, EdgeKind};
-pub use node::{Node, Var};
+pub use node::{Node, Var, site_of};
 pub use reach::Reach;
 pub use store::StoreAt;

@@ -1,8 +1,9 @@
 //! Where an object may be.
 ghost use Rattle.std.specs.Prelude.{◌≡◌, ◌<◌, ◌^◌};
+ghost use Rattle.spds_rules.specs.Nodes.{site_of};
 ghost use Rattle.spds_rules.specs.Spread.{var_spread};
 
-use link_sites::Place;
+use link_sites::{Place, Site};
 use lists::Key;
 
 /// A variable. The first four are those of a frame; the others stand for what a statement throws, makes or names.
@@ -82,4 +83,19 @@ impl Key for Node {
         let there : x.place ≡ y.place = Prim.search (rules, first) in
         let same : x.var ≡ y.var = Prim.search (rules, second) in
         λ j. record { place = there j; var = same j } };
+}
+
+/// The site of the object that comes to be at the node: that of what its statement makes, raises or hands on as a constant. Other variables have
+/// none. Takes no memory.
+pub fn site_of(node: Node) -> Option<Site>
+    ensures { result ≡ site_of node }
+{
+    match node.var {
+        Var::Made => Some(Site::New(node.place)),
+        Var::Nested(level) => Some(Site::Nested(node.place, level)),
+        Var::Raised(kind) => Some(Site::Raised(node.place, kind)),
+        Var::Text(number) => Some(Site::Text(number)),
+        Var::Class(number) => Some(Site::Class(number)),
+        _ => None,
+    }
 }

@@ -1,10 +1,10 @@
 -- Arrivals that are gathered site by site.
 use Rattle.std.proofs.Common.{◌≡◌, ℕ, ◌+◌, ◌<◌, ◌↔◌, ◌⊎◌, List, [], length, get_or, take, Some, slice_get, sym, ap, ◌∙◌, subst, inl, inr, arith}
 use Rattle.std.proofs.lemmas.Bool.{cases_lt}
-use Rattle.jim_ast.specs.Lists.{Has}
-use Rattle.jim_ast.proofs.Places.{slice_get-below}
+use Rattle.lists.specs.Lists.{Has}
+use Rattle.lists.proofs.Places.{slice_get-below}
 use Rattle.spds_solve.specs.declared.arrivals.Arrival.{Arrival}
-use Rattle.call_work.proofs.Lists.{Has-take_more}
+use Rattle.call_side.proofs.Lists.{Has-take_more}
 use Rattle.spds_tables.specs.declared.tables.SiteTables.{SiteTables}
 use Rattle.spds_tables.specs.Tables.{ArrivesAt}
 

@@ -1,12 +1,12 @@
 -- Looks at the tables of all sites.
 use Rattle.std.proofs.Common.{◌≡◌, ℕ, ◌+◌, ◌<◌, ◌↔◌, ◌∷◌, Bool, true, IsTrue, List, Option, Some, None, get_or, length, slice_get, refl, sym, ap, ◌∙◌, subst}
-use Rattle.call_work.specs.declared.opening.Opening.{Opening}
-use Rattle.call_work.specs.Openings.{AreOpenings, BeginsBy, opening_of}
-use Rattle.jim_ast.specs.Lists.{Has}
+use Rattle.call_side.specs.declared.opening.Opening.{Opening}
+use Rattle.call_side.specs.Openings.{AreOpenings, BeginsBy, opening_of}
+use Rattle.lists.specs.Lists.{Has}
 use Rattle.link_rules.specs.Linked.{LinkedProgram}
 use Rattle.link_sites.specs.declared.site.Site.{Site}
 use Rattle.post_star.proofs.Loops.{EachBefore, each_more}
-use Rattle.call_work.proofs.Lists.{has-read}
+use Rattle.call_side.proofs.Lists.{has-read}
 use Rattle.spds_solve.specs.declared.ends.End.TheVariants.{Arg, Base}
 use Rattle.spds_solve.specs.declared.ends.StoreEnd.{StoreEnd}
 use Rattle.spds_solve.specs.declared.heads.Head.{Head}

@@ -1,7 +1,7 @@
 -- What is known of the ends of stores grows, and pairs come to wait.
 use Rattle.std.proofs.Common.{◌≡◌, ℕ, ◌+◌, ◌↔◌, ◌⊎◌, ◌<◌, List, [], get_or, length, take, refl, sym, ap, ◌∙◌, subst, inl, inr}
-use Rattle.jim_ast.specs.Lists.{Has}
-use Rattle.call_work.proofs.Lists.{Has-take_more}
+use Rattle.lists.specs.Lists.{Has}
+use Rattle.call_side.proofs.Lists.{Has-take_more}
 use Rattle.spds_solve.specs.declared.ends.End.{End}
 use Rattle.spds_solve.specs.declared.ends.End.TheVariants.{Arg, Base}
 use Rattle.spds_solve.specs.declared.heads.Head.{Head}

@@ -3,10 +3,10 @@ use Rattle.std.proofs.Common.{◌≡◌, ℕ, List, [], ◌∷◌, ◌++◌, ref
 use Rattle.std.proofs.lemmas.List.{map-append}
 use Rattle.std.proofs.lemmas.Option.{get_or_from_slice_get}
 use Rattle.call_side.specs.Bases.{AreMarks}
-use Rattle.demand_walk.proofs.Keys.{Adds-insert_key}
+use Rattle.lists.proofs.Keys.{Adds-insert_key}
 use Rattle.indexmap.specs.IndexSet.{insert_key}
-use Rattle.jim_ast.specs.Lists.{Adds, Has, IsApart}
-use Rattle.jim_ast.proofs.Places.{IsApart-adds}
+use Rattle.lists.specs.Lists.{Adds, Has, IsApart}
+use Rattle.lists.proofs.Places.{IsApart-adds}
 use Rattle.link_laws.proofs.Lists.{at_map, map_at}
 use Rattle.link_sites.specs.declared.place.Place.{Place}
 use Rattle.spds_solve.specs.declared.met.Met.{Met}

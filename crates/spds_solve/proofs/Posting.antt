@@ -1,8 +1,7 @@
 -- Posts, and what they are found by.
 use Rattle.std.proofs.Common.{◌≡◌, ℕ, ◌↔◌, ◌⊎◌, ◌++◌, List, [], ◌∷◌, refl, sym, ap, ◌∙◌, subst, inl, inr}
-use Rattle.jim_ast.specs.Lists.{Has}
+use Rattle.lists.specs.Lists.{Has, Adds}
 use Rattle.link_indexes.proofs.Grown.{Has-push}
-use Rattle.lists.specs.Lists.{Adds}
 use Rattle.post_star.specs.declared.key.Key.{Key}
 use Rattle.post_star.specs.declared.key.Key.TheVariants.{Node}
 use Rattle.post_star.specs.Groups.{Groups, found_at, IsAdded}

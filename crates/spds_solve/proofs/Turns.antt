@@ -4,8 +4,8 @@ use Rattle.std.specs.List.{flat_map}
 use Rattle.std.proofs.lemmas.Bool.{cases_eq}
 use Rattle.std.proofs.Math.Seq.{take-append_seam}
 use Rattle.std.proofs.lemmas.List.{append-nil, length-map, map-append, take-append-le}
-use Rattle.demand_walk.proofs.Counts.{length-IsApart}
-use Rattle.jim_ast.specs.Lists.{Has, IsApart}
+use Rattle.demand_set.proofs.Counts.{length-IsApart}
+use Rattle.lists.specs.Lists.{Has, IsApart}
 use Rattle.link_laws.proofs.Lists.{all_at, at_all, map_at}
 use Rattle.link_rules.specs.Linked.{LinkedProgram}
 use Rattle.link_sites.specs.declared.site.Site.{Site}

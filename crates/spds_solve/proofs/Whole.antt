@@ -3,9 +3,9 @@ use Rattle.std.proofs.Common.{◌≡◌, ℕ, ◌<◌, ◌↔◌, All, List, [],
 use Rattle.std.proofs.lemmas.Option.{get_or_from_slice_get}
 use Rattle.call_side.specs.Bases.{AreMarks}
 use Rattle.demand_set.specs.Demands.{DemandParts, IsDemandOf}
-use Rattle.demand_walk.proofs.Appended.{Has-take}
-use Rattle.jim_ast.specs.Lists.{Has, IsApart}
-use Rattle.jim_ast.proofs.Places.{slice_get-below, slice_get-pushed, slice_get-there}
+use Rattle.demand_set.proofs.Appended.{Has-take}
+use Rattle.lists.specs.Lists.{Has, IsApart}
+use Rattle.lists.proofs.Places.{slice_get-below, slice_get-pushed, slice_get-there}
 use Rattle.link_indexes.proofs.Grown.{Has-push}
 use Rattle.link_laws.proofs.Lists.{all_at, at_all, map_at, slice_get-appended}
 use Rattle.link_rules.specs.Linked.{LinkedProgram}

@@ -1,6 +1,6 @@
 -- Meets that two others give: what is stored into an object may be stored wherever that object is.
 use Rattle.std.specs.Prelude.{◌≡◌, ◌<◌, ◌≤◌, ◌++◌, ◌∷◌, ℕ, List, [], Some, length, slice_get}
-use Rattle.jim_ast.specs.Lists.{Has}
+use Rattle.lists.specs.Lists.{Has}
 use Rattle.post_star.specs.declared.key.Key.TheVariants.{Node}
 use Rattle.post_star.specs.Groups.{found_at}
 use Rattle.spds_solve.specs.declared.compose.Ways.{Ways}

@@ -1,6 +1,6 @@
 -- The ends of stores.
 use Rattle.std.specs.Prelude.{◌≡◌, ◌↔◌, ◌<◌, ℕ, List, eqb, length}
-use Rattle.jim_ast.specs.Lists.{Has}
+use Rattle.lists.specs.Lists.{Has}
 use Rattle.lists.specs.declared.groups.Keyed.{Keyed}
 use Rattle.lists.specs.Groups.{found_at}
 use Rattle.spds_solve.specs.declared.ends.End.{End}

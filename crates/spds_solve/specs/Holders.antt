@@ -1,6 +1,6 @@
 -- The sites that come to cells.
 use Rattle.std.specs.Prelude.{◌↔◌, ℕ, eqb}
-use Rattle.jim_ast.specs.Lists.{Has}
+use Rattle.lists.specs.Lists.{Has}
 use Rattle.lists.specs.declared.groups.Keyed.{Keyed}
 use Rattle.lists.specs.Groups.{found_at}
 use Rattle.spds_solve.specs.declared.arrivals.Arrival.{Arrival}

@@ -1,6 +1,6 @@
 -- What is known of both ends of stores, and the pairs of sites that wait for a common call string.
 use Rattle.std.specs.Prelude.{◌≡◌, ◌⊎◌, ◌<◌, ℕ, Bool, List, Some, false, length, slice_get}
-use Rattle.jim_ast.specs.Lists.{Has}
+use Rattle.lists.specs.Lists.{Has}
 use Rattle.spds_solve.specs.declared.ends.End.{End}
 use Rattle.spds_solve.specs.declared.ends.End.TheVariants.{Arg, Base}
 use Rattle.spds_solve.specs.declared.heads.Head.{Head}

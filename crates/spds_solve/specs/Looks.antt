@@ -1,7 +1,7 @@
 -- A look at the tables of all sites: what is noted of a site, and what a look goes over.
 use Rattle.std.specs.Prelude.{◌≡◌, ◌<◌, ℕ, List, Some, length, slice_get}
-use Rattle.call_work.specs.declared.opening.Opening.{Opening}
-use Rattle.jim_ast.specs.Lists.{Has}
+use Rattle.call_side.specs.declared.opening.Opening.{Opening}
+use Rattle.lists.specs.Lists.{Has}
 use Rattle.link_rules.specs.Linked.{LinkedProgram}
 use Rattle.link_sites.specs.declared.site.Site.{Site}
 use Rattle.spds_solve.specs.declared.ends.End.TheVariants.{Base}

@@ -1,6 +1,6 @@
 -- What is known of the call strings at the ends of stores.
 use Rattle.std.specs.Prelude.{◌↔◌, ℕ, ◌+◌, ◌*◌, ◌%◌, ◌^◌}
-use Rattle.jim_ast.specs.Lists.{Has}
+use Rattle.lists.specs.Lists.{Has}
 use Rattle.post_star.specs.declared.key.Key.{Key}
 use Rattle.post_star.specs.declared.key.Key.TheVariants.{Marked, Node}
 use Rattle.post_star.specs.Groups.{found_at}

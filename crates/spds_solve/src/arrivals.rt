@@ -1,10 +1,10 @@
 //! Where objects may be by call strings alone.
 ghost use Rattle.std.specs.Prelude.{◌≡◌, ◌↔◌, ◌⊎◌, [], IfOk, IsTrue, OnOk};
-ghost use Rattle.jim_ast.specs.Lists.{Has};
+ghost use Rattle.lists.specs.Lists.{Has};
 ghost use Rattle.spds_solve.specs.declared.arrivals.Arrival.{Arrival as AnArrival};
 
-use auto_table::NoMemory;
 use indexmap::IndexSet;
+use lists::NoMemory;
 use std::alloc::Global;
 use std::marker::Model;
 

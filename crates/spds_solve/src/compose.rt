@@ -2,15 +2,15 @@
 //!
 //! A meet goes on by those of its base, in the order of the list and under the strings of these. So what it comes to rests on what is there already.
 ghost use Rattle.std.specs.Prelude.{◌≡◌, ◌<◌, ◌+◌, ℕ, [], Some, length, slice_get, OnOk};
-ghost use Rattle.jim_ast.specs.Lists.{Has, IsApart};
+ghost use Rattle.lists.specs.Lists.{Has, IsApart};
 ghost use Rattle.spds_solve.specs.declared.met.Met.{Met as AMet};
 ghost use Rattle.spds_solve.specs.Composing.{AreComposed, AreFiled, AreJoined, IsReady, IsThere};
 ghost use Rattle.spds_solve.specs.Mets.{numbers_of};
 
 use super::met::Met;
 use super::mets::Mets;
-use auto_table::NoMemory;
 use jim_ast::List;
+use lists::NoMemory;
 use post_star::by_key::ByKey;
 use post_star::copies::copied;
 use post_star::key::Key;

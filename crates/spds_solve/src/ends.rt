@@ -2,8 +2,7 @@
 ghost use Rattle.std.specs.Prelude.{◌≡◌, ◌+◌, ◌<◌, length, IfOk, OnOk};
 ghost use Rattle.spds_solve.specs.Ends.{AreEnds, AreEndsBelow, ends_in};
 
-use auto_table::NoMemory;
-use lists::{Groups, Keyed};
+use lists::{Groups, Keyed, NoMemory};
 use spds_tables::{Parts, count_of};
 use std::alloc::Global;
 

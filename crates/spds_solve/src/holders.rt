@@ -1,12 +1,11 @@
 //! The sites that come to cells.
 ghost use Rattle.std.specs.Prelude.{◌≡◌, ◌↔◌, ℕ, IfOk, eqb, map};
-ghost use Rattle.jim_ast.specs.Lists.{Has};
+ghost use Rattle.lists.specs.Lists.{Has};
 ghost use Rattle.lists.specs.Groups.{found_at};
 ghost use Rattle.spds_solve.specs.Holders.{keyed_by_cell};
 
 use super::arrivals::Arrival;
-use auto_table::NoMemory;
-use lists::{Groups, Keyed};
+use lists::{Groups, Keyed, NoMemory};
 use std::alloc::Global;
 
 /// The sites that come to each cell of call systems, made once. Contracts of `holding` see what it was made of.

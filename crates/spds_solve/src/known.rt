@@ -1,6 +1,6 @@
 //! What is known of both ends of stores, and the pairs of sites that wait for a common call string.
 ghost use Rattle.std.specs.Prelude.{◌≡◌, ◌⊎◌, ◌<◌, ℕ, List, length, IfOk, OnOk};
-ghost use Rattle.jim_ast.specs.Lists.{Has};
+ghost use Rattle.lists.specs.Lists.{Has};
 ghost use Rattle.spds_solve.specs.declared.heads.Head.TheVariants.{Mark};
 ghost use Rattle.spds_solve.specs.declared.met.Met.{Met as AMet};
 ghost use Rattle.spds_solve.specs.Known.{AreSeen, AreStillAt, FitsAt, IsInRange, IsKnown, IsPairOf, Keeps, met_at, posts_at};
@@ -12,8 +12,8 @@ use super::ends::End;
 use super::heads::Head;
 use super::mets::Mets;
 use super::posts::{Post, Posts};
-use auto_table::NoMemory;
 use indexmap::IndexSet;
+use lists::NoMemory;
 use spds_tables::Met as Numbers;
 use std::alloc::Global;
 

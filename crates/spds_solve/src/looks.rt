@@ -1,6 +1,6 @@
 //! A look at the sites that changed: what their call strings at the ends of stores begin with, and which pairs meet now.
 ghost use Rattle.std.specs.Prelude.{◌≡◌, ◌↔◌, ◌<◌, ℕ, length, IsTrue, OnOk};
-ghost use Rattle.jim_ast.specs.Lists.{Has};
+ghost use Rattle.lists.specs.Lists.{Has};
 ghost use Rattle.spds_solve.specs.Known.{IsInRange, IsKnown, Keeps};
 ghost use Rattle.spds_solve.specs.Looks.{CountsAt, IsCandidateAt, IsGrownAt, IsNotedAt, IsNotedCell, IsNotedEnd, IsView};
 ghost use Rattle.spds_solve.specs.Mets.{numbers_of};
@@ -13,7 +13,7 @@ use super::known::Known;
 use super::mets::Mets;
 use super::posts::Post;
 use super::scan::{View, is_base, try_mets};
-use auto_table::NoMemory;
+use lists::NoMemory;
 use spds_tables::count_of;
 use std::alloc::Global;
 

@@ -2,10 +2,10 @@
 ghost use Rattle.std.specs.Prelude.{◌≡◌, IfOk};
 ghost use Rattle.spds_solve.specs.Mets.{call_at, numbers, string_of};
 
-use auto_table::NoMemory;
 use call_side::Calls;
 use jim_ast::List;
 use link_sites::Place;
+use lists::NoMemory;
 use spds_tables::Met as Numbers;
 use std::alloc::Global;
 

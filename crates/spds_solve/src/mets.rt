@@ -1,11 +1,11 @@
 //! The meets that were found.
 ghost use Rattle.std.specs.Prelude.{◌≡◌, ◌↔◌, [], ◌++◌, ◌∷◌, IsTrue, OnOk};
-ghost use Rattle.jim_ast.specs.Lists.{Has, IsApart};
+ghost use Rattle.lists.specs.Lists.{Has, IsApart};
 ghost use Rattle.spds_solve.specs.Mets.{numbers, numbers_of};
 
 use super::met::Met;
-use auto_table::NoMemory;
 use indexmap::IndexSet;
+use lists::NoMemory;
 use spds_tables::Met as Numbers;
 use std::alloc::Global;
 use std::marker::Model;
@@ -20,7 +20,7 @@ pub struct Mets {
 
 impl Model for Mets {
     ghost use Rattle.std.specs.Prelude.{◌≡◌, List};
-    ghost use Rattle.jim_ast.specs.Lists.{IsApart};
+    ghost use Rattle.lists.specs.Lists.{IsApart};
     ghost use Rattle.spds_solve.specs.Mets.{numbers_of};
     ghost use Rattle.spds_solve.specs.declared.met.Met.{Met};
 

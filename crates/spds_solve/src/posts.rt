@@ -1,14 +1,12 @@
 //! What is known of the call strings at the ends of stores.
 ghost use Rattle.std.specs.Prelude.{◌≡◌, ◌↔◌, ℕ, [], false, IfOk, OnOk};
-ghost use Rattle.jim_ast.specs.Lists.{Has};
-ghost use Rattle.lists.specs.Lists.{Adds};
+ghost use Rattle.lists.specs.Lists.{Has, Adds};
 ghost use Rattle.spds_solve.specs.declared.heads.Head.{Head as AHead};
 ghost use Rattle.spds_solve.specs.declared.posts.Post.{Post as APost};
 ghost use Rattle.spds_solve.specs.Posts.{IsPosted, key_at, Knows, post_of};
 
 use super::heads::Head;
-use auto_table::NoMemory;
-use lists::Numbered;
+use lists::{NoMemory, Numbered};
 use post_star::by_key::ByKey;
 use post_star::key::Key;
 use std::alloc::Global;

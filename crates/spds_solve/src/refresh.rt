@@ -5,7 +5,7 @@ ghost use Rattle.spds_tables.specs.declared.numbered.Met.{Met as AMet};
 ghost use Rattle.spds_tables.specs.Parts.{AreLedIn, IsInParts};
 ghost use Rattle.spds_tables.specs.Tables.{AreOpenFor};
 
-use auto_table::NoMemory;
+use lists::NoMemory;
 use piece_join::{Bring, Gate, bring_all, bring_here};
 use spds_tables::{Met, Parts, SiteTables, count_of};
 use std::alloc::Global;

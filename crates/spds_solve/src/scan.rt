@@ -1,6 +1,6 @@
 //! What the search for meets looks at, and what it asks of the tables of two sites.
 ghost use Rattle.std.specs.Prelude.{◌↔◌, ◌<◌, length, IfNone, IfOk, IfSome, IsTrue, OnOk};
-ghost use Rattle.jim_ast.specs.Lists.{Has};
+ghost use Rattle.lists.specs.Lists.{Has};
 ghost use Rattle.spds_solve.specs.Mets.{numbers_of};
 ghost use Rattle.spds_solve.specs.Searches.{HaveShared, IsShared};
 ghost use Rattle.spds_solve.specs.Looks.{IsBaseAt, IsCandidateAt, IsGrownAt, IsView};
@@ -11,10 +11,10 @@ use super::ends::Ends;
 use super::met::{Met, call_string};
 use super::mets::Mets;
 use super::refresh::Tables;
-use auto_table::NoMemory;
 use jim_ast::List;
 use link_program::Linked;
 use link_sites::{Place, Site};
+use lists::NoMemory;
 use spds_nodes::has_field;
 use spds_tables::{Met as Numbers, Parts, shared_word};
 use std::alloc::Global;

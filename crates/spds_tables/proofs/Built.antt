@@ -3,12 +3,12 @@ use Rattle.std.proofs.Common.{◌≡◌, ℕ, zero, suc, ◌<◌, Bool, true, fa
 use Rattle.std.specs.List.{flat_map, list_any}
 use Rattle.std.proofs.lemmas.Bool.Decides.{eqb_tells}
 use Rattle.std.proofs.lemmas.List.{append-nil, flat_map_more, take_more}
-use Rattle.demand_walk.proofs.Counts.{length-IsApart}
+use Rattle.demand_set.proofs.Counts.{length-IsApart}
 use Rattle.link_indexes.proofs.Grown.{Has-push}
 use Rattle.link_laws.proofs.Lists.{map_at}
 use Rattle.spds_tables.specs.declared.numbered.Jump.{Jump}
 use Rattle.auto_table.specs.declared.rule.Rule.{Rule}
-use Rattle.jim_ast.specs.Lists.{Has, IsApart}
+use Rattle.lists.specs.Lists.{Has, IsApart}
 use Rattle.post_star.specs.declared.bases.BaseStep.{BaseStep}
 use Rattle.post_star.specs.Derivations.{Leads}
 use Rattle.post_star.specs.Jobs.{Job}
@@ -18,10 +18,10 @@ use Rattle.spds_tables.specs.declared.parts.Parts.{Parts}
 use Rattle.spds_tables.specs.declared.tables.SiteTables.{SiteTables}
 use Rattle.spds_tables.specs.Parts.{AreLedIn, call_start, candidates, field_start, pushes_for, pushes_of, pushes_over, start_rows, starts_at}
 use Rattle.spds_tables.specs.Tables.{AreAdded, AreBuilt, AreBuiltWithin, AreOpenFor, AreSettled, IsAskedOf, IsCallJob, IsFieldJob, IsStoredTo, Opens, settled_of, settled_tables}
-use Rattle.call_work.proofs.Lists.{has-read}
+use Rattle.call_side.proofs.Lists.{has-read}
 use Rattle.spds_tables.proofs.Lists.{Has-left, Has-right}
 use Rattle.spds_tables.proofs.Questions.{has_one}
-use Rattle.auto_table.proofs.Keys.{Has-list_any}
+use Rattle.lists.proofs.Keys.{Has-list_any}
 use Rattle.spds_tables.specs.contracts.numbered.StartAtPartialEq.TheImpl.{eq-value}
 use Rattle.spds_tables.proofs.SameStart.{same, self}
 use Rattle.weight_laws.specs.declared.reach.Reach.{Reach}

@@ -1,6 +1,6 @@
 -- The call system of start nodes derives exactly the call strings that edges give from them, as words of the numbers of their calls.
 use Rattle.std.proofs.Common.{◌≡◌, ◌↔◌, ℕ, List, [], ◌∷◌, Some, slice_get, refl, ap, subst}
-use Rattle.jim_ast.specs.Lists.{Has}
+use Rattle.lists.specs.Lists.{Has}
 use Rattle.auto_table.specs.declared.rule.Rule.TheVariants as rule
 use Rattle.call_side.specs.Bases.{AreMarks}
 use Rattle.call_side.proofs.Order.{ordered_once}

@@ -1,8 +1,8 @@
 -- Elements of lists that grow, and of their fronts.
 use Rattle.std.proofs.Common.{◌≡◌, ℕ, zero, suc, ◌+◌, ◌⊎◌, List, [], ◌∷◌, ◌++◌, length, slice_get, Some, sym, ◌∙◌, subst, inl, inr}
 use Rattle.std.specs.List.{flat_map}
-use Rattle.jim_ast.specs.Lists.{Has}
-use Rattle.jim_ast.proofs.Places.{slice_get-append_left}
+use Rattle.lists.specs.Lists.{Has}
+use Rattle.lists.proofs.Places.{slice_get-append_left}
 use Rattle.link_laws.proofs.Lists.{slice_get-append_right}
 
 module _ {X : Type 0} where

@@ -8,12 +8,11 @@ use Rattle.call_side.specs.Bases.{AreLed, AreStrings, IsLast}
 use Rattle.call_side.specs.Calls.{AreTheCalls}
 use Rattle.call_side.proofs.CallStrings.{IsLed-by}
 use Rattle.demand_set.specs.Demands.{DemandParts, IsDemandOf, StartsAt}
-use Rattle.jim_ast.specs.Lists.{Has}
-use Rattle.jim_ast.proofs.Places.{slice_get-below, slice_get-there}
+use Rattle.lists.specs.Lists.{Has, Each, AreAll}
+use Rattle.lists.proofs.Places.{slice_get-below, slice_get-there}
 use Rattle.link_indexes.specs.Rows.{row}
 use Rattle.link_laws.proofs.Lists.{at_map, each_left, each_right, in_flat_map, map_at}
 use Rattle.link_rules.specs.Linked.{LinkedProgram}
-use Rattle.link_rules.specs.Lists.{Each}
 use Rattle.link_sites.specs.declared.place.Place.{Place}
 use Rattle.link_sites.specs.declared.site.Site.{Site}
 use Rattle.post_star.specs.Derivations.{Leads}
@@ -24,11 +23,11 @@ use Rattle.spds_rules.specs.declared.edge.EdgeKind.{EdgeKind}
 use Rattle.spds_rules.specs.declared.edge.EdgeKind.TheVariants as edge
 use Rattle.spds_rules.specs.declared.node.Node.{Node}
 use Rattle.spds_rules.specs.declared.store.StoreAt.{StoreAt}
-use Rattle.demand_walk.specs.declared.numbered.EdgeAt.{EdgeAt}
-use Rattle.demand_walk.specs.Numbers.{AreEdgesAt, IsEdgeAt}
-use Rattle.call_work.specs.Gathered.{AreGathered}
+use Rattle.demand_set.specs.declared.numbered.EdgeAt.{EdgeAt}
+use Rattle.demand_set.specs.Numbers.{AreEdgesAt, IsEdgeAt}
+use Rattle.call_side.specs.Gathered.{AreGathered}
 use Rattle.spds_tables.proofs.Lists.{Has-append}
-use Rattle.spds_rules.specs.Demand.{AreAll, Asked, Demanded, EdgeIn}
+use Rattle.spds_rules.specs.Demand.{Asked, Demanded, EdgeIn}
 use Rattle.spds_rules.specs.Nodes.{IsNode, site_of}
 use Rattle.spds_rules.specs.Systems.{KeepsCalls, KeepsFields}
 use Rattle.spds_tables.specs.declared.numbered.Jump.{Jump}

@@ -1,13 +1,13 @@
 -- What a call system asks for, taken one by one.
 use Rattle.std.proofs.Common.{◌≡◌, ℕ, zero, suc, ◌+◌, ◌<◌, ◌↔◌, ◌⊎◌, List, [], ◌∷◌, ◌++◌, length, get_or, take, Some, slice_get, refl, sym, ap, ◌∙◌, subst, inl, inr}
-use Rattle.jim_ast.specs.Lists.{Has}
+use Rattle.lists.specs.Lists.{Has}
 use Rattle.link_indexes.proofs.Grown.{Has-push}
 use Rattle.post_star.specs.Jobs.{Job}
 use Rattle.rule_cells.specs.Renamed.{number_in}
 use Rattle.spds_tables.specs.declared.numbered.Jump.{Jump}
 use Rattle.spds_tables.specs.declared.numbered.StartAt.{StartAt}
 use Rattle.spds_tables.specs.Tables.{ArrivesAt, IsJumpedTo}
-use Rattle.call_work.proofs.Lists.{Has-take_more}
+use Rattle.call_side.proofs.Lists.{Has-take_more}
 use Rattle.weight_laws.specs.declared.reach.Reach.{Reach}
 
 -- one more was looked at

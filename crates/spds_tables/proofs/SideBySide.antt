@@ -1,8 +1,8 @@
 -- Lists side by side, made element by element.
 use Rattle.std.proofs.Common.{◌≡◌, ℕ, ◌+◌, ◌<◌, List, [], ◌∷◌, ◌++◌, length, get_or, take, sym, subst, arith}
 use Rattle.std.proofs.lemmas.List.{take_all, take_more}
-use Rattle.demand_walk.proofs.EdgesAt.{Each-push}
-use Rattle.link_rules.specs.Lists.{Each}
+use Rattle.lists.proofs.SideBySide.{Each-push}
+use Rattle.lists.specs.Lists.{Each}
 
 module _ {X Y : Type 0} (R : X → Y → Type 0) where
   -- one more

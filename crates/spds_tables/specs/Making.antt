@@ -9,7 +9,7 @@ use Rattle.spds_rules.specs.declared.edge.EdgeKind.{EdgeKind}
 use Rattle.spds_rules.specs.declared.edge.EdgeKind.TheVariants as edge
 use Rattle.spds_rules.specs.declared.node.Node.{Node}
 use Rattle.spds_rules.specs.Nodes.{IsNode, site_of}
-use Rattle.demand_walk.specs.declared.numbered.EdgeAt.{EdgeAt}
+use Rattle.demand_set.specs.declared.numbered.EdgeAt.{EdgeAt}
 use Rattle.spds_tables.specs.declared.numbered.Jump.{Jump}
 use Rattle.spds_tables.specs.declared.numbered.StartAt.{StartAt}
 use Rattle.spds_tables.specs.PartsOf.{StandsFor}

@@ -6,7 +6,8 @@ use Rattle.link_sites.specs.declared.site.Site.{Site}
 use Rattle.call_side.specs.Calls.{AreTheCalls}
 use Rattle.spds_rules.specs.declared.node.Node.{Node}
 use Rattle.spds_rules.specs.declared.store.StoreAt.{StoreAt}
-use Rattle.spds_rules.specs.Demand.{AreAll, Asked, Demand, SiteIn, StoreIn}
+use Rattle.spds_rules.specs.Demand.{Asked, Demand, SiteIn, StoreIn}
+use Rattle.lists.specs.Lists.{AreAll}
 
 -- nodes, sites, stores and calls: the number of one is its place in its list
 pub record Names : Type 0 where

@@ -1,6 +1,6 @@
 -- The two systems of a site as weighted pushdown systems over truth: nodes, fields and calls are numbers, and everything weighs `one`.
 use Rattle.std.specs.Prelude.{◌≡◌, ◌↔◌, ℕ, List, [], Some, slice_get}
-use Rattle.jim_ast.specs.Lists.{Has}
+use Rattle.lists.specs.Lists.{Has}
 use Rattle.auto_table.specs.declared.rule.Rule.{Rule}
 use Rattle.auto_table.specs.declared.rule.Rule.TheVariants as rule
 use Rattle.link_rules.specs.Linked.{LinkedProgram}

@@ -1,7 +1,7 @@
 -- The tables of a site, and the start nodes that they ask for.
 use Rattle.std.specs.Prelude.{◌≡◌, ◌⊎◌, ◌↔◌, ◌++◌, ℕ, List, [], IsTrue, true, map}
 use Rattle.auto_table.specs.declared.rule.Rule.{Rule}
-use Rattle.jim_ast.specs.Lists.{Has, IsApart}
+use Rattle.lists.specs.Lists.{Has, IsApart}
 use Rattle.post_star.specs.declared.bases.Start.{Start}
 use Rattle.post_star.specs.Jobs.{Job}
 use Rattle.rule_cells.specs.Renamed.{number_in}

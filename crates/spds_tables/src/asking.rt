@@ -1,6 +1,6 @@
 //! The start nodes that the call system of a site asks for.
 ghost use Rattle.std.specs.Prelude.{◌≡◌, ◌↔◌, ◌⊎◌, [], ◌∷◌, true, IfOk, IsTrue, OnOk};
-ghost use Rattle.jim_ast.specs.Lists.{Has};
+ghost use Rattle.lists.specs.Lists.{Has};
 ghost use Rattle.spds_tables.specs.declared.numbered.Jump.{Jump as AJump};
 ghost use Rattle.spds_tables.specs.declared.numbered.StartAt.{StartAt as AStart};
 ghost use Rattle.spds_tables.specs.Tables.{AreArrivals, IsJumpedTo};
@@ -8,8 +8,8 @@ ghost use Rattle.spds_tables.specs.Tables.{AreArrivals, IsJumpedTo};
 use super::numbered::{Jump, StartAt};
 use super::parts::Parts;
 use super::tables::SiteTables;
-use auto_table::NoMemory;
 use indexmap::IndexSet;
+use lists::NoMemory;
 use rule_cells::number_of;
 use std::alloc::Global;
 

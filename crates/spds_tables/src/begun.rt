@@ -1,10 +1,10 @@
 //! The start nodes that a call system has.
 ghost use Rattle.std.specs.Prelude.{◌≡◌, ◌↔◌, [], IfOk, IsTrue, MatchBool, ◌++◌, ◌∷◌};
-ghost use Rattle.jim_ast.specs.Lists.{Has, IsApart};
+ghost use Rattle.lists.specs.Lists.{Has, IsApart};
 
 use super::numbered::StartAt;
-use auto_table::NoMemory;
 use indexmap::IndexSet;
+use lists::NoMemory;
 use std::alloc::Global;
 use std::marker::Model;
 
@@ -16,7 +16,7 @@ pub struct Begun {
 
 impl Model for Begun {
     ghost use Rattle.std.specs.Prelude.{List};
-    ghost use Rattle.jim_ast.specs.Lists.{IsApart};
+    ghost use Rattle.lists.specs.Lists.{IsApart};
     ghost use Rattle.spds_tables.specs.declared.numbered.StartAt.{StartAt};
 
     ghost Value = { List StartAt };

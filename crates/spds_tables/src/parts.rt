@@ -3,8 +3,7 @@ ghost use Rattle.std.specs.Prelude.{◌≡◌, ◌<◌, length};
 ghost use Rattle.spds_tables.specs.Parts.{call_cell, cells_at, field_cell, starts_at, store_at, store_nodes_at};
 
 use super::numbered::{CellsAt, Jump, StartAt, StoreNodes, Stored};
-use call_side::Calls;
-use call_work::{CallBases, CallCommon};
+use call_side::{CallBases, CallCommon, Calls};
 use post_star::Common;
 use rule_cells::number_of;
 use std::sync::Arc;

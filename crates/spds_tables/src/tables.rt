@@ -1,6 +1,6 @@
 //! The tables of one site.
 ghost use Rattle.std.specs.Prelude.{◌⊎◌, ◌≡◌, ◌<◌, ◌≤◌, ◌↔◌, ℕ, All, List, [], true, take, length, IfNone, IfOk, IfSome, IsTrue, Ok, OnOk, false, ◌++◌, ◌∷◌};
-ghost use Rattle.jim_ast.specs.Lists.{Has};
+ghost use Rattle.lists.specs.Lists.{Has};
 ghost use Rattle.spds_tables.specs.declared.numbered.Met.{Met as AMet};
 ghost use Rattle.spds_tables.specs.declared.numbered.StartAt.{StartAt as AStart};
 ghost use Rattle.spds_tables.specs.Parts.{AreLedIn, IsInParts, candidates};
@@ -13,9 +13,10 @@ use super::numbered::{Met, StartAt};
 use super::parts::Parts;
 use super::size::Size;
 use super::works::{add_field_starts, add_pushes, begin_all};
-use auto_table::{Entry, NoMemory};
-use call_work::{CallBases, CallWork, shared};
+use auto_table::Entry;
+use call_side::{CallBases, CallWork, shared_by_works};
 use indexmap::IndexSet;
+use lists::NoMemory;
 use post_star::Work;
 use std::alloc::Global;
 use weight_laws::Reach;
@@ -91,7 +92,7 @@ pub fn shared_word(
     ensures second { IfOk result (λ r. IfSome r (λ word. Reaches second.now.calls b word.items)) }
     ensures none { IfOk result (λ r. IfNone r ((word : List ℕ) → Reaches first.now.calls a word → Reaches second.now.calls b word → ⊥)) }
 {
-    shared(alloc, bases, &first.calls, a, &second.calls, b)
+    shared_by_works(alloc, bases, &first.calls, a, &second.calls, b)
 }
 
 /// Whether both tables give one call string at these cells.

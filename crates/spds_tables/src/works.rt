@@ -1,6 +1,6 @@
 //! Rules and starts of works.
 ghost use Rattle.std.specs.Prelude.{◌≡◌, ℕ, List, [], ◌↔◌, ◌⊎◌, ◌++◌, map, OnOk};
-ghost use Rattle.jim_ast.specs.Lists.{Has, IsApart};
+ghost use Rattle.lists.specs.Lists.{Has, IsApart};
 ghost use Rattle.post_star.specs.Derivations.{Leads};
 ghost use Rattle.spds_tables.specs.declared.numbered.StartAt.{StartAt as AStart};
 ghost use Rattle.spds_tables.specs.Parts.{call_start, field_start, push_to};
@@ -8,8 +8,9 @@ ghost use Rattle.spds_tables.specs.Tables.{AreAdded};
 
 use super::begun::Begun;
 use super::numbered::{StartAt, StoreNodes};
-use auto_table::{NoMemory, Rule};
-use call_work::CallWork;
+use auto_table::Rule;
+use call_side::CallWork;
+use lists::NoMemory;
 use post_star::{Start, Work};
 use rule_cells::number_of;
 use weight_laws::{Reach, Weight};

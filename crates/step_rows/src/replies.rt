@@ -4,10 +4,10 @@ ghost use Rattle.link_sites.specs.Places.{IsPlace};
 ghost use Rattle.link_sites.specs.Sites.{IsSite};
 ghost use Rattle.report_text.specs.Answers.{IsQueryNode};
 
-use jim_ast::NoMemory;
 use link_program::Linked;
 use link_sites::{Place, Site};
 use linked_text::{Rows, first_wrong};
+use lists::NoMemory;
 use report_text::{alias_text, answer_text, place_text, site_text};
 use spds_rules::{Node, Var};
 use std::alloc::Global;

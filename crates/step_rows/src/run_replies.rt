@@ -2,9 +2,9 @@
 ghost use Rattle.std.specs.Prelude.{◌↔◌, All, IsTrue};
 ghost use Rattle.std.specs.Char.{IsAsciiDigit};
 
-use jim_ast::NoMemory;
 use link_program::Linked;
 use linked_text::{Rows, first_wrong};
+use lists::NoMemory;
 use run_report::run_text;
 use std::alloc::Global;
 use std::test::Fail;

@@ -2,11 +2,11 @@
 ghost use Rattle.std.specs.Prelude.{◌<◌, IfOk, IfSome, length};
 ghost use Rattle.step_rules.specs.Shapes.{FitsValue, IsKnown};
 
-use jim_ast::NoMemory;
 use jim_step::{Machine, start};
 use link_program::Linked;
 use link_sites::{Place, Site};
 use linked_text::{Rows, first_wrong};
+use lists::NoMemory;
 use std::alloc::Global;
 use std::test::Fail;
 use step_rules::{Moved, Slot, Value};

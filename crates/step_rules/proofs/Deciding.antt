@@ -3,9 +3,9 @@ use Rattle.std.proofs.Common.{◌≡◌, ℕ, zero, suc, ◌+◌, ◌<◌, ◌�
 use Rattle.std.proofs.lemmas.Bool.{cases_eq, cases_lt}
 use Rattle.class_tree.proofs.Decided.{IsDecided, anywhere_decided, both_decided, resolve_decided, same_decided, sub_decided, there_decided}
 use Rattle.class_tree.specs.Lookups.{Resolve}
-use Rattle.class_tree.specs.Paths.{IsLeast}
+use Rattle.lists.specs.Lists.{IsLeast}
 use Rattle.class_tree.specs.Rows.{Sub}
-use Rattle.jim_ast.proofs.Places.{slice_get-below}
+use Rattle.lists.proofs.Places.{slice_get-below}
 use Rattle.link_rules.specs.Accessed.{field_class}
 use Rattle.link_rules.specs.declared.code.Catch.{Catch}
 use Rattle.link_rules.specs.declared.code.Code.{Code}

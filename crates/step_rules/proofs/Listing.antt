@@ -3,7 +3,7 @@ use Rattle.std.proofs.Common.{◌≡◌, ◌≢◌, ℕ, zero, suc, ◌<◌, Lis
 use Rattle.std.specs.List.{slice_set}
 use Rattle.std.proofs.lemmas.Bool.Decides.{eqb_tells}
 use Rattle.std.proofs.lemmas.Option.{get_or_from_slice_get}
-use Rattle.jim_ast.proofs.Places.{slice_get-below, slice_get-pushed, slice_get-set_other, slice_get-set_same}
+use Rattle.lists.proofs.Places.{slice_get-below, slice_get-pushed, slice_get-set_other, slice_get-set_same}
 use Rattle.step_rules.specs.Shapes.{EachOf}
 
 module _ {X : Type 0} (P : X → Type 0) where

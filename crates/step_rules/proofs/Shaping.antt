@@ -2,7 +2,7 @@
 use Rattle.std.proofs.Common.{◌≡◌, ◌≢◌, ℕ, ◌+◌, ◌<◌, ◌≤◌, List, [], ◌∷◌, ◌++◌, Option, Some, None, true, false, IfSome, eqb, length, slice_get, refl, sym, ap, ◌∙◌, ◌⊎◌, subst, arith, inl, inr, length-append, length-set}
 use Rattle.std.specs.List.{slice_set}
 use Rattle.std.proofs.lemmas.Bool.Decides.{eqb_tells}
-use Rattle.jim_ast.proofs.Places.{slice_get-below, slice_get-set_other, slice_get-set_same, slice_get-there}
+use Rattle.lists.proofs.Places.{slice_get-below, slice_get-set_other, slice_get-set_same, slice_get-there}
 use Rattle.link_rules.specs.declared.code.Code.{Code}
 use Rattle.link_rules.specs.declared.code.Code.TheVariants.{Call}
 use Rattle.link_rules.specs.Linked.{LinkedMethod, LinkedProgram}

@@ -2,10 +2,10 @@
 ghost use Rattle.call_side.specs.Calls.{AreTheCalls};
 
 use call_side::{Calls, bases};
-use jim_ast::NoMemory;
 use link_program::Linked;
 use linked_text::spelled::call;
 use linked_text::{Rows, first_wrong};
+use lists::NoMemory;
 use post_star::BaseStep;
 use std::alloc::Global;
 use std::test::Fail;

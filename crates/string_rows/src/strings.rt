@@ -1,6 +1,7 @@
 //! Words that two tables share, and the ways of bases to the root.
-use auto_table::{Entry, NoMemory, Table};
+use auto_table::{Entry, Table};
 use call_side::{IndexedBases, entries_at, shared, shared_at, shared_from};
+use lists::NoMemory;
 use post_star::{BaseStep, Bases, value};
 use std::alloc::Global;
 use std::test::Fail;

@@ -1,7 +1,7 @@
 -- The lines of a verdict.
 use Rattle.std.proofs.Common.{◌≡◌, ℕ, zero, suc, ◌<◌, ◌++◌, List, [], ◌∷◌, Some, codes, length, slice_get, refl, ap, ◌∙◌, append_assoc}
 use Rattle.std.specs.Fmt.{decimal}
-use Rattle.jim_ast.proofs.Places.{slice_get-there}
+use Rattle.lists.proofs.Places.{slice_get-there}
 use Rattle.link_rules.specs.Accessed.{At}
 use Rattle.link_rules.specs.Linked.{LinkedProgram}
 use Rattle.report_text.specs.Lines.{AddsLine}

@@ -2,7 +2,7 @@
 use Rattle.std.specs.Prelude.{◌≡◌, ℕ, zero, suc, ◌++◌, List, [], ◌∷◌, Some, codes, length, slice_get}
 use Rattle.std.specs.Fmt.{decimal}
 use Rattle.link_rules.specs.Linked.{LinkedClass, LinkedProgram}
-use Rattle.link_rules.specs.Lists.{Each}
+use Rattle.lists.specs.Lists.{Each}
 use Rattle.report_text.specs.Lines.{text_of}
 use Rattle.report_text.specs.Texts.{IsPlaceText, IsSiteText}
 use Rattle.track_rules.specs.Protocols.{ProtocolParts}

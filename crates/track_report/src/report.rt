@@ -1,12 +1,12 @@
 //! The text of a verdict.
 ghost use Rattle.std.specs.Prelude.{◌≡◌, ◌<◌, ◌++◌, All, IfOk, OnOk, length, string_bytes};
-ghost use Rattle.link_rules.specs.Lists.{Each};
+ghost use Rattle.lists.specs.Lists.{Each};
 ghost use Rattle.report_text.specs.Lines.{AddsLine, AddsLines, text_of};
 ghost use Rattle.track_report.specs.Reports.{IsHeadLine, IsUnsafeLine, IsVerdictText, verdict_lines};
 ghost use Rattle.track_verdicts.specs.Verdicts.{IsTellable};
 
-use jim_ast::NoMemory;
 use link_program::Linked;
+use lists::NoMemory;
 use protocol_words::Protocol;
 use report_text::{push_place_text, push_site_text};
 use std::alloc::Global;

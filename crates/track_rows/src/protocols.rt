@@ -1,7 +1,7 @@
 //! Spelled over a small program, with what is told of each, by hand.
-use jim_ast::NoMemory;
 use link_program::Linked;
 use linked_text::{Rows, first_wrong};
+use lists::NoMemory;
 use protocol_words::{Protocol, ProtocolError, read_protocol};
 use std::alloc::Global;
 use std::test::Fail;

@@ -3,10 +3,8 @@
 -- them. The first part is `CLASS STATE`, each part behind it, a row, is `STATE EVENT STATE`.
 use Rattle.std.specs.Prelude.{◌≡◌, ℕ, zero, suc, ◌<◌, ◌≤◌, ◌⊎◌, ◌++◌, List, [], ◌∷◌, Some, flat_map, length, map, slice_get, take}
 use Rattle.std.specs.List.{join_with_byte}
-use Rattle.class_tree.specs.Paths.{IsLeast}
-use Rattle.jim_ast.specs.Lists.{Has, IsApart}
+use Rattle.lists.specs.Lists.{IsLeast, Has, IsApart, Each, FirstSeen}
 use Rattle.link_rules.specs.Linked.{LinkedProgram}
-use Rattle.link_rules.specs.Lists.{Each, FirstSeen}
 use Rattle.link_rules.specs.Accessed.{linked_class_names}
 use Rattle.link_sites.specs.Sites.{IsNamedClass}
 use Rattle.track_rules.specs.declared.row.ProtocolRow.{ProtocolRow}

@@ -1,7 +1,7 @@
 -- A monitor misses no run.
 use Rattle.std.proofs.Common.{◌≡◌, ℕ, ◌+◌, ◌<◌, ◌≤◌, ◌-◌, ◌⊎◌, ◌++◌, List, length, length-append, length-set, replicate, slice_get, slice_set, suc, Some, refl, sym, ◌∙◌, inl, inr, arith}
 use Rattle.std.proofs.lemmas.List.{length-replicate}
-use Rattle.jim_ast.proofs.Places.{slice_get-below, slice_get-there}
+use Rattle.lists.proofs.Places.{slice_get-below, slice_get-there}
 use Rattle.link_rules.specs.Linked.{LinkedProgram}
 use Rattle.step_rules.specs.Runs.{IsFirstState, Run}
 use Rattle.step_rules.specs.States.{State}

@@ -1,6 +1,6 @@
 -- A step within a frame: what its slots hold then is held.
 use Rattle.std.proofs.Common.{◌≡◌, ℕ, ◌<◌, Bool, true, false, List, Some, length, slice_get, refl, sym, ap, subst, inl, inr}
-use Rattle.jim_ast.proofs.Places.{slice_get-below, slice_get-push}
+use Rattle.lists.proofs.Places.{slice_get-below, slice_get-push}
 use Rattle.link_laws.proofs.Lists.{map_at}
 use Rattle.link_rules.specs.declared.code.Code.{Code}
 use Rattle.link_rules.specs.Linked.{LinkedProgram}

@@ -1,7 +1,7 @@
 -- The states of objects, as steps change them.
 use Rattle.std.proofs.Common.{◌≡◌, ℕ, zero, suc, ◌+◌, ◌-◌, ◌<◌, ◌≤◌, ◌++◌, List, Some, length, length-append, replicate, slice_get, refl, sym, ap, ◌∙◌, subst, inl, inr, arith}
 use Rattle.std.proofs.lemmas.List.{length-replicate}
-use Rattle.jim_ast.proofs.Places.{slice_get-append_left, slice_get-below, slice_get-there}
+use Rattle.lists.proofs.Places.{slice_get-append_left, slice_get-below, slice_get-there}
 use Rattle.link_laws.proofs.Lists.{at_map, map_at, slice_get-append_right, slice_get-appended}
 use Rattle.link_rules.specs.Linked.{LinkedProgram}
 use Rattle.spds_rules.specs.Demand.{Asked}

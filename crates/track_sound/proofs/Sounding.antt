@@ -1,6 +1,6 @@
 -- The systems of sites lie above the states of objects, and where nothing is found no run breaks the protocol.
 use Rattle.std.proofs.Common.{◌≡◌, ℕ, ◌++◌, List, [], ◌∷◌, Some, length, slice_get, sym, ap, ◌∙◌, subst, inl, inr, arith}
-use Rattle.jim_ast.proofs.Places.{slice_get-append_left, slice_get-push, slice_get-pushed}
+use Rattle.lists.proofs.Places.{slice_get-append_left, slice_get-push, slice_get-pushed, slice_get-below}
 use Rattle.link_laws.proofs.Lists.{map_at}
 use Rattle.link_laws.proofs.Whole.{links_well}
 use Rattle.run_covers.proofs.Whole.{links_covered}
@@ -13,7 +13,6 @@ use Rattle.step_rules.specs.Runs.{Run}
 use Rattle.step_rules.specs.States.{Frame, HeapObject, State, place_of}
 use Rattle.run_sound.specs.Frames.{node_of, places_of, string_of}
 use Rattle.run_sound.proofs.Waiting.{string_below, string_top}
-use Rattle.jim_ast.proofs.Places.{slice_get-below}
 use Rattle.track_rules.specs.Protocols.{ProtocolParts}
 use Rattle.track_runs.specs.Monitor.{IsBroken, IsTracked, before, here}
 use Rattle.track_systems.specs.Events.{IsAskedBy}

@@ -1,6 +1,6 @@
 -- What stands for an object at the frame on top, or was loaded there, is held.
 use Rattle.std.proofs.Common.{◌≡◌, ℕ, ◌⊎◌, List, [], Some, length, slice_get, refl, sym, ap, ◌∙◌, subst, inl, inr, arith}
-use Rattle.jim_ast.proofs.Places.{slice_get-below, slice_get-push, slice_get-there}
+use Rattle.lists.proofs.Places.{slice_get-below, slice_get-push, slice_get-there}
 use Rattle.link_laws.proofs.Lists.{map_at}
 use Rattle.link_rules.specs.Linked.{LinkedProgram}
 use Rattle.link_sites.specs.declared.place.Place.{Place}

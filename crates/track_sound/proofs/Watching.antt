@@ -3,7 +3,7 @@ use Rattle.std.proofs.Common.{◌≡◌, ◌≢◌, ℕ, zero, suc, ◌+◌, ◌
 use Rattle.std.specs.List.{slice_set}
 use Rattle.std.proofs.lemmas.Bool.Decides.{eqb_tells}
 use Rattle.std.proofs.lemmas.List.{length-replicate}
-use Rattle.jim_ast.proofs.Places.{slice_get-below, slice_get-push, slice_get-set_other, slice_get-set_same, slice_get-there}
+use Rattle.lists.proofs.Places.{slice_get-below, slice_get-push, slice_get-set_other, slice_get-set_same, slice_get-there}
 use Rattle.link_laws.proofs.Lists.{at_map, map_at}
 use Rattle.link_rules.specs.Linked.{LinkedProgram}
 use Rattle.link_rules.specs.WellLinked.{IsWellLinked}

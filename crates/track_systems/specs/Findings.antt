@@ -1,6 +1,6 @@
 -- What an analysis under a protocol finds.
 use Rattle.std.specs.Prelude.{◌≡◌, ◌↔◌, ℕ, ◌<◌, ◌⊎◌, List, AllPairs}
-use Rattle.jim_ast.specs.Lists.{Has}
+use Rattle.lists.specs.Lists.{Has}
 use Rattle.link_rules.specs.Linked.{LinkedProgram}
 use Rattle.link_sites.specs.declared.place.Place.{Place}
 use Rattle.link_sites.specs.declared.site.Site.{Site}

@@ -1,14 +1,14 @@
 -- Rules that come one after the other, of edges back from calls.
 use Rattle.std.proofs.Common.{◌≡◌, ℕ, ◌+◌, ◌<◌, List, length, get_or, take, slice_get, Some, sym, subst, inl, inr}
 use Rattle.auto_table.specs.declared.rule.Rule.{Rule}
-use Rattle.demand_walk.specs.declared.numbered.EdgeAt.{EdgeAt}
-use Rattle.jim_ast.specs.Lists.{Has}
+use Rattle.demand_set.specs.declared.numbered.EdgeAt.{EdgeAt}
+use Rattle.lists.specs.Lists.{Has}
 use Rattle.link_rules.specs.Linked.{LinkedProgram}
 use Rattle.link_sites.specs.declared.place.Place.{Place}
 use Rattle.link_sites.specs.declared.site.Site.{Site}
 use Rattle.spds_rules.specs.declared.node.Node.{Node}
 use Rattle.spds_rules.specs.Demand.{Asked}
-use Rattle.call_work.proofs.Lists.{Has-take_more}
+use Rattle.call_side.proofs.Lists.{Has-take_more}
 use Rattle.track_rules.specs.Protocols.{ProtocolParts}
 use Rattle.track_tables.specs.declared.returns.Return.{Return}
 use Rattle.track_tables.specs.Making.{AreOf, IsBackAmong}

@@ -3,9 +3,9 @@ use Rattle.std.proofs.Common.{◌≡◌, ◌↔◌, ◌⊎◌, ℕ, ◌+◌, ◌
 use Rattle.call_side.specs.Bases.{AreLed, IsLast}
 use Rattle.call_side.specs.Trails.{AreKept}
 use Rattle.demand_set.specs.Demands.{DemandParts}
-use Rattle.held_places.specs.Held.{AreHeldAt}
-use Rattle.jim_ast.specs.Lists.{Has}
-use Rattle.jim_ast.proofs.Places.{slice_get-below}
+use Rattle.track_tables.specs.Held.{AreHeldAt}
+use Rattle.lists.specs.Lists.{Has}
+use Rattle.lists.proofs.Places.{slice_get-below}
 use Rattle.link_indexes.proofs.Grown.{Has-push}
 use Rattle.link_rules.specs.Linked.{LinkedProgram}
 use Rattle.link_sites.specs.declared.site.Site.{Site}
@@ -17,7 +17,7 @@ use Rattle.spds_rules.specs.Answers.{IsAnswered}
 use Rattle.spds_rules.specs.Demand.{Asked}
 use Rattle.site_events.specs.Events.{AreAtPlaces}
 use Rattle.spds_rules.specs.Nodes.{IsNode}
-use Rattle.call_work.proofs.Lists.{Has-take_more}
+use Rattle.call_side.proofs.Lists.{Has-take_more}
 use Rattle.track_tables.specs.declared.growth.Growth.{Growth}
 use Rattle.track_tables.specs.Making.{AreAnswering, HasBegun}
 use Rattle.track_tables.proofs.Growing.{kept_has}

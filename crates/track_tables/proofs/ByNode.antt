@@ -5,9 +5,9 @@ use Rattle.std.proofs.lemmas.List.{take_all}
 use Rattle.auto_table.specs.declared.entry.Entry.{Entry}
 use Rattle.auto_table.specs.declared.row.Reached.{Reached}
 use Rattle.auto_table.specs.Cells.{AreMeant, Cells, IsListed, IsRow, by_weight, weight_at}
-use Rattle.call_work.specs.Gathered.{AreGathered}
-use Rattle.call_work.proofs.Lists.{Has-take_more}
-use Rattle.jim_ast.specs.Lists.{Has}
+use Rattle.call_side.specs.Gathered.{AreGathered}
+use Rattle.call_side.proofs.Lists.{Has-take_more}
+use Rattle.lists.specs.Lists.{Has}
 use Rattle.link_indexes.proofs.Grown.{Has-push}
 use Rattle.lists.specs.declared.groups.Keyed.{Keyed}
 use Rattle.lists.specs.Filings.{kept_if}

@@ -2,8 +2,8 @@
 use Rattle.std.proofs.Common.{◌≡◌, ◌↔◌, ◌⊎◌, ℕ, List, [], ◌∷◌, ◌++◌, ap, sym, subst, inl, inr}
 use Rattle.std.proofs.lemmas.Bool.{cases_eq}
 use Rattle.call_side.specs.Indexed.{IsFiledBy}
-use Rattle.demand_walk.specs.declared.numbered.EdgeAt.{EdgeAt}
-use Rattle.jim_ast.specs.Lists.{Has}
+use Rattle.demand_set.specs.declared.numbered.EdgeAt.{EdgeAt}
+use Rattle.lists.specs.Lists.{Has}
 use Rattle.link_indexes.proofs.Grown.{Has-push}
 use Rattle.post_star.specs.declared.key.Key.TheVariants as key
 use Rattle.post_star.specs.Groups.{Groups, IsAdded, found_at}

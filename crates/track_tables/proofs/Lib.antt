@@ -9,3 +9,5 @@ pub mod Going
 pub mod Beginning
 pub mod Made
 pub mod ByNode
+pub mod Noting
+pub mod There

@@ -4,9 +4,9 @@ use Rattle.auto_table.specs.declared.rule.Rule.{Rule}
 use Rattle.auto_table.specs.declared.rule.Rule.TheVariants as rule
 use Rattle.call_side.specs.Bases.{AreStrings, IsLast}
 use Rattle.demand_set.specs.Demands.{DemandParts, IsDemandOf, StartsAt}
-use Rattle.demand_walk.specs.declared.numbered.EdgeAt.{EdgeAt}
-use Rattle.demand_walk.specs.Numbers.{AreEdgesAt, IsEdgeAt}
-use Rattle.jim_ast.specs.Lists.{Has}
+use Rattle.demand_set.specs.declared.numbered.EdgeAt.{EdgeAt}
+use Rattle.demand_set.specs.Numbers.{AreEdgesAt, IsEdgeAt}
+use Rattle.lists.specs.Lists.{Has, AreAll}
 use Rattle.link_laws.proofs.Lists.{each_left, each_right}
 use Rattle.link_rules.specs.Linked.{LinkedProgram}
 use Rattle.link_sites.specs.declared.place.Place.{Place}
@@ -25,7 +25,7 @@ use Rattle.spds_rules.specs.declared.edge.EdgeKind.TheVariants as edge
 use Rattle.spds_rules.specs.declared.node.Node.{Node}
 use Rattle.spds_rules.specs.Answers.{IsAnswered}
 use Rattle.spds_rules.specs.Nodes.{site_of}
-use Rattle.spds_rules.specs.Demand.{AreAll, Asked, Demanded, EdgeIn, StartIn}
+use Rattle.spds_rules.specs.Demand.{Asked, Demanded, EdgeIn, StartIn}
 use Rattle.track_rules.specs.Protocols.{ProtocolParts}
 use Rattle.track_systems.specs.Track.{IsLoaded, IsMade}
 use Rattle.track_systems.specs.Values.{IsWeight}

@@ -2,8 +2,8 @@
 use Rattle.std.proofs.Common.{◌≡◌, ◌↔◌, ◌⊎◌, ℕ, ◌+◌, ◌<◌, List, [], ◌∷◌, ◌++◌, length, get_or, take, Some, None, slice_get, true, refl, sym, ap, ◌∙◌, subst, inl, inr, rules}
 use Rattle.auto_table.specs.declared.rule.Rule.{Rule}
 use Rattle.auto_table.specs.declared.rule.Rule.TheVariants as rule
-use Rattle.demand_walk.specs.declared.numbered.EdgeAt.{EdgeAt}
-use Rattle.jim_ast.specs.Lists.{Has}
+use Rattle.demand_set.specs.declared.numbered.EdgeAt.{EdgeAt}
+use Rattle.lists.specs.Lists.{Has}
 use Rattle.link_indexes.proofs.Grown.{Has-push}
 use Rattle.link_rules.specs.Linked.{LinkedProgram}
 use Rattle.link_sites.specs.declared.place.Place.{Place}
@@ -13,7 +13,7 @@ use Rattle.spds_rules.specs.declared.edge.EdgeKind.{EdgeKind}
 use Rattle.spds_rules.specs.declared.edge.EdgeKind.TheVariants as edge
 use Rattle.spds_rules.specs.declared.node.Node.{Node}
 use Rattle.spds_rules.specs.Demand.{Asked}
-use Rattle.call_work.proofs.Lists.{Has-take_more}
+use Rattle.call_side.proofs.Lists.{Has-take_more}
 use Rattle.track_rules.specs.Protocols.{ProtocolParts}
 use Rattle.track_systems.specs.Track.{IsLoaded}
 use Rattle.track_systems.specs.Values.{IsWeight}

@@ -1,7 +1,7 @@
 -- Marks of the words that lead from bases.
 use Rattle.std.proofs.Common.{◌≡◌, ◌⊎◌, ℕ, zero, suc, ◌+◌, List, [], ◌∷◌, Some, slice_get, sym, subst, inl, inr}
 use Rattle.call_side.specs.Trails.{AreKept}
-use Rattle.jim_ast.specs.Lists.{Has}
+use Rattle.lists.specs.Lists.{Has}
 use Rattle.post_star.specs.declared.bases.BaseStep.{BaseStep}
 use Rattle.post_star.specs.Derivations.{Leads, step_of}
 use Rattle.track_tables.specs.Making.{IsOpenAbove, IsPast}

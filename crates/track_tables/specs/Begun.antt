@@ -1,7 +1,7 @@
 -- The starts of a site.
 use Rattle.std.specs.Prelude.{◌≡◌, ◌↔◌, ℕ, ◌<◌, []}
 use Rattle.demand_set.specs.Demands.{DemandParts}
-use Rattle.jim_ast.specs.Lists.{Has}
+use Rattle.lists.specs.Lists.{Has}
 use Rattle.link_rules.specs.Linked.{LinkedProgram}
 use Rattle.link_sites.specs.declared.site.Site.{Site}
 use Rattle.post_star.specs.declared.bases.Start.{Start}

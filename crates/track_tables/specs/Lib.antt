@@ -3,3 +3,5 @@ pub mod Making
 pub mod Begun
 pub mod ByNode
 pub mod Returns
+pub mod Noted
+pub mod Held

@@ -7,10 +7,10 @@ use Rattle.call_side.specs.Calls.{AreTheCalls}
 use Rattle.call_side.specs.Indexed.{IsFiledBy, base_key}
 use Rattle.call_side.specs.Trails.{AreKept}
 use Rattle.demand_set.specs.Demands.{DemandParts}
-use Rattle.demand_walk.specs.declared.numbered.EdgeAt.{EdgeAt}
-use Rattle.demand_walk.specs.Numbers.{AreEdgesAt}
-use Rattle.held_places.specs.Held.{AreHeldIn}
-use Rattle.jim_ast.specs.Lists.{Has}
+use Rattle.demand_set.specs.declared.numbered.EdgeAt.{EdgeAt}
+use Rattle.demand_set.specs.Numbers.{AreEdgesAt}
+use Rattle.track_tables.specs.Held.{AreHeldIn}
+use Rattle.lists.specs.Lists.{Has}
 use Rattle.lists.specs.Groups.{Grouped}
 use Rattle.link_rules.specs.Linked.{LinkedProgram}
 use Rattle.link_sites.specs.declared.place.Place.{Place}
@@ -27,7 +27,7 @@ use Rattle.spds_rules.specs.declared.node.Node.{Node}
 use Rattle.spds_rules.specs.Answers.{IsAnswered}
 use Rattle.spds_rules.specs.Demand.{Asked}
 use Rattle.spds_rules.specs.Nodes.{IsNode}
-use Rattle.call_work.specs.Gathered.{AreGathered}
+use Rattle.call_side.specs.Gathered.{AreGathered}
 use Rattle.track_rules.specs.Protocols.{ProtocolParts}
 use Rattle.track_systems.specs.Track.{IsLoaded}
 use Rattle.track_systems.specs.Values.{IsWeight}

@@ -1,14 +1,14 @@
 -- Edges back from calls.
 use Rattle.std.specs.Prelude.{◌≡◌, ℕ, List, Some, slice_get}
 use Rattle.call_side.specs.Indexed.{IsFiledBy}
-use Rattle.demand_walk.specs.declared.numbered.EdgeAt.{EdgeAt}
+use Rattle.demand_set.specs.declared.numbered.EdgeAt.{EdgeAt}
 use Rattle.link_sites.specs.declared.place.Place.{Place}
 use Rattle.post_star.specs.declared.key.Key.{Key}
 use Rattle.post_star.specs.declared.key.Key.TheVariants as key
 use Rattle.post_star.specs.Groups.{Groups}
 use Rattle.spds_rules.specs.declared.edge.EdgeKind.{EdgeKind}
 use Rattle.spds_rules.specs.declared.edge.EdgeKind.TheVariants.{Flow, Load, Call, Return, Jump}
-use Rattle.call_work.specs.Gathered.{AreGathered}
+use Rattle.call_side.specs.Gathered.{AreGathered}
 use Rattle.track_tables.specs.declared.returns.Return.{Return as AReturn}
 
 -- an edge of this kind comes back from the call with the mark

@@ -7,7 +7,7 @@ use Rattle.auto_table.specs.declared.rule.Rule.TheVariants as rule
 use Rattle.call_side.specs.Bases.{AreStrings, IsLast}
 use Rattle.call_side.specs.Calls.{AreTheCalls}
 use Rattle.demand_set.specs.Demands.{DemandParts, IsDemandOf}
-use Rattle.jim_ast.specs.Lists.{Has}
+use Rattle.lists.specs.Lists.{Has}
 use Rattle.link_rules.specs.Linked.{LinkedProgram}
 use Rattle.link_sites.specs.declared.place.Place.{Place}
 use Rattle.link_sites.specs.declared.site.Site.{Site}

@@ -2,13 +2,13 @@
 ghost use Rattle.std.specs.Prelude.{◌↔◌, ◌⊎◌, ℕ, IfOk, OnOk};
 ghost use Rattle.auto_table.specs.declared.entry.Entry.{Entry as AnEntry};
 ghost use Rattle.auto_table.specs.Cells.{AreMeant};
-ghost use Rattle.jim_ast.specs.Lists.{Has};
+ghost use Rattle.lists.specs.Lists.{Has};
 ghost use Rattle.lists.specs.declared.groups.Keyed.{Keyed as AKeyed};
 ghost use Rattle.track_tables.specs.ByNode.{AreByNode, AreCells, IsCellOf};
 ghost use Rattle.weight_laws.specs.Rel.{rel_domain};
 
-use auto_table::{Entry, NoMemory, Reached, Table};
-use lists::{Groups, Keyed};
+use auto_table::{Entry, Reached, Table};
+use lists::{Groups, Keyed, NoMemory};
 use std::alloc::Global;
 use weight_laws::Rel;
 

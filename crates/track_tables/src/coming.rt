@@ -1,6 +1,6 @@
 //! Back from calls, over the marks that are open alone: the time goes by these, and not by all calls of a method.
 ghost use Rattle.std.specs.Prelude.{◌≡◌, ◌≤◌, ℕ, Some, length, slice_get, IsTrue, OnOk};
-ghost use Rattle.jim_ast.specs.Lists.{Has};
+ghost use Rattle.lists.specs.Lists.{Has};
 ghost use Rattle.link_sites.specs.declared.site.Site.{Site};
 ghost use Rattle.site_events.specs.Sites.{AreEventsOf};
 ghost use Rattle.spds_rules.specs.Demand.{Asked};
@@ -12,7 +12,7 @@ use super::given::SolvedDemand;
 use super::growth::Growth;
 use super::returns::Return;
 use super::rules::add_edge;
-use auto_table::NoMemory;
+use lists::NoMemory;
 use site_events::SiteEvents;
 
 /// Puts the rule of the edge back from a call last, if it is due.

@@ -1,6 +1,6 @@
 //! A system of rules and starts that grows.
 ghost use Rattle.std.specs.Prelude.{◌≡◌, ◌<◌, ◌^◌, length, slice_get, IsTrue};
-ghost use Rattle.jim_ast.specs.Lists.{Has};
+ghost use Rattle.lists.specs.Lists.{Has};
 ghost use Rattle.track_tables.specs.Making.{IsPast};
 
 use lists::Numbered;

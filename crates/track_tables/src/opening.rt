@@ -2,7 +2,7 @@
 ghost use Rattle.std.specs.Prelude.{◌≡◌, ◌<◌, ◌^◌, ℕ, Some, length, slice_get, IfOk, OnOk};
 ghost use Rattle.call_side.specs.Indexed.{IsFiledBy, base_key};
 ghost use Rattle.call_side.specs.Trails.{AreKept};
-ghost use Rattle.jim_ast.specs.Lists.{Has};
+ghost use Rattle.lists.specs.Lists.{Has};
 ghost use Rattle.post_star.specs.declared.bases.BaseStep.{BaseStep as AStep};
 ghost use Rattle.spds_rules.specs.declared.node.Node.{Node as ANode};
 ghost use Rattle.track_tables.specs.Making.{AreOpenFrom, AreTrackParts, IsOpenAbove};
@@ -10,8 +10,7 @@ ghost use Rattle.track_tables.specs.Making.{AreOpenFrom, AreTrackParts, IsOpenAb
 use super::given::{SolvedDemand, node_at};
 use super::growth::Growth;
 use super::parts::TrackParts;
-use auto_table::NoMemory;
-use lists::Numbered;
+use lists::{NoMemory, Numbered};
 use post_star::BaseStep;
 use spds_rules::Node;
 use std::alloc::Global;

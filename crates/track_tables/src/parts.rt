@@ -3,8 +3,8 @@ ghost use Rattle.std.specs.Prelude.{◌≡◌, ◌↔◌, ◌⊎◌, ℕ, [], If
 ghost use Rattle.call_side.specs.Bases.{AreLed, AreStrings, IsLast};
 ghost use Rattle.call_side.specs.Calls.{AreTheCalls};
 ghost use Rattle.call_side.specs.Indexed.{IsFiledBy, base_key};
-ghost use Rattle.demand_walk.specs.declared.numbered.EdgeAt.{EdgeAt as AnEdge};
-ghost use Rattle.jim_ast.specs.Lists.{Has};
+ghost use Rattle.demand_set.specs.declared.numbered.EdgeAt.{EdgeAt as AnEdge};
+ghost use Rattle.lists.specs.Lists.{Has};
 ghost use Rattle.link_rules.specs.WellLinked.{IsWellLinked};
 ghost use Rattle.post_star.specs.declared.key.Key.TheVariants as key;
 ghost use Rattle.post_star.specs.declared.bases.BaseStep.{BaseStep as AStep};
@@ -14,12 +14,11 @@ ghost use Rattle.track_tables.specs.Returns.{AreReturns};
 ghost use Rattle.track_tables.specs.Making.{AreLoaded, AreOnward, AreTrackParts, IsOnward, IsOnwardFrom};
 
 use super::returns::Returns;
-use auto_table::NoMemory;
 use call_side::{Calls, bases};
-use demand_set::Demand;
-use demand_walk::EdgeAt;
+use demand_set::{Demand, EdgeAt};
 use indexmap::IndexSet;
 use link_program::Linked;
+use lists::NoMemory;
 use post_star::by_key::ByKey;
 use post_star::key::Key;
 use post_star::{BaseStep, Common};

@@ -1,12 +1,12 @@
 //! Edges back from calls.
 ghost use Rattle.std.specs.Prelude.{◌≡◌, ◌↔◌, ◌⊎◌, ℕ, [], Some, IfOk, OnOk};
-ghost use Rattle.jim_ast.specs.Lists.{Has};
+ghost use Rattle.lists.specs.Lists.{Has};
 ghost use Rattle.track_tables.specs.declared.returns.Return.{Return as AReturn};
 ghost use Rattle.track_tables.specs.Returns.{AreReturns, AreReturnsFiled, IsReturnOf, IsReturnOver};
 
-use auto_table::NoMemory;
 use call_side::Calls;
-use demand_walk::EdgeAt;
+use demand_set::EdgeAt;
+use lists::NoMemory;
 use post_star::by_key::ByKey;
 use post_star::key::Key;
 use spds_rules::EdgeKind;

@@ -2,8 +2,8 @@
 ghost use Rattle.std.specs.Prelude.{◌≡◌, ◌↔◌, ◌⊎◌, ◌++◌, ◌∷◌, [], ℕ, Some, IsTrue, OnOk};
 ghost use Rattle.auto_table.specs.declared.rule.Rule.{Rule as ARule};
 ghost use Rattle.call_side.specs.Trails.{AreKept};
-ghost use Rattle.demand_walk.specs.declared.numbered.EdgeAt.{EdgeAt as AnEdge};
-ghost use Rattle.jim_ast.specs.Lists.{Has};
+ghost use Rattle.demand_set.specs.declared.numbered.EdgeAt.{EdgeAt as AnEdge};
+ghost use Rattle.lists.specs.Lists.{Has};
 ghost use Rattle.link_sites.specs.declared.site.Site.{Site};
 ghost use Rattle.post_star.specs.declared.key.Key.TheVariants as key;
 ghost use Rattle.post_star.specs.Groups.{found_at};
@@ -21,14 +21,13 @@ ghost use Rattle.weight_laws.specs.Rel.{rel_domain};
 use super::coming::{come_back, go_back};
 use super::given::{SolvedDemand, node_at};
 use super::growth::Growth;
-use auto_table::{NoMemory, Rule};
+use auto_table::Rule;
 use call_side::Calls;
-use demand_walk::EdgeAt;
+use demand_set::EdgeAt;
 use link_program::Linked;
-use lists::Numbered;
-use site_events::SiteEvents;
+use lists::{NoMemory, Numbered};
+use site_events::{SiteEvents, flow_weight, own_weight};
 use spds_rules::{EdgeKind, Node};
-use track_weights::{flow_weight, own_weight};
 use weight_laws::{Rel, Weight};
 
 /// How states change along an edge of this kind. What comes out of the heap or of a static field doesn't go along its edge: it begins anew.

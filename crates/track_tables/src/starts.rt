@@ -8,9 +8,9 @@ ghost use Rattle.track_tables.specs.Making.{HasBegun};
 
 use super::given::{node_at, site_at};
 use super::growth::Growth;
-use auto_table::NoMemory;
 use link_program::Linked;
 use link_sites::Site;
+use lists::NoMemory;
 use post_star::Start;
 use spds_nodes::is_node;
 use spds_rules::Node;

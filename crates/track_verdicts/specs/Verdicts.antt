@@ -1,11 +1,12 @@
 -- What an analysis of a program under a protocol answers.
 use Rattle.std.specs.Prelude.{ℕ, ◌<◌, length, map}
-use Rattle.demand_walk.specs.Walks.{HasAtMost}
+use Rattle.demand_set.specs.Walks.{HasAtMost}
 use Rattle.link_rules.specs.Linked.{LinkedProgram}
 use Rattle.link_sites.specs.Places.{IsPlace}
 use Rattle.link_sites.specs.Sites.{IsSite}
-use Rattle.spds_rules.specs.Demand.{Asked, Counts, Demand, HasMore}
-use Rattle.track_events.specs.Statements.{IsQuery}
+use Rattle.spds_rules.specs.Demand.{Asked, Demand}
+use Rattle.lists.specs.Lists.{Counts, HasMore}
+use Rattle.site_events.specs.EventStatements.{IsQuery}
 use Rattle.track_rules.specs.Protocols.{ProtocolParts}
 use Rattle.track_systems.specs.Findings.{AreFindings}
 use Rattle.track_verdicts.specs.declared.verdict.Finding.{Finding}

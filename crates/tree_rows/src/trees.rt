@@ -1,8 +1,10 @@
 //! Sub-classing and look-ups, over rows of which the answers were found by hand.
 ghost use Rattle.std.specs.Prelude.{◌≡◌, ◌^◌, ◌<◌, length, All, IfOk};
 
-use class_tree::{BodyKind, ClassRow, FieldRow, MethodRow, Tree, TreeError, build};
-use std::alloc::Global;
+use class_tree::{
+    BodyKind, ClassRow, Defaults, FieldRow, MethodRow, PathRows, Tree, TreeError, build,
+};
+use std::alloc::{AllocError, Global};
 use std::test::Fail;
 
 const TOP: ClassRow = ClassRow {
@@ -270,6 +272,16 @@ fn are_lowest(tree: &Tree) -> bool
     lowest && inherited && hidden && two && above_two
 }
 
+// The same rows by their lists.
+fn are_listed(tree: &Tree) -> bool
+    requires { length tree.now.classes ≡ 9 }
+{
+    let one = matches!(tree.defaults(5, 10), Defaults::One(1));
+    let hidden = matches!(tree.defaults(5, 11), Defaults::Nothing);
+    let two = matches!(tree.defaults(7, 12), Defaults::Several);
+    one && hidden && two
+}
+
 // Key 13 is twice in 1, to which two ways lead from 8. 14 is native, 15 is in 5 without a body, and 16
 // stands for a static method.
 fn are_alone(tree: &Tree) -> bool
@@ -353,7 +365,7 @@ const DEFAULTS: [MethodRow; 13] = [
 
 fn defaults_hold(alloc: Global) -> Result<bool, TreeError> {
     match of_interfaces(alloc, &DEFAULTS) {
-        Ok(tree) => Ok(are_lowest(&tree) && are_alone(&tree)),
+        Ok(tree) => Ok(are_lowest(&tree) && are_listed(&tree) && are_alone(&tree)),
         Err(error) => Err(error),
     }
 }
@@ -361,5 +373,77 @@ fn defaults_hold(alloc: Global) -> Result<bool, TreeError> {
 #[test]
 fn defaults(rt: HostRuntime) -> Result<(), Fail> {
     assert!(rt; defaults_hold(rt.alloc())?);
+    Ok(())
+}
+
+const FIRST_AND_FIFTH: [MethodRow; 2] = [
+    MethodRow {
+        class: 0,
+        key: 7,
+        body: BodyKind::Plain,
+    },
+    MethodRow {
+        class: 5,
+        key: 8,
+        body: BodyKind::Plain,
+    },
+];
+
+// Each is below the one before it, but the last, which is below the top.
+fn of_chain(alloc: Global) -> Result<Tree, TreeError>
+    ensures { IfOk result (λ tree. length tree.classes ≡ 13) }
+{
+    let chain = [
+        TOP,
+        class(0),
+        class(1),
+        class(2),
+        class(3),
+        class(4),
+        class(5),
+        class(6),
+        class(7),
+        class(8),
+        class(9),
+        class(10),
+        class(0),
+    ];
+    build(alloc, &chain, &[], &FIRST_AND_FIFTH, &[])
+}
+
+// The way from 11 is long, and that of the others ends where it is kept or is short.
+fn long_ways_hold(alloc: Global, tree: &Tree) -> Result<bool, AllocError>
+    requires { length tree.now.classes ≡ 13 }
+{
+    let mut kept = PathRows::new(alloc);
+    let last = tree.on_kept_path(&mut kept, 11, 7)? == Some(0);
+    let on_the_way = kept.get(1) == Some(Some(0)) && kept.get(0).is_none();
+    let kept_then = tree.on_kept_path(&mut kept, 10, 7)? == Some(0);
+    let short = tree.on_kept_path(&mut kept, 12, 7)? == Some(0) && kept.get(12).is_none();
+    kept.keep(12, Some(0))?;
+    let by_hand = kept.get(12) == Some(Some(0));
+    Ok(last && on_the_way && kept_then && short && by_hand)
+}
+
+// The method of 5 is found from below it, and not from above.
+fn way_ends_hold(alloc: Global, tree: &Tree) -> Result<bool, AllocError>
+    requires { length tree.now.classes ≡ 13 }
+{
+    let mut kept = PathRows::new(alloc);
+    let below = tree.on_kept_path(&mut kept, 11, 8)? == Some(1);
+    let above = tree.on_kept_path(&mut kept, 4, 8)?.is_none();
+    let mut of_none = PathRows::new(alloc);
+    let nowhere = tree.on_kept_path(&mut of_none, 11, 9)?.is_none() && of_none.get(3) == Some(None);
+    Ok(below && above && nowhere)
+}
+
+fn long_chain_holds(alloc: Global) -> Result<bool, TreeError> {
+    let tree = of_chain(alloc)?;
+    Ok(long_ways_hold(alloc, &tree)? && way_ends_hold(alloc, &tree)?)
+}
+
+#[test]
+fn long_ways(rt: HostRuntime) -> Result<(), Fail> {
+    assert!(rt; long_chain_holds(rt.alloc())?);
     Ok(())
 }

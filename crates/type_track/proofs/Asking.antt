@@ -1,10 +1,10 @@
 -- What is asked under a protocol: nodes of the program, and one query.
 use Rattle.std.proofs.Common.{◌≡◌, ℕ, ◌<◌, List, Some, None, false, Bool, length, refl, sym, subst, ◌∙◌, inl, inr, arith}
 use Rattle.demand_set.specs.Demands.{DemandParts, IsDemandOf}
-use Rattle.demand_walk.specs.Numbers.{IsEdgeAt}
-use Rattle.held_places.specs.Held.{AreOfDemand}
-use Rattle.jim_ast.specs.Lists.{Has}
-use Rattle.jim_ast.proofs.Places.{slice_get-below}
+use Rattle.demand_set.specs.Numbers.{IsEdgeAt}
+use Rattle.track_tables.specs.Held.{AreOfDemand}
+use Rattle.lists.specs.Lists.{Has}
+use Rattle.lists.proofs.Places.{slice_get-below}
 use Rattle.link_program.proofs.Found.{at_map}
 use Rattle.link_rules.specs.declared.code.Code.{Code}
 use Rattle.link_rules.specs.declared.code.Code.TheVariants as code
@@ -21,8 +21,8 @@ use Rattle.spds_rules.specs.declared.reach.Reach.{Reach}
 use Rattle.spds_rules.specs.declared.reach.Reach.TheVariants.{Tracked}
 use Rattle.spds_rules.specs.Demand.{Asked, Demanded}
 use Rattle.spds_rules.specs.Nodes.{HasVar, IsNode, MayStand}
-use Rattle.track_events.specs.declared.statement.EventStatement.{EventStatement}
-use Rattle.track_events.specs.Statements.{AreEventStatements, IsQuery, receiver_node}
+use Rattle.site_events.specs.declared.event_statement.EventStatement.{EventStatement}
+use Rattle.site_events.specs.EventStatements.{AreEventStatements, IsQuery, receiver_node}
 use Rattle.track_rules.specs.Protocols.{ProtocolParts}
 use Rattle.track_systems.specs.Events.{IsEventNode, receiver_of}
 use Rattle.track_tables.specs.declared.parts.TrackParts.{TrackParts}

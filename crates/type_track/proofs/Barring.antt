@@ -4,7 +4,7 @@ use Rattle.std.proofs.lemmas.Bool.{cases_lt}
 use Rattle.link_rules.specs.Linked.{LinkedProgram}
 use Rattle.link_sites.specs.declared.place.Place.{Place}
 use Rattle.link_sites.specs.declared.site.Site.{Site}
-use Rattle.track_events.specs.declared.statement.EventStatement.{EventStatement}
+use Rattle.site_events.specs.declared.event_statement.EventStatement.{EventStatement}
 use Rattle.track_rules.specs.Protocols.{HasRow, ProtocolParts}
 use Rattle.track_verdicts.specs.declared.verdict.Finding.{Finding}
 use Rattle.weight_laws.specs.declared.rel.Rel.{Rel}

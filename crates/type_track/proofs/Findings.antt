@@ -1,7 +1,7 @@
 -- Findings: at event statements, of sites of the demand, and as they are told.
 use Rattle.std.proofs.Common.{◌≡◌, ◌↔◌, ℕ, ◌<◌, List, [], Some, None, Bool, All, length, map, refl, sym, ap, ◌∙◌, subst, arith}
-use Rattle.jim_ast.specs.Lists.{Has}
-use Rattle.jim_ast.proofs.Places.{slice_get-below}
+use Rattle.lists.specs.Lists.{Has}
+use Rattle.lists.proofs.Places.{slice_get-below}
 use Rattle.demand_set.specs.Demands.{DemandParts, IsDemandOf}
 use Rattle.demand_set.proofs.Standing.{node_site}
 use Rattle.link_laws.proofs.Lists.{all_at}
@@ -21,8 +21,8 @@ use Rattle.spds_rules.specs.Answers.{IsAnswered}
 use Rattle.spds_rules.specs.Demand.{Asked, SiteIn}
 use Rattle.spds_rules.specs.Nodes.{at}
 use Rattle.spds_rules.specs.Systems.{Meets}
-use Rattle.track_events.specs.declared.statement.EventStatement.{EventStatement}
-use Rattle.track_events.specs.Statements.{AreEventStatements, IsEventStatement, receiver_node}
+use Rattle.site_events.specs.declared.event_statement.EventStatement.{EventStatement}
+use Rattle.site_events.specs.EventStatements.{AreEventStatements, IsEventStatement, receiver_node}
 use Rattle.track_rules.specs.Protocols.{IsProtocol, ProtocolParts}
 use Rattle.track_runs.specs.Events.{IsEventCall}
 use Rattle.track_sound.proofs.Calls.{one_code}

@@ -4,9 +4,9 @@ use Rattle.std.specs.List.{AllPairs}
 use Rattle.std.proofs.lemmas.Bool.{cases_lt}
 use Rattle.std.proofs.lemmas.List.{append-nil, append_assoc, get_or-append_right, get_or_append_left}
 use Rattle.std.proofs.lemmas.Option.{slice_get-get_or}
-use Rattle.jim_ast.specs.Lists.{Has}
+use Rattle.lists.specs.Lists.{Has}
 use Rattle.link_indexes.specs.Rows.{AreExactly}
-use Rattle.demand_walk.proofs.Appended.{Has-append_left, Has-append_right, Has-appended, Has-one}
+use Rattle.demand_set.proofs.Appended.{Has-append_left, Has-append_right, Has-appended, Has-one}
 use Rattle.type_track.specs.Growing.{GrowsBy}
 
 module _ {X : Type 0} (Precedes : X → X → Type 0) where

@@ -1,13 +1,13 @@
 -- Event statements with the numbers of their receivers.
 use Rattle.std.proofs.Common.{◌≡◌, ◌<◌, ℕ, false, List, [], ◌∷◌, ◌++◌, Some, length, slice_get, inl, inr, refl, sym, ap, ◌∙◌, subst}
 use Rattle.std.proofs.lemmas.List.{map-append}
-use Rattle.jim_ast.specs.Lists.{Has}
-use Rattle.jim_ast.proofs.Places.{slice_get-below}
+use Rattle.lists.specs.Lists.{Has}
+use Rattle.lists.proofs.Places.{slice_get-below}
 use Rattle.link_indexes.proofs.Grown.{Has-push}
 use Rattle.link_program.proofs.Found.{from_map}
 use Rattle.spds_rules.specs.declared.node.Node.{Node}
-use Rattle.track_events.specs.declared.statement.EventStatement.{EventStatement}
-use Rattle.track_events.specs.Statements.{receiver_node}
+use Rattle.site_events.specs.declared.event_statement.EventStatement.{EventStatement}
+use Rattle.site_events.specs.EventStatements.{receiver_node}
 use Rattle.type_track.specs.declared.receivers.Receiver.{Receiver}
 use Rattle.type_track.specs.Receivers.{AreReceivers, IsNumbered, numbers_of}
 

@@ -2,7 +2,7 @@
 use Rattle.std.proofs.Common.{◌≡◌, ◌↔◌, ℕ, ◌+◌, ◌<◌, List, [], Some, eqb, get_or, map, slice_get, sym, ap, ◌∙◌, subst, arith}
 use Rattle.std.specs.Global.{Vec}
 use Rattle.std.proofs.lemmas.Option.{get_or_from_slice_get}
-use Rattle.jim_ast.specs.Lists.{Has}
+use Rattle.lists.specs.Lists.{Has}
 use Rattle.lists.specs.Groups.{found_at}
 use Rattle.link_program.proofs.Found.{at_map, from_map}
 use Rattle.link_rules.specs.Linked.{LinkedProgram}
@@ -13,8 +13,8 @@ use Rattle.site_events.specs.Events.{AreHeldAmong}
 use Rattle.spds_rules.specs.declared.node.Node.{Node}
 use Rattle.spds_rules.specs.Answers.{IsAnswered}
 use Rattle.spds_rules.specs.Demand.{Asked}
-use Rattle.track_events.specs.declared.statement.EventStatement.{EventStatement}
-use Rattle.track_events.specs.Statements.{IsEventStatement, receiver_node}
+use Rattle.site_events.specs.declared.event_statement.EventStatement.{EventStatement}
+use Rattle.site_events.specs.EventStatements.{IsEventStatement, receiver_node}
 use Rattle.track_rules.specs.Protocols.{IsProtocol, ProtocolParts}
 use Rattle.track_systems.specs.Events.{IsTrackedSite}
 use Rattle.track_systems.specs.Laws.{IsAmongSixteen}

@@ -4,8 +4,8 @@ use Rattle.std.specs.Global.{Vec}
 use Rattle.std.specs.List.{AllPairs, flat_map}
 use Rattle.std.proofs.lemmas.List.{flat_map_more, length-map, take_all}
 use Rattle.std.proofs.lemmas.Option.{get_or_from_slice_get}
-use Rattle.jim_ast.specs.Lists.{Has}
-use Rattle.jim_ast.proofs.Places.{slice_get-there}
+use Rattle.lists.specs.Lists.{Has}
+use Rattle.lists.proofs.Places.{slice_get-there}
 use Rattle.link_indexes.specs.Rows.{AreExactly}
 use Rattle.link_indexes.proofs.Grown.{Has-push, take-next}
 use Rattle.link_program.proofs.Found.{at_map, from_map}
@@ -19,8 +19,8 @@ use Rattle.query_core.proofs.Ordered.{AllPairs-at}
 use Rattle.spds_laws.proofs.Found.{slice_get-taken}
 use Rattle.spds_rules.specs.Answers.{IsAnswered}
 use Rattle.spds_rules.specs.Demand.{Asked}
-use Rattle.track_events.specs.declared.statement.EventStatement.{EventStatement}
-use Rattle.track_events.specs.Statements.{AreEventStatements, StandsBefore, receiver_node}
+use Rattle.site_events.specs.declared.event_statement.EventStatement.{EventStatement}
+use Rattle.site_events.specs.EventStatements.{AreEventStatements, StandsBefore, receiver_node}
 use Rattle.track_rules.specs.Protocols.{ProtocolParts}
 use Rattle.track_systems.specs.Findings.{AreFindings, IsFound}
 use Rattle.track_verdicts.specs.declared.verdict.Finding.{Finding}

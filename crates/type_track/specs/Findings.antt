@@ -3,7 +3,7 @@ use Rattle.std.specs.Prelude.{◌≡◌, ℕ, ◌<◌, length}
 use Rattle.link_rules.specs.Linked.{LinkedProgram}
 use Rattle.link_sites.specs.declared.site.Site.{Site}
 use Rattle.spds_rules.specs.Demand.{Asked}
-use Rattle.track_events.specs.declared.statement.EventStatement.{EventStatement}
+use Rattle.site_events.specs.declared.event_statement.EventStatement.{EventStatement}
 use Rattle.track_rules.specs.Protocols.{HasRow, ProtocolParts}
 use Rattle.track_systems.specs.Findings.{IsFinding, IsToldBefore}
 use Rattle.track_verdicts.specs.declared.verdict.Finding.{Finding}

@@ -1,11 +1,11 @@
 -- The receivers of event statements in a demand.
 use Rattle.std.specs.Prelude.{◌≡◌, ℕ, List, Some, map, slice_get}
-use Rattle.jim_ast.specs.Lists.{Has}
+use Rattle.lists.specs.Lists.{Has}
 use Rattle.spds_rules.specs.declared.node.Node.{Node}
 use Rattle.spds_rules.specs.declared.reach.Reach.TheVariants.{Tracked}
 use Rattle.spds_rules.specs.Demand.{Asked}
-use Rattle.track_events.specs.declared.statement.EventStatement.{EventStatement}
-use Rattle.track_events.specs.Statements.{receiver_node}
+use Rattle.site_events.specs.declared.event_statement.EventStatement.{EventStatement}
+use Rattle.site_events.specs.EventStatements.{receiver_node}
 use Rattle.type_track.specs.declared.receivers.Receiver.{Receiver}
 
 -- what is asked for these event statements

@@ -2,15 +2,15 @@
 use Rattle.std.specs.Prelude.{◌≡◌, ℕ, ◌<◌, ◌^◌, List, [], Some, length, slice_get}
 use Rattle.std.specs.Global.{Vec}
 use Rattle.demand_set.specs.Demands.{IsDemandOf}
-use Rattle.held_places.specs.Held.{AreHeldIn}
+use Rattle.track_tables.specs.Held.{AreHeldIn}
 use Rattle.link_rules.specs.WellLinked.{IsWellLinked}
 use Rattle.link_sites.specs.declared.site.Site.{Site}
 use Rattle.piece_join.specs.Brought.{AllBecome}
 use Rattle.auto_table.specs.Cells.{Cells}
 use Rattle.site_events.specs.Events.{AreEventsIn}
 use Rattle.spds_rules.specs.Demand.{Asked}
-use Rattle.track_events.specs.declared.statement.EventStatement.{EventStatement}
-use Rattle.track_events.specs.Statements.{AreEventStatements}
+use Rattle.site_events.specs.declared.event_statement.EventStatement.{EventStatement}
+use Rattle.site_events.specs.EventStatements.{AreEventStatements}
 use Rattle.track_rules.specs.Protocols.{ProtocolParts}
 use Rattle.track_systems.specs.Events.{IsTrackedSite}
 use Rattle.track_tables.specs.declared.given.SolvedDemand.{SolvedDemand}

@@ -4,7 +4,7 @@ ghost use Rattle.demand_set.specs.Demands.{IsDemandOf};
 ghost use Rattle.link_rules.specs.WellLinked.{IsWellLinked};
 ghost use Rattle.run_covers.specs.Covers.{IsCovered};
 ghost use Rattle.spds_solve.specs.Solved.{IsSolved};
-ghost use Rattle.track_events.specs.Statements.{AreEventStatements};
+ghost use Rattle.site_events.specs.EventStatements.{AreEventStatements};
 ghost use Rattle.track_runs.specs.Monitor.{IsSafe};
 ghost use Rattle.track_systems.specs.Findings.{AreFindings};
 ghost use Rattle.track_verdicts.specs.Found.{found_of};
@@ -14,18 +14,18 @@ ghost use Rattle.type_track.specs.Searches.{IsGiven};
 
 use super::receivers::{nodes_of, receivers_in};
 use super::search::{Search, find_all};
-use demand_set::{Demand, DemandError, Reach, demand};
-use held_places::held_in;
-use jim_ast::{List, NoMemory};
+use demand_set::{Demand, DemandError, Reach};
+use jim_ast::List;
 use link_program::Linked;
+use lists::NoMemory;
+use program_demand::demand;
 use protocol_words::Protocol;
 use query_core::Hands;
-use site_events::events_of;
+use site_events::{EventStatement, event_statements, events_of, receivers};
 use spds_solve::{Gate, Solved};
 use std::marker::Sync;
 use std::thread::Threads;
-use track_events::{EventStatement, event_statements, receivers};
-use track_tables::{SolvedDemand, TrackParts};
+use track_tables::{SolvedDemand, TrackParts, held_in};
 use track_verdicts::{Finding, Verdict};
 
 /// The findings over a solved demand of the receivers of all event statements.

@@ -1,7 +1,8 @@
 //! The cells of small systems, and the rules between their heads.
 ghost use Rattle.std.specs.Prelude.{◌<◌};
 
-use auto_table::{NoMemory, Rule};
+use auto_table::Rule;
+use lists::NoMemory;
 use rule_cells::{Cell, Contracted, cells_of, contract, number_heads, renumber};
 use std::alloc::Global;
 use std::test::Fail;

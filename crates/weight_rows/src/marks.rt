@@ -3,7 +3,8 @@ ghost use Rattle.auto_table.specs.declared.rule.Rule.TheVariants.{Pop, Push};
 ghost use Rattle.post_star.specs.Derivations.{step_of};
 ghost use Rattle.rule_marks.specs.Sharing.{AreBelow};
 
-use auto_table::{NoMemory, Rule};
+use auto_table::Rule;
+use lists::NoMemory;
 use post_star::BaseStep;
 use rule_marks::{Marks, split_rules, split_steps};
 use std::alloc::Global;

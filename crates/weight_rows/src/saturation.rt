@@ -1,7 +1,8 @@
 //! Saturation of small systems, and of systems to which rules come later: what their tables read was found by hand.
 ghost use Rattle.std.specs.Prelude.{◌≡◌, ◌∷◌, []};
 
-use auto_table::{Entry, NoMemory, Rule, Table};
+use auto_table::{Entry, Rule, Table};
+use lists::NoMemory;
 use post_star::{BaseStep, Bases, Start, Work, any_value, saturate, value};
 use std::alloc::Global;
 use std::test::Fail;

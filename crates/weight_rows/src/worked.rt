@@ -1,7 +1,8 @@
 //! How much a saturation works on: what is done isn't done again. No contract says so.
 ghost use Rattle.std.specs.Prelude.{◌≡◌, ◌<◌};
 
-use auto_table::{NoMemory, Rule};
+use auto_table::Rule;
+use lists::NoMemory;
 use post_star::{Start, Work};
 use std::alloc::Global;
 use std::test::Fail;

@@ -1,8 +1,8 @@
 use Rattle.std.proofs.Common.{◌<◌, length, sym, subst}
 use Rattle.std.specs.Str.{IsUtf8}
 use Rattle.std.specs.Fmt.{decimal}
-use Rattle.jim_ast.specs.Lists.{Has}
-use Rattle.batch_lines.proofs.Lines.{has_between}
+use Rattle.lists.specs.Lists.{Has}
+use Rattle.lists.proofs.Cutting.{has_between}
 use Rattle.batch_lines.proofs.Spelled.{first_word, next_words}
 use Rattle.batch_lines.proofs.queries.query.Goals as goal
 

@@ -1,5 +1,5 @@
 use Rattle.std.proofs.Common.{◌≡◌, ◌+◌, length, arith, ap}
-use Rattle.jim_ast.proofs.Places.{slice_get-there}
+use Rattle.lists.proofs.Places.{slice_get-there}
 use Rattle.boom_top.proofs.Counted.{sum_by-more}
 use Rattle.boom_top.proofs.demo.statements.Goals as goal
 

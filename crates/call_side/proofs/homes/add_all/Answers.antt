@@ -1,8 +1,8 @@
 use Rattle.std.proofs.Common.{◌≡◌, ◌<◌, ◌+◌, ℕ, Some, None, get_or, slice_get, length, inl, inr, arith, subst, sym}
 use Rattle.std.proofs.lemmas.Bool.{cases_lt}
 use Rattle.std.proofs.lemmas.Option.{slice_get-get_or}
-use Rattle.auto_table.specs.Lists.{Has}
-use Rattle.auto_table.proofs.Places.{slice_get-below}
+use Rattle.lists.specs.Lists.{Has}
+use Rattle.lists.proofs.Places.{slice_get-below}
 use Rattle.post_star.specs.declared.bases.BaseStep.{BaseStep}
 use Rattle.call_side.proofs.Filed.{no_step}
 use Rattle.call_side.proofs.Trails.{step_to}

@@ -1,5 +1,5 @@
 use Rattle.std.proofs.Common.{refl}
-use Rattle.auto_table.proofs.Places.{slice_get-below}
+use Rattle.lists.proofs.Places.{slice_get-below}
 use Rattle.call_side.specs.Indexed.{ComesHome}
 use Rattle.call_side.proofs.Trails.{trail_none}
 use Rattle.call_side.proofs.homes.find_homes.Goals as goal

@@ -1,5 +1,5 @@
 use Rattle.std.proofs.Common.{◌≡◌, take}
-use Rattle.auto_table.specs.Lists.{Has}
+use Rattle.lists.specs.Lists.{Has}
 use Rattle.call_side.specs.Search.{Came}
 use Rattle.call_side.proofs.search.add_row.Given as goal
 

@@ -1,5 +1,5 @@
 use Rattle.std.proofs.Common.{arith}
-use Rattle.auto_table.proofs.Places.{slice_get-below}
+use Rattle.lists.proofs.Places.{slice_get-below}
 use Rattle.call_side.specs.Search.{asked}
 use Rattle.call_side.proofs.Trails.{pairs_backward, shared_by}
 use Rattle.call_side.proofs.search.answer.Goals as goal

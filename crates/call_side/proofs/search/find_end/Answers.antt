@@ -1,6 +1,6 @@
 use Rattle.std.proofs.Common.{◌≡◌, ◌≤◌, ℕ, List, Some, None, length, slice_get, inl, inr, sym, ◌∙◌}
 use Rattle.std.proofs.lemmas.Bool.{cases_lt}
-use Rattle.auto_table.proofs.Places.{slice_get-there}
+use Rattle.lists.proofs.Places.{slice_get-there}
 use Rattle.call_side.specs.declared.pairs.Pair.{Pair}
 use Rattle.call_side.specs.Search.{asked}
 use Rattle.call_side.proofs.Coming.{kept_has}

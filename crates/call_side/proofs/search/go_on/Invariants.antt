@@ -1,5 +1,5 @@
 use Rattle.std.proofs.Common.{ℕ, take}
-use Rattle.auto_table.specs.Lists.{Has}
+use Rattle.lists.specs.Lists.{Has}
 use Rattle.call_side.specs.Search.{IsLedOn, IsTrail, asked}
 use Rattle.call_side.specs.Trails.{AreKept}
 use Rattle.call_side.proofs.search.go_on.Given as goal

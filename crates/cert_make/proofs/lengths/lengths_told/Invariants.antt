@@ -1,6 +1,6 @@
 use Rattle.std.proofs.Common.{◌≡◌, map, take}
 use Rattle.cert_rules.specs.Lengths.{lengths_of}
-use Rattle.cert_make.specs.Lengths.{as_told}
+use Rattle.cert_rules.specs.Told.{as_told}
 use Rattle.cert_make.proofs.lengths.lengths_told.Given as goal
 
 abbrev pub invariant-loop-line : goal.invariant-loop-line

@@ -2,7 +2,8 @@ use Rattle.std.proofs.Common.{◌≡◌, ◌≤◌, ℕ, List, Ok, Err, Result, 
 use Rattle.std.specs.Result.{IfOk}
 use Rattle.link_rules.specs.Linked.{LinkedProgram}
 use Rattle.spds_rules.specs.declared.node.Node.{Node}
-use Rattle.spds_rules.specs.Demand.{AreAll, Demand}
+use Rattle.spds_rules.specs.Demand.{Demand}
+use Rattle.lists.specs.Lists.{AreAll}
 use Rattle.cert_rules.specs.declared.certificate.Certificate.{Certificate}
 use Rattle.cert_rules.specs.Certified.{IsCertified}
 use Rattle.cert_rules.specs.Given.{about}

@@ -3,7 +3,7 @@ use Rattle.demand_set.proofs.SameSite.{same_site, self_site}
 use Rattle.link_sites.specs.contracts.site.SitePartialEq.TheImpl as site
 use Rattle.cert_rules.specs.contracts.fact.EntryPartialEq.TheImpl as entry
 use Rattle.cert_rules.specs.contracts.line.SidePartialEq.TheImpl as side
-use Rattle.cert_text.proofs.Same.{same_entry, same_side, self_entry, self_side}
+use Rattle.cert_rules.proofs.Same.{same_entry, same_side, self_entry, self_side}
 use Rattle.cert_replay.proofs.CitedFacts.{link_at, link_none, link_not, link_other}
 use Rattle.cert_replay.proofs.From.{differs}
 use Rattle.cert_replay.proofs.cited.below.Goals as goal

@@ -1,6 +1,6 @@
 use Rattle.std.proofs.Common.{sym}
 use Rattle.cert_rules.specs.contracts.line.SidePartialEq.TheImpl.{eq-value}
-use Rattle.cert_text.proofs.Same.{same_side, self_side}
+use Rattle.cert_rules.proofs.Same.{same_side, self_side}
 use Rattle.cert_replay.proofs.CitedFacts.{held_at, held_none, held_not, held_other}
 use Rattle.cert_replay.proofs.From.{differs}
 use Rattle.cert_replay.proofs.cited.held_by.Goals as goal

@@ -1,5 +1,5 @@
 use Rattle.std.proofs.Common.{◌↔◌, take}
-use Rattle.jim_ast.specs.Lists.{Has}
+use Rattle.lists.specs.Lists.{Has}
 use Rattle.cert_replay.specs.Joins.{AnyStep, HasStep}
 use Rattle.cert_replay.proofs.edges.steps_along.Given as goal
 

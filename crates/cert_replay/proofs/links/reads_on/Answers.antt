@@ -1,7 +1,7 @@
 use Rattle.std.proofs.Common.{sym}
 use Rattle.cert_rules.specs.contracts.fact.EntryPartialEq.TheImpl.{eq-value}
 use Rattle.cert_rules.specs.declared.fact.Entry.TheVariants.{Base}
-use Rattle.cert_text.proofs.Same.{same_entry, self_entry}
+use Rattle.cert_rules.proofs.Same.{same_entry, self_entry}
 use Rattle.cert_replay.proofs.From.{differs, never}
 use Rattle.cert_replay.proofs.Reading.{read_end, read_on, read_out, read_short}
 use Rattle.cert_replay.proofs.links.reads_on.Goals as goal

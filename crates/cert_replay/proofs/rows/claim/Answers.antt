@@ -1,7 +1,7 @@
 use Rattle.std.proofs.Common.{sym}
 use Rattle.cert_rules.specs.contracts.fact.EntryPartialEq.TheImpl.{eq-value}
 use Rattle.cert_rules.specs.declared.fact.Entry.TheVariants.{Base}
-use Rattle.cert_text.proofs.Same.{same_entry, self_entry}
+use Rattle.cert_rules.proofs.Same.{same_entry, self_entry}
 use Rattle.spds_rules.proofs.Keys.{differs_node, same_node}
 use Rattle.cert_replay.proofs.From.{both, never, tells}
 use Rattle.cert_replay.proofs.Judged.{claim_elsewhere, claim_held_as, claim_none, claim_not_there}

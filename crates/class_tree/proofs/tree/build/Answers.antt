@@ -1,5 +1,5 @@
 use Rattle.std.proofs.Common.{◌≡◌, arith, subst}
-use Rattle.class_tree.specs.Paths.{IsLeast}
+use Rattle.lists.specs.Lists.{IsLeast}
 use Rattle.class_tree.specs.Rows.{IsOwnAncestor}
 use Rattle.class_tree.proofs.Building.{step-below, proper_map, least_map}
 use Rattle.class_tree.specs.Tables.{IsOver, Under}

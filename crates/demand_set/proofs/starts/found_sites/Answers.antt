@@ -1,7 +1,7 @@
 use Rattle.std.proofs.Common.{arith, sym}
 use Rattle.std.proofs.lemmas.List.{take_all}
 use Rattle.link_sites.specs.contracts.site.SitePartialEq.TheImpl.{eq-value}
-use Rattle.demand_walk.proofs.Keys.{Adds-insert_key}
+use Rattle.lists.proofs.Keys.{Adds-insert_key}
 use Rattle.demand_set.proofs.Filed.{HasStart-more, HasStart-plain}
 use Rattle.demand_set.proofs.SameSite.{same_site, self_site}
 use Rattle.demand_set.proofs.Whole.{Has-adds}

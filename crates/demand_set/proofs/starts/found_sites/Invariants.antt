@@ -1,5 +1,5 @@
 use Rattle.std.proofs.Common.{◌≤◌, ◌↔◌, length, take}
-use Rattle.jim_ast.specs.Lists.{Has}
+use Rattle.lists.specs.Lists.{Has}
 use Rattle.link_sites.specs.declared.site.Site.{Site}
 use Rattle.demand_set.specs.Starts.{HasStart}
 use Rattle.demand_set.proofs.starts.found_sites.Given as goal

@@ -1,7 +1,7 @@
 use Rattle.std.proofs.Common.{◌≡◌, List, ℕ, sym, subst}
 use Rattle.std.specs.Prelude.{codes}
 use Rattle.std.proofs.lemmas.Result.{on_ok_weaker}
-use Rattle.jim_ast.specs.Lists.{Has}
+use Rattle.lists.specs.Lists.{Has}
 use Rattle.link_classes.specs.Classes.{ClassTable}
 use Rattle.link_classes.specs.Seen.{seen_method}
 use Rattle.link_rules.specs.declared.refusal.LinkKind.{LinkKind}

@@ -1,9 +1,8 @@
 use Rattle.std.proofs.Common.{List, [], sym, subst, refl, arith}
-use Rattle.jim_link.proofs.Beside.{Each-nil}
-use Rattle.link_codes.proofs.SideBySide.{Each-all}
+use Rattle.lists.proofs.SideBySide.{Each-nil, Each-all}
 use Rattle.link_program.specs.Classes.{classes_in, linked_class}
 use Rattle.link_rules.specs.Linked.{IsLinkedClass, LinkedClass}
-use Rattle.link_rules.specs.Lists.{Each}
+use Rattle.lists.specs.Lists.{Each}
 use Rattle.jim_link.proofs.MemberFacts.{class_more}
 use Rattle.jim_link.proofs.members.class_table.Goals as goal
 

@@ -1,4 +1,4 @@
-use Rattle.jim_ast.proofs.Places.{slice_get-below}
+use Rattle.lists.proofs.Places.{slice_get-below}
 use Rattle.jim_signs.proofs.NameLemmas.{with_text-adds, place_of-slice_get}
 use Rattle.jim_signs.proofs.sign.number.Goals as goal
 

@@ -1,5 +1,5 @@
 use Rattle.std.proofs.Common.{◌≡◌, length, ap, sym, arith, ◌∙◌}
-use Rattle.jim_ast.proofs.Places.{slice_get-there}
+use Rattle.lists.proofs.Places.{slice_get-there}
 use Rattle.jim_step.proofs.Founds.{no_length, none_by_row, numbered_below, row_found, some_length}
 use Rattle.jim_step.proofs.calls.found.Goals as goal
 

@@ -1,4 +1,4 @@
-use Rattle.jim_ast.proofs.Places.{slice_get-below}
+use Rattle.lists.proofs.Places.{slice_get-below}
 use Rattle.jim_step.proofs.Readies.{caught_in}
 use Rattle.jim_step.specs.Frames.{frame_of}
 use Rattle.step_rules.specs.declared.parts.Slot.TheVariants as slot

@@ -1,5 +1,5 @@
 use Rattle.std.proofs.Common.{◌↔◌, ◌∷◌, [], List, ℕ, codes, false, IsTrue, true≢false, sym}
-use Rattle.jim_ast.specs.Lists.{Has}
+use Rattle.lists.specs.Lists.{Has}
 use Rattle.link_classes.proofs.instantiable.is_raised.Goals as goal
 
 none : (name : List ℕ) → IsTrue false ↔ Has [] name

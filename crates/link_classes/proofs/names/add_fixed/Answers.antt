@@ -1,6 +1,6 @@
 use Rattle.std.proofs.Common.{◌≡◌, [], List, ℕ, sym, subst}
 use Rattle.jim_ast.specs.declared.names.NameId.{NameId}
-use Rattle.link_rules.specs.Lists.{FirstSeen}
+use Rattle.lists.specs.Lists.{FirstSeen}
 use Rattle.link_classes.specs.Numbered.{AreNumbers}
 use Rattle.link_classes.proofs.Numbering.{one_by_one}
 use Rattle.link_classes.proofs.names.add_fixed.Goals as goal

@@ -1,4 +1,4 @@
-use Rattle.link_rules.specs.Lists.{FirstSeen}
+use Rattle.lists.specs.Lists.{FirstSeen}
 use Rattle.link_classes.proofs.Numbering.{Keeps-adds, numbers_more}
 use Rattle.link_classes.proofs.names.add_name.Goals as goal
 

@@ -1,5 +1,5 @@
 use Rattle.std.proofs.Common.{take, sym, subst, ap, append_assoc, ◌++◌, ◌∷◌, [], ◌∙◌}
-use Rattle.link_rules.specs.Lists.{FirstSeen}
+use Rattle.lists.specs.Lists.{FirstSeen}
 use Rattle.link_classes.specs.Numbered.{AreNumbers}
 use Rattle.link_classes.proofs.Numbering.{one_more}
 use Rattle.link_classes.proofs.names.add_names.Goals as goal

@@ -1,5 +1,5 @@
 use Rattle.std.proofs.Common.{take, ℕ, List, ◌++◌}
-use Rattle.link_rules.specs.Lists.{FirstSeen}
+use Rattle.lists.specs.Lists.{FirstSeen}
 use Rattle.link_classes.specs.Numbered.{AreNumbers, Keeps}
 use Rattle.link_classes.proofs.names.add_names.Given as goal
 

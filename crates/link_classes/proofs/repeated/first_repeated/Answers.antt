@@ -1,6 +1,6 @@
 use Rattle.std.proofs.Common.{◌≡◌, ◌<◌, ◌⊎◌, inl, inr, Some, length, slice_get, ap, subst, ◌∙◌, arith}
 use Rattle.std.proofs.lemmas.List.{length-map}
-use Rattle.jim_ast.proofs.Places.{slice_get-below}
+use Rattle.lists.proofs.Places.{slice_get-below}
 use Rattle.link_rules.specs.Refusals.{HasEarlierName}
 use Rattle.link_classes.specs.Seen.{seen_class, seen_classes}
 use Rattle.link_classes.proofs.EarlierNames.{earlier, not_earlier}

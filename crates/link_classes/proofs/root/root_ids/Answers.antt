@@ -3,7 +3,8 @@ use Rattle.std.proofs.lemmas.List.{map-append, take_all}
 use Rattle.link_rules.specs.Classes.{class_name}
 use Rattle.link_classes.specs.Numbered.{AreNumbers, IsNumber, fixed_names}
 use Rattle.link_classes.specs.Seen.{IsSeen, seen_class, seen_classes}
-use Rattle.link_classes.proofs.Growing.{Each-push, seen_more}
+use Rattle.link_classes.proofs.Growing.{seen_more}
+use Rattle.lists.proofs.SideBySide.{Each-push}
 use Rattle.link_classes.proofs.Within.{class_numbered, name_number}
 use Rattle.link_classes.proofs.root.root_ids.Goals as goal
 

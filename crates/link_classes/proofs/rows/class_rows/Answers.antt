@@ -1,8 +1,9 @@
 use Rattle.std.proofs.Common.{take, sym, subst}
-use Rattle.link_rules.specs.Lists.{Each}
+use Rattle.lists.specs.Lists.{Each}
 use Rattle.link_rules.specs.World.{IsClassRow}
 use Rattle.link_classes.specs.Seen.{seen_class, seen_classes}
-use Rattle.link_classes.proofs.Growing.{Each-push, seen_more}
+use Rattle.link_classes.proofs.Growing.{seen_more}
+use Rattle.lists.proofs.SideBySide.{Each-push}
 use Rattle.link_classes.proofs.rows.class_rows.Goals as goal
 
 pub loop-class-preserved : goal.loop-class-preserved

@@ -1,5 +1,5 @@
 use Rattle.std.proofs.Common.{take}
-use Rattle.link_rules.specs.Lists.{Each}
+use Rattle.lists.specs.Lists.{Each}
 use Rattle.link_rules.specs.World.{IsClassRow}
 use Rattle.link_classes.specs.Seen.{seen_classes}
 use Rattle.link_classes.proofs.rows.class_rows.Given as goal

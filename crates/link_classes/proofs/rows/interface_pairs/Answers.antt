@@ -1,6 +1,6 @@
 use Rattle.std.proofs.Common.{take, sym, subst}
 use Rattle.link_rules.specs.Classes.{interfaces_in, named_interfaces}
-use Rattle.link_rules.specs.Lists.{Each}
+use Rattle.lists.specs.Lists.{Each}
 use Rattle.link_rules.specs.World.{IsInterfacePair}
 use Rattle.link_classes.specs.Seen.{seen_classes}
 use Rattle.link_classes.proofs.Growing.{members_more}

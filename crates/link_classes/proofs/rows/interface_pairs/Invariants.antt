@@ -1,6 +1,6 @@
 use Rattle.std.proofs.Common.{take}
 use Rattle.link_rules.specs.Classes.{named_interfaces}
-use Rattle.link_rules.specs.Lists.{Each}
+use Rattle.lists.specs.Lists.{Each}
 use Rattle.link_rules.specs.World.{IsInterfacePair}
 use Rattle.link_classes.specs.Seen.{seen_classes}
 use Rattle.link_classes.proofs.rows.interface_pairs.Given as goal

@@ -3,7 +3,7 @@ use Rattle.std.specs.Bool.{Decides}
 use Rattle.std.proofs.lemmas.Bool.Decides.{Decides-eqb}
 use Rattle.std.proofs.lemmas.Option.{get_or_from_slice_get}
 use Rattle.std.proofs.lemmas.Slice.Eq.{slice_eq-Decides}
-use Rattle.jim_ast.proofs.Places.{slice_get-below}
+use Rattle.lists.proofs.Places.{slice_get-below}
 use Rattle.link_rules.specs.Classes.{IsParentBy, class_name, object_name}
 use Rattle.link_rules.specs.Names.{text_of}
 use Rattle.link_classes.specs.Seen.{seen_class}

@@ -1,6 +1,6 @@
 use Rattle.std.proofs.Common.{◌++◌, List, map, take}
 use Rattle.link_rules.specs.Classes.{NamedInterface}
-use Rattle.link_rules.specs.Lists.{Each}
+use Rattle.lists.specs.Lists.{Each}
 use Rattle.link_rules.specs.Names.{text_of}
 use Rattle.link_rules.specs.World.{IsInterfacePair}
 use Rattle.link_classes.specs.Seen.{seen_classes}

@@ -1,7 +1,7 @@
 use Rattle.jim_ast.specs.declared.syntax.Imm.TheVariants as imm
 use Rattle.link_rules.specs.Codes.{IsArg}
 use Rattle.link_codes.specs.Contexts.{context_of, scope_with}
-use Rattle.link_codes.proofs.SideBySide.{Each-all, Each-more}
+use Rattle.lists.proofs.SideBySide.{Each-all, Each-more}
 use Rattle.link_codes.proofs.Used.{extends_then, uses_more}
 use Rattle.link_codes.proofs.args.args.Goals as goal
 

@@ -1,8 +1,8 @@
 use Rattle.std.proofs.Common.{◌≡◌, Some, slice_get}
 use Rattle.std.proofs.lemmas.List.Elements.{All-get_or}
-use Rattle.jim_ast.specs.Lists.{Has}
+use Rattle.lists.specs.Lists.{Has}
 use Rattle.link_codes.proofs.Present.{is_some_from}
-use Rattle.link_codes.proofs.SideBySide.{Each-more}
+use Rattle.lists.proofs.SideBySide.{Each-more}
 use Rattle.link_codes.proofs.calls.numbers.Goals as goal
 
 pub unwrap-requires : goal.unwrap-requires

@@ -1,5 +1,5 @@
 use Rattle.std.proofs.Common.{◌≡◌, Some, slice_get, take}
-use Rattle.link_rules.specs.Lists.{Each}
+use Rattle.lists.specs.Lists.{Each}
 use Rattle.link_codes.proofs.calls.numbers.Given as goal
 
 abbrev pub invariant-loop-row : goal.invariant-loop-row

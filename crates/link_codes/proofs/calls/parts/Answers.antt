@@ -1,8 +1,6 @@
-use Rattle.std.proofs.Common.{All, sym, ap, subst}
-use Rattle.jim_ast.specs.Lists.{Has}
+use Rattle.std.proofs.Common.{All, sym, ap, subst, ◌≡◌, Some, slice_get}
+use Rattle.lists.specs.Lists.{Has, Each}
 use Rattle.link_classes.specs.Classes.{ClassTable}
-use Rattle.link_rules.specs.Lists.{Each}
-use Rattle.std.proofs.Common.{◌≡◌, Some, slice_get}
 use Rattle.link_codes.specs.Contexts.{context_of}
 use Rattle.link_codes.proofs.Called.{call_made, rows_numbered}
 use Rattle.link_codes.proofs.calls.parts.Goals as goal

@@ -1,7 +1,7 @@
 use Rattle.std.proofs.Common.{refl}
 use Rattle.link_rules.specs.Codes.{IsCatch}
 use Rattle.link_codes.specs.Contexts.{context_of, scope_with}
-use Rattle.link_codes.proofs.SideBySide.{Each-all, Each-more}
+use Rattle.lists.proofs.SideBySide.{Each-all, Each-more}
 use Rattle.link_codes.proofs.method.catches.Goals as goal
 
 pub loop-trap-preserved : goal.loop-trap-preserved

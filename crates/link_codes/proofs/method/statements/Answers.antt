@@ -3,7 +3,7 @@ use Rattle.link_rules.specs.Codes.{IsCode}
 use Rattle.link_rules.specs.Statements.{operands}
 use Rattle.link_codes.specs.Contexts.{context_of, scope_with}
 use Rattle.link_codes.specs.Constants.{Uses}
-use Rattle.link_codes.proofs.SideBySide.{Each-all, Each-more}
+use Rattle.lists.proofs.SideBySide.{Each-all, Each-more}
 use Rattle.link_codes.proofs.Texts.{flat_map_more}
 use Rattle.link_codes.proofs.Used.{extends_then, uses_then}
 use Rattle.link_codes.proofs.method.statements.Goals as goal

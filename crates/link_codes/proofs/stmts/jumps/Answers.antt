@@ -1,6 +1,6 @@
 use Rattle.link_rules.specs.Bodies.{IsLabel}
 use Rattle.link_codes.specs.Contexts.{context_of}
-use Rattle.link_codes.proofs.SideBySide.{Each-more}
+use Rattle.lists.proofs.SideBySide.{Each-more}
 use Rattle.link_codes.proofs.stmts.jumps.Goals as goal
 
 pub loop-label-preserved : goal.loop-label-preserved

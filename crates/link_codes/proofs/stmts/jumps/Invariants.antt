@@ -1,6 +1,6 @@
 use Rattle.std.proofs.Common.{take}
 use Rattle.link_rules.specs.Bodies.{IsLabel}
-use Rattle.link_rules.specs.Lists.{Each}
+use Rattle.lists.specs.Lists.{Each}
 use Rattle.link_codes.specs.Contexts.{context_of}
 use Rattle.link_codes.proofs.stmts.jumps.Given as goal
 

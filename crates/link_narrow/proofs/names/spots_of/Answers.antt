@@ -1,7 +1,7 @@
 use Rattle.std.proofs.Common.{get_or, subst}
 use Rattle.std.proofs.lemmas.List.{take_all}
 use Rattle.std.proofs.lemmas.Option.{slice_get-get_or}
-use Rattle.jim_ast.specs.Lists.{Adds}
+use Rattle.lists.specs.Lists.{Adds}
 use Rattle.narrow_rules.specs.declared.kept.Kept.{Kept}
 use Rattle.link_narrow.specs.Names.{AreSpots}
 use Rattle.link_narrow.proofs.Filled.{spots_more}

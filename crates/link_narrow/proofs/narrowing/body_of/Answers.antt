@@ -1,5 +1,5 @@
 use Rattle.std.proofs.Common.{◌≡◌, List, ◌∙◌, subst}
-use Rattle.jim_ast.proofs.Places.{slice_get-there}
+use Rattle.lists.proofs.Places.{slice_get-there}
 use Rattle.link_rules.specs.declared.code.Code.{Code}
 use Rattle.link_indexes.specs.declared.method.MethodCode.{MethodCode}
 use Rattle.narrow_rules.specs.Narrowed.{IsNarrowedBody}

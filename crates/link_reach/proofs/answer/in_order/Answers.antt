@@ -1,4 +1,4 @@
-use Rattle.jim_ast.specs.Lists.{Has}
+use Rattle.lists.specs.Lists.{Has}
 use Rattle.link_reach.proofs.Finding.{has_if, has_not}
 use Rattle.link_reach.proofs.Ordering.{those_more, those_same}
 use Rattle.link_reach.proofs.answer.in_order.Goals as goal

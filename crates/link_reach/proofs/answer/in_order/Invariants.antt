@@ -1,4 +1,4 @@
-use Rattle.jim_ast.specs.Lists.{Has}
+use Rattle.lists.specs.Lists.{Has}
 use Rattle.link_reach.specs.Reaches.{AreThose}
 use Rattle.link_reach.proofs.answer.in_order.Given as goal
 

@@ -1,7 +1,7 @@
 use Rattle.std.proofs.Common.{subst, sym, refl, eqb, eqb-true, eq-eqb, get_or}
 use Rattle.std.proofs.lemmas.List.{take_all, take_more}
-use Rattle.jim_ast.specs.Lists.{Adds}
-use Rattle.link_calls.proofs.Keys.{Adds-insert_key}
+use Rattle.lists.specs.Lists.{Adds}
+use Rattle.lists.proofs.Keys.{Adds-insert_key}
 use Rattle.link_reach.specs.Search.{AddsAll}
 use Rattle.link_reach.proofs.Finding.{adds_none, adds_more}
 use Rattle.link_reach.proofs.search.add_all.Goals as goal

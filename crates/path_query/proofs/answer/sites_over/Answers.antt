@@ -1,9 +1,8 @@
 use Rattle.std.proofs.Common.{◌≡◌, ℕ, List, Option, Some, slice_get, refl, sym, subst, arith}
 use Rattle.std.specs.Option.{IsSome}
 use Rattle.std.proofs.lemmas.Result.{IfOk-weaker}
-use Rattle.jim_ast.specs.Lists.{Has}
-use Rattle.jim_ast.proofs.Places.{slice_get-below}
-use Rattle.link_rules.specs.Lists.{Each}
+use Rattle.lists.specs.Lists.{Has, Each}
+use Rattle.lists.proofs.Places.{slice_get-below}
 use Rattle.query_core.proofs.Posed.{few_sites}
 use Rattle.path_query.specs.Paths.{IsAtPath}
 use Rattle.path_query.proofs.Asking.{node_demanded}

@@ -1,9 +1,9 @@
 use Rattle.std.proofs.Common.{◌≡◌, List, Some, true≢false, slice_get, refl, sym, ◌∙◌, subst, inl, inr}
 use Rattle.std.proofs.lemmas.List.{take_all}
 use Rattle.std.proofs.lemmas.Option.{get_or_from_slice_get}
-use Rattle.jim_ast.specs.Lists.{Has}
-use Rattle.jim_ast.proofs.Places.{slice_get-there}
-use Rattle.demand_walk.proofs.Appended.{Has-take_more}
+use Rattle.lists.specs.Lists.{Has}
+use Rattle.lists.proofs.Places.{slice_get-there}
+use Rattle.demand_set.proofs.Appended.{Has-take_more}
 use Rattle.path_query.specs.declared.hops.Way.{Way}
 use Rattle.path_query.proofs.hops.is_led.Goals as goal
 use Rattle.path_query.proofs.hops.is_led.Goals.{else-holds-via-then-holds+in_ok-one_string+else-branch, else-holds-via-else-holds}

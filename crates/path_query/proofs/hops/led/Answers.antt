@@ -1,5 +1,5 @@
 use Rattle.std.proofs.Common.{ap, length, arith}
-use Rattle.jim_ast.proofs.Places.{slice_get-there}
+use Rattle.lists.proofs.Places.{slice_get-there}
 use Rattle.path_query.specs.Numbers.{IsLedTo}
 use Rattle.path_query.proofs.Numbering.{numbers_all, numbers_more, numbers_none, numbers_same}
 use Rattle.path_query.proofs.hops.led.Goals as goal

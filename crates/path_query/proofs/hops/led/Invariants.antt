@@ -1,4 +1,4 @@
-use Rattle.jim_ast.specs.Lists.{Has}
+use Rattle.lists.specs.Lists.{Has}
 use Rattle.spds_rules.specs.Demand.{Asked}
 use Rattle.path_query.specs.declared.hops.Way.{Way}
 use Rattle.path_query.specs.Numbers.{IsLedTo, IsNamed, IsPosed}

@@ -1,4 +1,4 @@
-use Rattle.jim_ast.specs.Lists.{Has}
+use Rattle.lists.specs.Lists.{Has}
 use Rattle.path_query.specs.Numbers.{IsWay}
 use Rattle.path_query.proofs.Collecting.{collected_all, collected_more, collected_none, from_none}
 use Rattle.path_query.proofs.hops.ways_over.Goals as goal

@@ -1,5 +1,5 @@
 use Rattle.std.proofs.Common.{◌↔◌, ◌⊎◌, take}
-use Rattle.jim_ast.specs.Lists.{Has}
+use Rattle.lists.specs.Lists.{Has}
 use Rattle.spds_rules.specs.Demand.{Asked}
 use Rattle.path_query.specs.declared.hops.Way.{Way}
 use Rattle.path_query.specs.Numbers.{IsPosed, IsWay}

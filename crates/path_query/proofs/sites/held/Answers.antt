@@ -1,5 +1,5 @@
 use Rattle.std.proofs.Common.{ap, length, arith}
-use Rattle.jim_ast.proofs.Places.{slice_get-there}
+use Rattle.lists.proofs.Places.{slice_get-there}
 use Rattle.spds_rules.specs.Answers.{IsAnswered}
 use Rattle.path_query.proofs.Numbering.{numbers_all, numbers_more, numbers_none, numbers_same}
 use Rattle.path_query.proofs.sites.held.Goals as goal

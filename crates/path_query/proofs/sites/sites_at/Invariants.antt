@@ -1,5 +1,5 @@
 use Rattle.std.proofs.Common.{◌≡◌, Some, slice_get, take}
-use Rattle.link_rules.specs.Lists.{Each}
+use Rattle.lists.specs.Lists.{Each}
 use Rattle.path_query.proofs.sites.sites_at.Given as goal
 
 -- those of the first numbers

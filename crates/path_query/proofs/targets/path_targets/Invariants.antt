@@ -1,5 +1,5 @@
 use Rattle.std.proofs.Common.{◌≡◌, ◌↔◌, ◌⊎◌, take}
-use Rattle.jim_ast.specs.Lists.{Has}
+use Rattle.lists.specs.Lists.{Has}
 use Rattle.spds_rules.specs.declared.node.Node.{Node}
 use Rattle.path_query.specs.Paths.{IsEndOf}
 use Rattle.path_query.proofs.Collecting.{From}

@@ -1,6 +1,6 @@
 use Rattle.std.proofs.Common.{◌≤◌, ◌<◌, length, subst, arith}
-use Rattle.jim_ast.specs.Lists.{Adds}
-use Rattle.jim_ast.proofs.Places.{slice_get-adds, slice_get-below}
+use Rattle.lists.specs.Lists.{Adds}
+use Rattle.lists.proofs.Places.{slice_get-adds, slice_get-below}
 use Rattle.track_rules.specs.declared.row.ProtocolRow.{ProtocolRow}
 use Rattle.protocol_words.specs.Spellings.{named_protocol}
 use Rattle.protocol_words.proofs.Counting.{counted_more, counted_none, crowds, named_here}

@@ -1,6 +1,6 @@
 use Rattle.std.proofs.Common.{◌<◌, ◌≤◌, suc, [], ◌∷◌, ap, sym, subst, ◌∙◌, add-one, length, map, arith}
 use Rattle.std.proofs.lemmas.List.{map-append, take_all}
-use Rattle.jim_ast.specs.Lists.{Has}
+use Rattle.lists.specs.Lists.{Has}
 use Rattle.protocol_words.specs.Spellings.{AreRows, named_row, texts}
 use Rattle.protocol_words.proofs.Rows.{are_rows, breaks_again, breaks_form, key_found, key_new, length-texts, read_next, text_at, unbroken}
 use Rattle.protocol_words.proofs.spelling.read_rows.Goals as goal

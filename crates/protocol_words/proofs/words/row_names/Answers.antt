@@ -1,6 +1,7 @@
 use Rattle.std.proofs.Common.{sym, subst, ◌∙◌, true≢false, lit<}
 use Rattle.track_rules.specs.Protocols.{IsName, head_text}
-use Rattle.protocol_words.proofs.Names.{has_between, last_none, last_some, row_head, row_one}
+use Rattle.protocol_words.proofs.Names.{last_none, last_some, row_head, row_one}
+use Rattle.lists.proofs.Cutting.{has_between}
 use Rattle.protocol_words.proofs.words.row_names.Goals as goal
 
 pub returns-in_err-key-clause-none : goal.returns-in_err-key-clause-none

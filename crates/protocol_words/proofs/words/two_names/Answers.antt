@@ -1,6 +1,7 @@
 use Rattle.std.proofs.Common.{sym, subst, ◌∙◌, true≢false, lit<}
 use Rattle.track_rules.specs.Protocols.{IsName}
-use Rattle.protocol_words.proofs.Names.{has_between, head_one, once_none, once_some}
+use Rattle.protocol_words.proofs.Names.{head_one, once_none, once_some}
+use Rattle.lists.proofs.Cutting.{has_between}
 use Rattle.protocol_words.proofs.words.two_names.Goals as goal
 use Rattle.protocol_words.proofs.words.two_names.Goals.{else-is_name-via-then-is_name+else-is_name-2, else-is_name-via-else-is_name}
 

@@ -1,7 +1,7 @@
 use Rattle.std.proofs.Common.{◌≡◌, ℕ, ◌+◌, List, [], ◌∷◌, ◌++◌, Some, slice_get, get_or, length, take, ap, sym, subst, ◌∙◌, arith}
 use Rattle.std.proofs.lemmas.Option.{get_or_from_slice_get}
 use Rattle.link_sites.specs.declared.site.Site.{Site}
-use Rattle.jim_ast.proofs.Places.{slice_get-there}
+use Rattle.lists.proofs.Places.{slice_get-there}
 use Rattle.query_core.specs.Sought.{IsSought, asked_of}
 use Rattle.query_core.proofs.Kept.{AreKept, kept_all, kept_more, kept_same}
 use Rattle.query_core.proofs.Posed.{sought_site}

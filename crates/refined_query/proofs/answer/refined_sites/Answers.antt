@@ -1,11 +1,11 @@
 use Rattle.std.proofs.Common.{◌≤◌, sym, subst}
-use Rattle.demand_walk.specs.Walks.{HasAtMost}
+use Rattle.demand_set.specs.Walks.{HasAtMost}
 use Rattle.link_rules.specs.Linked.{LinkedProgram}
 use Rattle.link_rules.specs.WellLinked.{IsWellLinked}
 use Rattle.narrow_rules.specs.Narrowed.{pairs_in}
 use Rattle.refine_rules.specs.Refined.{IsRefinedBy}
 use Rattle.refine_rules.proofs.Once.{rounds_determined}
-use Rattle.spds_rules.specs.Demand.{HasMore}
+use Rattle.lists.specs.Lists.{HasMore}
 use Rattle.refined_query.specs.Answers.{IsDemandedBy}
 use Rattle.refined_query.specs.Rounds.{StandsOrIsLost}
 use Rattle.refined_query.proofs.Left.{left_fewer, left_node, left_well}

@@ -1,5 +1,5 @@
 use Rattle.std.proofs.Common.{take, string_bytes}
-use Rattle.link_rules.specs.Lists.{Each}
+use Rattle.lists.specs.Lists.{Each}
 use Rattle.report_text.specs.Answers.{IsWordedSite}
 use Rattle.report_text.specs.Lines.{AddsLines}
 use Rattle.report_text.proofs.answers.push_site_lines.Given as goal

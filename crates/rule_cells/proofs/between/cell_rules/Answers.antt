@@ -1,6 +1,6 @@
 use Rattle.std.proofs.Common.{◌∙◌, List, arith, subst, sym}
 use Rattle.auto_table.specs.declared.rule.Rule.{Rule}
-use Rattle.auto_table.specs.Lists.{Has}
+use Rattle.lists.specs.Lists.{Has}
 use Rattle.rule_cells.specs.CellRules.{HaveCells}
 use Rattle.rule_cells.proofs.Celling.{cells_weigh_one, have_cells}
 use Rattle.rule_cells.proofs.Differing.{cells_same}

@@ -1,6 +1,6 @@
 use Rattle.std.proofs.Common.{inl, inr, subst, sym}
 use Rattle.auto_table.specs.declared.rule.Rule.{Rule}
-use Rattle.auto_table.specs.Lists.{Adds, Has}
+use Rattle.lists.specs.Lists.{Adds, Has}
 use Rattle.rule_cells.specs.declared.distinct.Shape.{Shape}
 use Rattle.rule_cells.specs.Distinct.{shape_of}
 use Rattle.rule_cells.proofs.Differing.{rule_pushed, rule_there, shapes_more, shapes_same}

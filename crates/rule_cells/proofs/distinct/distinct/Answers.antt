@@ -1,7 +1,7 @@
 use Rattle.std.proofs.Common.{◌↔◌, Some, ap, subst, sym, ◌∙◌, List}
 use Rattle.std.proofs.lemmas.List.{take_all}
 use Rattle.auto_table.specs.declared.rule.Rule.{Rule}
-use Rattle.auto_table.specs.Lists.{Has}
+use Rattle.lists.specs.Lists.{Has}
 use Rattle.std.proofs.lemmas.Option.{slice_get-get_or}
 use Rattle.rule_cells.proofs.Differing.{rules_more}
 use Rattle.rule_cells.proofs.distinct.distinct.Goals as goal

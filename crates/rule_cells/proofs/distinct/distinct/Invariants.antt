@@ -1,6 +1,6 @@
 use Rattle.std.proofs.Common.{◌↔◌, take}
 use Rattle.auto_table.specs.declared.rule.Rule.{Rule}
-use Rattle.auto_table.specs.Lists.{Has}
+use Rattle.lists.specs.Lists.{Has}
 use Rattle.rule_cells.specs.Distinct.{AreShapes}
 use Rattle.rule_cells.proofs.distinct.distinct.Given as goal
 

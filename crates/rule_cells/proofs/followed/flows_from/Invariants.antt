@@ -1,4 +1,4 @@
-use Rattle.auto_table.specs.Lists.{Has}
+use Rattle.lists.specs.Lists.{Has}
 use Rattle.rule_cells.specs.declared.distinct.Shape.{Shape}
 use Rattle.rule_cells.specs.Distinct.{rule_of}
 use Rattle.rule_cells.proofs.followed.flows_from.Given as goal

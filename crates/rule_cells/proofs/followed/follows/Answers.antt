@@ -1,6 +1,6 @@
 use Rattle.std.proofs.Common.{IsTrue, ap, ◌∙◌, subst, sym}
 use Rattle.auto_table.specs.declared.rule.Rule.{Rule}
-use Rattle.auto_table.specs.Lists.{Has}
+use Rattle.lists.specs.Lists.{Has}
 use Rattle.post_star.specs.Works.{weight_of}
 use Rattle.rule_cells.specs.declared.cells.Cell.{Cell}
 use Rattle.rule_cells.specs.declared.distinct.Shape.TheVariants as shape

@@ -1,7 +1,7 @@
 use Rattle.std.proofs.Common.{◌↔◌, ◌⊎◌, List, subst, inl, inr}
 use Rattle.std.proofs.lemmas.List.{take_all}
 use Rattle.auto_table.specs.declared.rule.Rule.{Rule}
-use Rattle.auto_table.specs.Lists.{Has}
+use Rattle.lists.specs.Lists.{Has}
 use Rattle.rule_cells.proofs.Differing.{rules_more}
 use Rattle.rule_cells.proofs.followed.parted.Goals as goal
 

@@ -2,7 +2,7 @@ use Rattle.std.proofs.Common.{length, ◌∙◌, List, inl, inr, subst, sym}
 use Rattle.std.proofs.lemmas.List.{nil_from_length}
 use borrow.Author.Tests.{eqb-true}
 use Rattle.auto_table.specs.declared.rule.Rule.{Rule}
-use Rattle.auto_table.specs.Lists.{Has}
+use Rattle.lists.specs.Lists.{Has}
 use Rattle.rule_cells.specs.Followed.{AreAdded, AreSights}
 use Rattle.rule_cells.specs.Made.{head_at, offset_at}
 use Rattle.rule_cells.proofs.Following.{thinned_by, thinned_none}

@@ -1,7 +1,7 @@
 use Rattle.std.proofs.Common.{slice_index_or, ℕ, List, inl, inr, refl, sym, subst}
 use Rattle.std.proofs.lemmas.List.{take_all}
 use Rattle.std.proofs.lemmas.Option.{slice_get-get_or}
-use Rattle.jim_ast.specs.Lists.{Has}
+use Rattle.lists.specs.Lists.{Has}
 use Rattle.link_indexes.proofs.Grown.{Has-push, take-next}
 use Rattle.site_events.proofs.inner.is_among.Goals as goal
 

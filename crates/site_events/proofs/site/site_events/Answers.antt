@@ -1,7 +1,7 @@
 use Rattle.std.proofs.Common.{◌≡◌, ◌↔◌, ℕ, List, length, subst, sym, arith}
-use Rattle.jim_ast.specs.Lists.{Has}
+use Rattle.lists.specs.Lists.{Has}
 use Rattle.lists.specs.Groups.{Grouped}
-use Rattle.track_events.specs.Callers.{AreCallers}
+use Rattle.site_events.specs.Callers.{AreCallers}
 use Rattle.site_events.specs.declared.statement.Statement.{Statement}
 use Rattle.site_events.specs.Events.{MayBe}
 use Rattle.site_events.proofs.Built.{built_all, built_more, built_none, may_below}

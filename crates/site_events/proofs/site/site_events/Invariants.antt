@@ -2,7 +2,7 @@ use Rattle.std.proofs.Common.{List}
 use Rattle.link_rules.specs.Linked.{LinkedProgram}
 use Rattle.link_sites.specs.declared.site.Site.{Site}
 use Rattle.spds_rules.specs.Demand.{Asked}
-use Rattle.track_events.specs.declared.statement.EventStatement.{EventStatement}
+use Rattle.site_events.specs.declared.event_statement.EventStatement.{EventStatement}
 use Rattle.track_rules.specs.Protocols.{ProtocolParts}
 use Rattle.site_events.specs.Events.{AreEventsIn, AreHeldAmong}
 use Rattle.site_events.proofs.Built.{IsBuilt}

@@ -1,5 +1,5 @@
 use Rattle.std.proofs.Common.{take}
-use Rattle.jim_ast.specs.Lists.{Has}
+use Rattle.lists.specs.Lists.{Has}
 use Rattle.spds_nodes.specs.Added.{IsAdded, Over}
 use Rattle.spds_nodes.specs.Backs.{IsBackFromAt}
 use Rattle.spds_nodes.proofs.backs.push_back_from.Given as goal

@@ -1,5 +1,5 @@
 use Rattle.std.proofs.lemmas.Option.{slice_get-get_or}
-use Rattle.jim_ast.specs.Lists.{Has}
+use Rattle.lists.specs.Lists.{Has}
 use Rattle.spds_nodes.specs.Backs.{IsBackOf}
 use Rattle.spds_nodes.proofs.ComingBack.{back_method}
 use Rattle.spds_nodes.proofs.Joined.{Over-end, Over-next}

@@ -1,5 +1,5 @@
 use Rattle.std.proofs.Common.{arith}
-use Rattle.jim_ast.proofs.Places.{slice_get-below}
+use Rattle.lists.proofs.Places.{slice_get-below}
 use Rattle.spds_nodes.specs.Backs.{IsParamAt}
 use Rattle.spds_nodes.proofs.ComingBack.{one_param}
 use Rattle.spds_nodes.proofs.Numbered.{Below-end, Below-next}

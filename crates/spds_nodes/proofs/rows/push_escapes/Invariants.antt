@@ -1,5 +1,5 @@
 use Rattle.std.proofs.Common.{take}
-use Rattle.jim_ast.specs.Lists.{Has}
+use Rattle.lists.specs.Lists.{Has}
 use Rattle.spds_nodes.specs.Added.{IsAdded, Over}
 use Rattle.spds_nodes.specs.Into.{IsEscapeOf}
 use Rattle.spds_nodes.proofs.rows.push_escapes.Given as goal

@@ -1,5 +1,5 @@
 use Rattle.std.proofs.Common.{take, []}
-use Rattle.jim_ast.specs.Lists.{Has}
+use Rattle.lists.specs.Lists.{Has}
 use Rattle.link_indexes.specs.declared.method.Place.{Place}
 use Rattle.link_sites.specs.Places.{before}
 use Rattle.std.specs.List.{AllPairs}

@@ -1,10 +1,10 @@
 use Rattle.std.proofs.Common.{ℕ, List, subst, sym, inl, inr, arith}
 use Rattle.std.proofs.lemmas.List.{take_all}
-use Rattle.jim_ast.specs.Lists.{Has}
+use Rattle.lists.specs.Lists.{Has}
 use Rattle.spds_solve.specs.Composing.{AreJoined, IsThere}
 use Rattle.spds_solve.proofs.Composing.{joined_longer, joined_more, ready_longer, there_longer, there_since}
 use Rattle.spds_solve.proofs.compose.follow.Goals as goal
-use Rattle.call_work.proofs.Lists.{Has-take_more, has-read}
+use Rattle.call_side.proofs.Lists.{Has-take_more, has-read}
 
 pub loop-first-init : goal.loop-first-init
 loop-first-init c = record { joined = AreJoined.none; there = λ place has x y p q. cc has.1 }

@@ -1,11 +1,11 @@
 use Rattle.std.proofs.Common.{ℕ, List, subst, sym, inl, inr, arith}
 use Rattle.std.proofs.lemmas.List.{take_all}
 use Rattle.std.proofs.lemmas.Option.{slice_get-get_or}
-use Rattle.jim_ast.specs.Lists.{Has}
+use Rattle.lists.specs.Lists.{Has}
 use Rattle.spds_solve.specs.Composing.{AreJoined, IsThere}
 use Rattle.spds_solve.proofs.Composing.{joined_longer, joined_more, lead_ready, there_longer, there_since}
 use Rattle.spds_solve.proofs.compose.lead.Goals as goal
-use Rattle.call_work.proofs.Lists.{Has-take_more}
+use Rattle.call_side.proofs.Lists.{Has-take_more}
 
 pub loop-next-init : goal.loop-next-init
 loop-next-init c = record { joined = AreJoined.none; there = λ place has x y p q. cc has.1 }

@@ -1,5 +1,5 @@
 use Rattle.std.proofs.Common.{ℕ, take}
-use Rattle.jim_ast.specs.Lists.{Has}
+use Rattle.lists.specs.Lists.{Has}
 use Rattle.spds_solve.specs.Composing.{AreJoined, IsThere}
 use Rattle.spds_solve.proofs.compose.lead.Given as goal
 

@@ -1,6 +1,6 @@
 use Rattle.std.proofs.Common.{◌≡◌, ℕ, List, Some, get_or, slice_get, subst, sym}
 use Rattle.std.proofs.lemmas.Option.{slice_get-get_or}
-use Rattle.jim_ast.specs.Lists.{Has}
+use Rattle.lists.specs.Lists.{Has}
 use Rattle.post_star.specs.declared.key.Key.TheVariants.{Node}
 use Rattle.post_star.specs.Groups.{found_at}
 use Rattle.spds_solve.specs.declared.met.Met.{Met}

@@ -1,5 +1,5 @@
 use Rattle.std.proofs.Common.{◌≡◌, ◌↔◌, ℕ, List, eqb, map, ap, sym, subst, ◌∙◌}
-use Rattle.jim_ast.specs.Lists.{Has}
+use Rattle.lists.specs.Lists.{Has}
 use Rattle.lists.specs.declared.groups.Keyed.{Keyed}
 use Rattle.lists.specs.Groups.{items_with}
 use Rattle.spds_solve.specs.declared.arrivals.Arrival.{Arrival}

@@ -1,7 +1,7 @@
 use Rattle.std.proofs.Common.{◌⊎◌, List, inl, inr, subst, sym, arith}
 use Rattle.std.proofs.lemmas.List.{take_all}
-use Rattle.jim_ast.specs.Lists.{Has}
-use Rattle.call_work.proofs.Lists.{Has-take_more, has-read}
+use Rattle.lists.specs.Lists.{Has}
+use Rattle.call_side.proofs.Lists.{Has-take_more, has-read}
 use Rattle.spds_solve.specs.Known.{AreStillAt}
 use Rattle.spds_solve.proofs.Posting.{none}
 use Rattle.spds_solve.proofs.known.changed_pairs.Goals as goal

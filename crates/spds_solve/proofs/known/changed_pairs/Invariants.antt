@@ -1,5 +1,5 @@
 use Rattle.std.proofs.Common.{◌⊎◌, take}
-use Rattle.jim_ast.specs.Lists.{Has}
+use Rattle.lists.specs.Lists.{Has}
 use Rattle.spds_solve.specs.Known.{AreStillAt}
 use Rattle.spds_solve.proofs.known.changed_pairs.Given as goal
 use Rattle.spds_tables.specs.declared.numbered.Met.{Met as Numbers}

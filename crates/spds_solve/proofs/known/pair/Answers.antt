@@ -1,4 +1,4 @@
-use Rattle.jim_ast.specs.Lists.{Has}
+use Rattle.lists.specs.Lists.{Has}
 use Rattle.spds_solve.specs.Known.{FitsAt, IsPairOf}
 use Rattle.spds_solve.proofs.Noting.{both_ways, fits_any, pairs_same, seen_as}
 use Rattle.spds_solve.proofs.known.pair.Goals as goal

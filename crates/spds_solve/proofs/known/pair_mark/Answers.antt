@@ -1,4 +1,4 @@
-use Rattle.jim_ast.specs.Lists.{Has}
+use Rattle.lists.specs.Lists.{Has}
 use Rattle.spds_solve.specs.Known.{FitsAt, IsPairOf}
 use Rattle.spds_solve.proofs.Noting.{either_ways, fits_mark, pairs_both, seen_both}
 use Rattle.spds_solve.proofs.known.pair_mark.Goals as goal

@@ -1,6 +1,6 @@
 use Rattle.std.proofs.Common.{◌≡◌, ◌+◌, ℕ, List, get_or, take, subst, arith}
 use Rattle.std.proofs.lemmas.List.{take_all}
-use Rattle.jim_ast.specs.Lists.{Has}
+use Rattle.lists.specs.Lists.{Has}
 use Rattle.spds_solve.specs.Known.{AreSeen, IsPairOf, met_at}
 use Rattle.spds_solve.proofs.Noting.{pairs_next, pairs_none, seen_both, seen_none}
 use Rattle.spds_solve.proofs.known.pair_with.Goals as goal

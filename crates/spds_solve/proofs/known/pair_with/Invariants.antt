@@ -1,5 +1,5 @@
 use Rattle.std.proofs.Common.{take}
-use Rattle.jim_ast.specs.Lists.{Has}
+use Rattle.lists.specs.Lists.{Has}
 use Rattle.spds_solve.specs.Known.{AreSeen, IsPairOf}
 use Rattle.spds_solve.proofs.known.pair_with.Given as goal
 

@@ -1,5 +1,5 @@
-use Rattle.demand_walk.proofs.Keys.{Adds-insert_key}
-use Rattle.jim_ast.specs.Lists.{Adds}
+use Rattle.lists.proofs.Keys.{Adds-insert_key}
+use Rattle.lists.specs.Lists.{Adds}
 use Rattle.spds_solve.proofs.Noting.{seen_met, seen_put}
 use Rattle.spds_solve.proofs.Posting.{adds_has}
 use Rattle.spds_solve.proofs.SameKey.{same_met, self_met}

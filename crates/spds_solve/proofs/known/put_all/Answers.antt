@@ -1,7 +1,7 @@
 use Rattle.std.proofs.Common.{◌≡◌, ◌+◌, List, get_or, take, subst, arith}
 use Rattle.std.proofs.lemmas.List.{take_all}
-use Rattle.jim_ast.specs.Lists.{Has}
-use Rattle.call_work.proofs.Lists.{Has-take_more}
+use Rattle.lists.specs.Lists.{Has}
+use Rattle.call_side.proofs.Lists.{Has-take_more}
 use Rattle.spds_solve.specs.Known.{AreSeen}
 use Rattle.spds_solve.proofs.Noting.{seen_both, seen_none}
 use Rattle.spds_solve.proofs.known.put_all.Goals as goal

@@ -1,6 +1,6 @@
 use Rattle.std.proofs.Common.{inl, inr, sym, subst, arith}
 use Rattle.std.proofs.lemmas.Bool.{cases_eq}
-use Rattle.jim_ast.proofs.Places.{slice_get-below}
+use Rattle.lists.proofs.Places.{slice_get-below}
 use Rattle.spds_solve.specs.Looks.{IsNotedAt}
 use Rattle.spds_solve.proofs.Looking.{noted_kept}
 use Rattle.spds_solve.proofs.looks.note_all.Goals as goal

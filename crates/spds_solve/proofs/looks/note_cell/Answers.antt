@@ -1,6 +1,6 @@
 use Rattle.std.proofs.Common.{List, sym, subst, arith}
 use Rattle.std.proofs.lemmas.Option.{slice_get-get_or}
-use Rattle.jim_ast.specs.Lists.{Has}
+use Rattle.lists.specs.Lists.{Has}
 use Rattle.post_star.proofs.Loops.{each_all}
 use Rattle.spds_solve.specs.declared.ends.StoreEnd.{StoreEnd}
 use Rattle.spds_solve.specs.Looks.{IsNotedEnd}

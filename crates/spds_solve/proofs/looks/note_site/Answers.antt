@@ -1,6 +1,6 @@
 use Rattle.std.proofs.Common.{sym, subst, arith}
 use Rattle.std.proofs.lemmas.Option.{slice_get-get_or}
-use Rattle.call_work.specs.Openings.{AreOpenings}
+use Rattle.call_side.specs.Openings.{AreOpenings}
 use Rattle.lists.proofs.Places.{slice_get-read}
 use Rattle.post_star.proofs.Loops.{each_all}
 use Rattle.spds_solve.specs.Looks.{IsNotedOpening}

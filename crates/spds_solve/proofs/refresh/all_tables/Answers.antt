@@ -1,5 +1,5 @@
 use Rattle.std.proofs.Common.{◌≡◌, ℕ, [], ◌∷◌, inl, inr, sym, subst, length-append, arith}
-use Rattle.jim_ast.proofs.Places.{slice_get-pushed}
+use Rattle.lists.proofs.Places.{slice_get-pushed}
 use Rattle.spds_solve.proofs.refresh.all_tables.Goals as goal
 use Rattle.spds_tables.specs.declared.tables.SiteTables.{SiteTables}
 use Rattle.spds_tables.specs.Tables.{AreBuilt}

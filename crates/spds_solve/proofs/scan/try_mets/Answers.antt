@@ -1,8 +1,8 @@
 use Rattle.std.proofs.Common.{arith}
 use Rattle.post_star.proofs.Loops.{each_all}
 use Rattle.std.proofs.lemmas.Option.{slice_get-get_or}
-use Rattle.jim_ast.specs.Lists.{Has}
-use Rattle.call_work.proofs.Lists.{has-read}
+use Rattle.lists.specs.Lists.{Has}
+use Rattle.call_side.proofs.Lists.{has-read}
 use Rattle.spds_solve.specs.Looks.{IsCandidateAt}
 use Rattle.spds_solve.specs.Mets.{numbers_of}
 use Rattle.spds_solve.proofs.Looking.{each_next}

@@ -1,5 +1,5 @@
 use Rattle.post_star.proofs.Loops.{EachBefore}
-use Rattle.jim_ast.specs.Lists.{Has}
+use Rattle.lists.specs.Lists.{Has}
 use Rattle.spds_solve.specs.Looks.{IsCandidateAt, IsGrownAt}
 use Rattle.spds_solve.specs.Mets.{numbers_of}
 use Rattle.spds_solve.proofs.scan.try_mets.Given as goal

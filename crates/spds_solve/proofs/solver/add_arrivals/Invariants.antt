@@ -1,5 +1,5 @@
 use Rattle.std.proofs.Common.{◌≡◌, ◌↔◌, ◌⊎◌, take}
-use Rattle.jim_ast.specs.Lists.{Has}
+use Rattle.lists.specs.Lists.{Has}
 use Rattle.spds_solve.specs.declared.arrivals.Arrival.{Arrival}
 use Rattle.spds_solve.proofs.solver.add_arrivals.Given as goal
 

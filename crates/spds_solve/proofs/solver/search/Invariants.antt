@@ -1,5 +1,5 @@
 use Rattle.std.proofs.Common.{◌≡◌, ◌+◌, ◌-◌, ◌≤◌, All, false, length, take, if◌then◌else◌}
-use Rattle.jim_ast.specs.Lists.{IsApart}
+use Rattle.lists.specs.Lists.{IsApart}
 use Rattle.spds_solve.specs.Composing.{AreComposed}
 use Rattle.spds_solve.specs.Looks.{AreLooked}
 use Rattle.spds_solve.specs.Mets.{numbers_of}

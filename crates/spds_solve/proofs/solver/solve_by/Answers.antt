@@ -1,5 +1,5 @@
 use Rattle.std.proofs.Common.{List, sym, subst}
-use Rattle.jim_ast.specs.Lists.{Has}
+use Rattle.lists.specs.Lists.{Has}
 use Rattle.spds_solve.proofs.Whole.{solved_whole}
 use Rattle.spds_solve.proofs.solver.solve_by.Goals as goal
 use Rattle.spds_tables.specs.declared.tables.SiteTables.{SiteTables}

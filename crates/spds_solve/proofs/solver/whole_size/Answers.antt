@@ -1,5 +1,5 @@
 use Rattle.std.proofs.Common.{arith}
-use Rattle.call_work.proofs.Lists.{has-read}
+use Rattle.call_side.proofs.Lists.{has-read}
 use Rattle.spds_solve.proofs.solver.whole_size.Goals as goal
 
 pub size-requires-clause-fields : goal.size-requires-clause-fields

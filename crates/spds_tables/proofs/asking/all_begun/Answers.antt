@@ -1,9 +1,9 @@
 use Rattle.std.proofs.Common.{◌∙◌, refl, sym, true≢false, arith}
 use Rattle.std.proofs.lemmas.Option.{slice_get-get_or}
-use Rattle.jim_ast.specs.Lists.{Has}
+use Rattle.lists.specs.Lists.{Has}
 use Rattle.post_star.proofs.Loops.{each_all, each_more}
 use Rattle.spds_tables.specs.declared.numbered.Jump.{Jump}
-use Rattle.call_work.proofs.Lists.{has-read}
+use Rattle.call_side.proofs.Lists.{has-read}
 use Rattle.spds_tables.proofs.asking.all_begun.Goals as goal
 
 pub loop-jump-init : goal.loop-jump-init

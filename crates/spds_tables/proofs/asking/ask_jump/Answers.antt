@@ -1,9 +1,9 @@
 use Rattle.std.proofs.Common.{◌∷◌, [], sym, ◌∙◌, inl, inr, true≢false, subst}
-use Rattle.jim_ast.specs.Lists.{Has}
+use Rattle.lists.specs.Lists.{Has}
 use Rattle.rule_cells.specs.Renamed.{number_in}
 use Rattle.spds_tables.specs.declared.numbered.StartAt.{StartAt}
 use Rattle.spds_tables.specs.Tables.{IsJumpedTo}
-use Rattle.call_work.proofs.Arriving.{number_there}
+use Rattle.call_side.proofs.Arriving.{number_there}
 use Rattle.spds_tables.proofs.Questions.{asked_push, jumped_one, one_jumped}
 use Rattle.spds_tables.proofs.asking.ask_jump.Goals as goal
 

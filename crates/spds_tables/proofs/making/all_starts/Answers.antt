@@ -1,7 +1,7 @@
 use Rattle.std.proofs.Common.{◌≡◌, ◌↔◌, List, length, subst, sym, inl, inr, length-append, ◌∷◌, [], arith}
 use Rattle.std.proofs.lemmas.Bool.{cases_lt}
-use Rattle.jim_ast.specs.Lists.{Has}
-use Rattle.jim_ast.proofs.Places.{slice_get-below}
+use Rattle.lists.specs.Lists.{Has}
+use Rattle.lists.proofs.Places.{slice_get-below}
 use Rattle.spds_tables.specs.declared.numbered.StartAt.{StartAt}
 use Rattle.spds_tables.specs.Making.{IsStartHere}
 use Rattle.spds_tables.proofs.Made.{gathered_here, row_last, row_more}

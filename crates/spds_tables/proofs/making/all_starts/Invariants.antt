@@ -1,5 +1,5 @@
 use Rattle.std.proofs.Common.{◌≡◌, ◌<◌, ◌↔◌, ℕ, Some, length, map, slice_get}
-use Rattle.jim_ast.specs.Lists.{Has}
+use Rattle.lists.specs.Lists.{Has}
 use Rattle.link_indexes.specs.Rows.{row}
 use Rattle.link_sites.specs.declared.site.Site.{Site}
 use Rattle.spds_tables.specs.declared.numbered.StartAt.{StartAt}

@@ -1,10 +1,10 @@
 use Rattle.std.proofs.Common.{◌≡◌, ◌<◌, ℕ, List, length, get_or, false, arith, subst}
-use Rattle.jim_ast.specs.Lists.{Has}
+use Rattle.lists.specs.Lists.{Has}
 use Rattle.spds_rules.specs.declared.store.StoreAt.{StoreAt}
 use Rattle.spds_rules.specs.declared.node.Node.{Node}
 use Rattle.spds_rules.specs.declared.node.Var.TheVariants.{Local}
 use Rattle.spds_tables.specs.PartsOf.{IsStoreOf}
-use Rattle.call_work.proofs.Lists.{has-read}
+use Rattle.call_side.proofs.Lists.{has-read}
 use Rattle.spds_tables.proofs.SideBySide.{each_all, each_more}
 use Rattle.spds_tables.proofs.making.all_stores.Goals as goal
 

@@ -1,5 +1,5 @@
 use Rattle.std.proofs.Common.{take}
-use Rattle.link_rules.specs.Lists.{Each}
+use Rattle.lists.specs.Lists.{Each}
 use Rattle.spds_tables.specs.PartsOf.{IsStoreOf}
 use Rattle.spds_tables.proofs.making.all_stores.Given as goal
 

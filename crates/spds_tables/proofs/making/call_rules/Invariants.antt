@@ -1,5 +1,5 @@
 use Rattle.std.proofs.Common.{take}
-use Rattle.call_work.specs.Gathered.{AreGathered}
+use Rattle.call_side.specs.Gathered.{AreGathered}
 use Rattle.spds_tables.specs.Making.{IsCallRuleOf}
 use Rattle.spds_tables.proofs.making.call_rules.Given as goal
 

@@ -1,6 +1,6 @@
 use Rattle.std.proofs.Common.{arith}
 use Rattle.spds_tables.specs.Making.{IsJumpAt}
-use Rattle.call_work.proofs.Gathered.{gathered_all, gathered_more}
+use Rattle.call_side.proofs.Gathered.{gathered_all, gathered_more}
 use Rattle.spds_tables.proofs.making.jumps.Goals as goal
 
 pub loop-edge-preserved : goal.loop-edge-preserved

@@ -1,6 +1,6 @@
 use Rattle.std.proofs.Common.{arith}
 use Rattle.spds_tables.specs.Making.{IsStartAt}
-use Rattle.call_work.proofs.Gathered.{gathered_all, gathered_more}
+use Rattle.call_side.proofs.Gathered.{gathered_all, gathered_more}
 use Rattle.spds_tables.proofs.making.starts_among.Goals as goal
 
 pub loop-number-preserved : goal.loop-number-preserved

@@ -1,5 +1,5 @@
 use Rattle.spds_tables.specs.Systems.{Reaches}
-use Rattle.call_work.proofs.Truth.{word_found}
+use Rattle.call_side.proofs.Truth.{word_found}
 use Rattle.spds_tables.proofs.tables.share.Goals as goal
 
 pub returns : goal.returns

@@ -1,5 +1,5 @@
 use Rattle.std.proofs.Common.{inr}
-use Rattle.jim_ast.proofs.Places.{IsApart-adds}
+use Rattle.lists.proofs.Places.{IsApart-adds}
 use Rattle.spds_tables.proofs.works.begin.Goals as goal
 
 pub returns-in_ok-add_start-clause-apart : goal.returns-in_ok-add_start-clause-apart

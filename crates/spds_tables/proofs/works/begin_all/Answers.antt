@@ -1,8 +1,8 @@
 use Rattle.std.proofs.Common.{◌≡◌, ◌+◌, ◌<◌, ◌↔◌, ◌⊎◌, ◌++◌, List, length, take, inl, inr, ◌∙◌, ap, subst, append_assoc, arith}
 use Rattle.std.proofs.lemmas.List.{take_all}
-use Rattle.jim_ast.specs.Lists.{Has}
+use Rattle.lists.specs.Lists.{Has}
 use Rattle.spds_tables.specs.declared.numbered.StartAt.{StartAt}
-use Rattle.call_work.proofs.Lists.{Has-take_more, has-read}
+use Rattle.call_side.proofs.Lists.{Has-take_more, has-read}
 use Rattle.spds_tables.proofs.works.begin_all.Goals as goal
 
 pub begin-requires-clause-led : goal.begin-requires-clause-led

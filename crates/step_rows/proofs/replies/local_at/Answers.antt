@@ -1,5 +1,5 @@
 use Rattle.std.proofs.Common.{arith, refl}
-use Rattle.jim_ast.proofs.Places.{slice_get-below}
+use Rattle.lists.proofs.Places.{slice_get-below}
 use Rattle.report_text.proofs.Standing.{names_local}
 use Rattle.step_rows.proofs.replies.local_at.Goals as goal
 

@@ -1,5 +1,5 @@
 use Rattle.std.proofs.Common.{take, string_bytes}
-use Rattle.link_rules.specs.Lists.{Each}
+use Rattle.lists.specs.Lists.{Each}
 use Rattle.report_text.specs.Lines.{AddsLines}
 use Rattle.track_report.specs.Reports.{IsUnsafeLine}
 use Rattle.track_report.proofs.report.push_unsafe_lines.Given as goal

@@ -1,5 +1,5 @@
 use Rattle.std.proofs.Common.{arith}
-use Rattle.call_work.proofs.Gathered.{gathered_all, gathered_more}
+use Rattle.call_side.proofs.Gathered.{gathered_all, gathered_more}
 use Rattle.track_tables.specs.ByNode.{IsCellOf}
 use Rattle.track_tables.proofs.ByNode.{cells_all}
 use Rattle.track_tables.proofs.by_node.cells_of.Goals as goal

@@ -1,5 +1,5 @@
 use Rattle.std.proofs.Common.{take}
-use Rattle.call_work.specs.Gathered.{AreGathered}
+use Rattle.call_side.specs.Gathered.{AreGathered}
 use Rattle.track_tables.specs.ByNode.{IsCellOf}
 use Rattle.track_tables.proofs.by_node.cells_of.Given as goal
 

@@ -1,7 +1,7 @@
 use Rattle.std.proofs.Common.{◌<◌, length, get_or, inl, arith}
 use Rattle.std.proofs.lemmas.List.{take_all}
 use Rattle.std.proofs.lemmas.Option.{slice_get-get_or}
-use Rattle.jim_ast.specs.Lists.{Has}
+use Rattle.lists.specs.Lists.{Has}
 use Rattle.track_tables.specs.declared.returns.Return.{Return}
 use Rattle.track_tables.specs.Making.{IsTaken}
 use Rattle.track_tables.proofs.Backward.{each_of_more, no_return, of_one}

@@ -1,5 +1,5 @@
 use Rattle.std.proofs.Common.{take}
-use Rattle.jim_ast.specs.Lists.{Has}
+use Rattle.lists.specs.Lists.{Has}
 use Rattle.link_sites.specs.declared.site.Site.{Site}
 use Rattle.site_events.specs.Sites.{AreEventsOf}
 use Rattle.spds_rules.specs.Demand.{Asked}

@@ -1,5 +1,5 @@
 use Rattle.std.proofs.Common.{◌≡◌, Some, None, slice_get, sym, ◌∙◌, inl, arith}
-use Rattle.jim_ast.proofs.Places.{slice_get-below}
+use Rattle.lists.proofs.Places.{slice_get-below}
 use Rattle.track_tables.specs.Making.{IsBackAmong}
 use Rattle.track_tables.proofs.Backward.{of_more, of_wider}
 use Rattle.track_tables.proofs.Going.{come_more}

@@ -1,6 +1,6 @@
 use Rattle.std.proofs.Common.{◌≡◌, Some, slice_get, sym, ◌∙◌, subst}
-use Rattle.jim_ast.specs.Lists.{Has}
-use Rattle.jim_ast.proofs.Places.{Has-adds_itself}
+use Rattle.lists.specs.Lists.{Has}
+use Rattle.lists.proofs.Places.{Has-adds_itself}
 use Rattle.spds_rules.specs.declared.node.Node.{Node}
 use Rattle.track_tables.proofs.Growing.{kept_adds}
 use Rattle.track_tables.proofs.opening.add_base.Goals as goal

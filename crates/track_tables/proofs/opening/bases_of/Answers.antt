@@ -1,6 +1,6 @@
 use Rattle.std.proofs.Common.{◌≡◌, ℕ, Some, slice_get, arith}
 use Rattle.std.proofs.lemmas.List.{take_all}
-use Rattle.jim_ast.specs.Lists.{Has}
+use Rattle.lists.specs.Lists.{Has}
 use Rattle.spds_rules.specs.declared.node.Node.{Node}
 use Rattle.track_tables.proofs.Backward.{each_of_more}
 use Rattle.track_tables.proofs.Growing.{kept_has}

@@ -1,8 +1,8 @@
 use Rattle.std.proofs.Common.{◌<◌, length, get_or, arith}
 use Rattle.std.proofs.lemmas.List.{take_all}
 use Rattle.call_side.proofs.Filed.{no_step}
-use Rattle.jim_ast.specs.Lists.{Has}
-use Rattle.jim_ast.proofs.Places.{Has-adds_itself}
+use Rattle.lists.specs.Lists.{Has}
+use Rattle.lists.proofs.Places.{Has-adds_itself}
 use Rattle.post_star.specs.declared.bases.BaseStep.{BaseStep}
 use Rattle.track_tables.proofs.Backward.{each_of_more}
 use Rattle.track_tables.proofs.Growing.{kept_adds, kept_has}

@@ -1,6 +1,6 @@
 use Rattle.std.proofs.Common.{take}
 use Rattle.call_side.specs.Trails.{AreKept}
-use Rattle.jim_ast.specs.Lists.{Has}
+use Rattle.lists.specs.Lists.{Has}
 use Rattle.post_star.specs.declared.bases.BaseStep.{BaseStep}
 use Rattle.track_tables.proofs.opening.open_steps.Given as goal
 

@@ -1,5 +1,5 @@
 use Rattle.std.proofs.Common.{inl, inr, sym}
-use Rattle.call_work.proofs.Arriving.{inserted}
+use Rattle.call_side.proofs.Arriving.{inserted}
 use Rattle.track_tables.proofs.parts.add_loaded.Goals as goal
 
 pub returns-in_ok-insert : goal.returns-in_ok-insert

@@ -1,7 +1,7 @@
 use Rattle.std.proofs.Common.{arith}
 use Rattle.post_star.specs.declared.key.Key.TheVariants as key
 use Rattle.post_star.specs.Groups.{found_at}
-use Rattle.call_work.proofs.Gathered.{gathered_all, gathered_more, gathered_none}
+use Rattle.call_side.proofs.Gathered.{gathered_all, gathered_more, gathered_none}
 use Rattle.track_tables.specs.Making.{IsOnwardFrom}
 use Rattle.track_tables.proofs.Taken.{no_edge}
 use Rattle.track_tables.proofs.parts.all_onward.Goals as goal

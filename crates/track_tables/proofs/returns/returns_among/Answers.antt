@@ -1,5 +1,5 @@
 use Rattle.std.proofs.Common.{arith}
-use Rattle.call_work.proofs.Gathered.{gathered_all, gathered_more}
+use Rattle.call_side.proofs.Gathered.{gathered_all, gathered_more}
 use Rattle.track_tables.specs.Returns.{IsReturnOf}
 use Rattle.track_tables.proofs.returns.returns_among.Goals as goal
 

@@ -1,5 +1,5 @@
 use Rattle.std.proofs.Common.{take}
-use Rattle.call_work.specs.Gathered.{AreGathered}
+use Rattle.call_side.specs.Gathered.{AreGathered}
 use Rattle.track_tables.specs.Returns.{IsReturnOf}
 use Rattle.track_tables.proofs.returns.returns_among.Given as goal
 

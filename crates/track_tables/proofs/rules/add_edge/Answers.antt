@@ -1,6 +1,6 @@
 use Rattle.std.proofs.Common.{List, sym, ◌∙◌, subst}
 use Rattle.auto_table.specs.declared.rule.Rule.{Rule}
-use Rattle.jim_ast.specs.Lists.{Has}
+use Rattle.lists.specs.Lists.{Has}
 use Rattle.track_tables.proofs.Taken.{one_rule, rule_came, rule_to, taken_rule, taken_zero}
 use Rattle.weight_laws.specs.declared.rel.Rel.{Rel}
 use Rattle.track_tables.proofs.rules.add_edge.Goals as goal

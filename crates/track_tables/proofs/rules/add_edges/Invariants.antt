@@ -1,7 +1,7 @@
 use Rattle.std.proofs.Common.{◌⊎◌, take}
 use Rattle.auto_table.specs.declared.rule.Rule.{Rule}
-use Rattle.demand_walk.specs.declared.numbered.EdgeAt.{EdgeAt}
-use Rattle.jim_ast.specs.Lists.{Has}
+use Rattle.demand_set.specs.declared.numbered.EdgeAt.{EdgeAt}
+use Rattle.lists.specs.Lists.{Has}
 use Rattle.link_sites.specs.declared.site.Site.{Site}
 use Rattle.site_events.specs.Sites.{AreEventsOf}
 use Rattle.spds_rules.specs.Demand.{Asked}

@@ -1,6 +1,6 @@
 use Rattle.std.proofs.Common.{ap, subst}
-use Rattle.jim_ast.specs.Lists.{Has}
-use Rattle.jim_ast.proofs.Places.{Has-adds_itself}
+use Rattle.lists.specs.Lists.{Has}
+use Rattle.lists.proofs.Places.{Has-adds_itself}
 use Rattle.post_star.specs.Jobs.{Job}
 use Rattle.track_tables.proofs.Growing.{grown_rule, kept_adds}
 use Rattle.weight_laws.specs.declared.rel.Rel.{Rel}

@@ -1,6 +1,6 @@
 use Rattle.std.proofs.Common.{◌≡◌, List, Some, None, slice_get, sym, ◌∙◌, subst, inl, inr, arith}
-use Rattle.demand_walk.specs.declared.numbered.EdgeAt.{EdgeAt}
-use Rattle.jim_ast.specs.Lists.{Has}
+use Rattle.demand_set.specs.declared.numbered.EdgeAt.{EdgeAt}
+use Rattle.lists.specs.Lists.{Has}
 use Rattle.track_tables.specs.Making.{IsBackAmong, IsEdgeOf}
 use Rattle.track_tables.proofs.Backward.{of_more, of_wider}
 use Rattle.track_tables.proofs.Going.{back_more, onward_more}

@@ -1,6 +1,6 @@
 use Rattle.std.proofs.Common.{◌-◌, ◌^◌, ℕ}
-use Rattle.demand_walk.specs.declared.numbered.EdgeAt.{EdgeAt}
-use Rattle.jim_ast.specs.Lists.{Has}
+use Rattle.demand_set.specs.declared.numbered.EdgeAt.{EdgeAt}
+use Rattle.lists.specs.Lists.{Has}
 use Rattle.link_sites.specs.declared.site.Site.{Site}
 use Rattle.post_star.specs.declared.key.Key.TheVariants as key
 use Rattle.post_star.specs.Groups.{found_at}

@@ -1,6 +1,6 @@
 use Rattle.std.proofs.Common.{◌≡◌, Some, slice_get, sym, ap, ◌∙◌, true≢false}
-use Rattle.jim_ast.specs.Lists.{Adds}
-use Rattle.jim_ast.proofs.Places.{Has-adds_itself}
+use Rattle.lists.specs.Lists.{Adds}
+use Rattle.lists.proofs.Places.{Has-adds_itself}
 use Rattle.post_star.specs.Jobs.{Job}
 use Rattle.track_tables.proofs.Beginning.{begun_nowhere, begun_one}
 use Rattle.track_tables.proofs.Growing.{kept_adds}

@@ -1,5 +1,5 @@
 use Rattle.std.proofs.Common.{ℕ, List, ap, refl, sym, subst}
-use Rattle.held_places.specs.Held.{AreHeldAt}
+use Rattle.track_tables.specs.Held.{AreHeldAt}
 use Rattle.post_star.specs.Jobs.{Job}
 use Rattle.track_tables.proofs.Beginning.{answering_held}
 use Rattle.track_tables.proofs.Made.{begun_made}

@@ -2,7 +2,7 @@ use Rattle.std.proofs.Common.{ℕ, Option, false, slice_index_or, refl, sym, sub
 use Rattle.std.specs.Option.{IsSome}
 use Rattle.std.proofs.lemmas.Option.{slice_get-get_or}
 use Rattle.link_indexes.proofs.Grown.{take-next}
-use Rattle.track_events.specs.declared.statement.EventStatement.{EventStatement}
+use Rattle.site_events.specs.declared.event_statement.EventStatement.{EventStatement}
 use Rattle.type_track.proofs.Numbering.{receivers_more, receivers_none}
 use Rattle.type_track.proofs.receivers.receivers_in.Goals as goal
 

@@ -1,9 +1,9 @@
 use Rattle.std.proofs.Common.{◌≡◌, ◌<◌, ℕ, List, Some, get_or, slice_get, slice_index_or, sym, subst, take, ◌∙◌}
 use Rattle.std.specs.List.{AllPairs}
 use Rattle.std.proofs.lemmas.Option.{slice_get-get_or}
-use Rattle.jim_ast.specs.Lists.{Has}
+use Rattle.lists.specs.Lists.{Has}
 use Rattle.spds_rules.specs.Answers.{IsAnswered}
-use Rattle.track_events.specs.Statements.{receiver_node}
+use Rattle.site_events.specs.EventStatements.{receiver_node}
 use Rattle.type_track.specs.declared.receivers.Receiver.{Receiver}
 use Rattle.type_track.proofs.Posing.{at_held, held_at}
 use Rattle.type_track.proofs.Searching.{among_all, among_next, among_none}

@@ -1,5 +1,5 @@
 use Rattle.std.proofs.lemmas.Result.{on_ok_weaker}
-use Rattle.track_events.specs.Statements.{receiver_node}
+use Rattle.site_events.specs.EventStatements.{receiver_node}
 use Rattle.type_track.proofs.Posing.{grows_barred, site_read, sixteen}
 use Rattle.type_track.proofs.search.add_at.Goals as goal
 

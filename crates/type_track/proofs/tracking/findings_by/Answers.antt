@@ -1,6 +1,6 @@
 use Rattle.std.proofs.Common.{◌<◌, ℕ, List, length, sym, subst}
 use Rattle.lists.specs.Groups.{Grouped}
-use Rattle.held_places.specs.Held.{AreHeldIn}
+use Rattle.track_tables.specs.Held.{AreHeldIn}
 use Rattle.type_track.specs.Receivers.{asked_for}
 use Rattle.type_track.proofs.Asking.{loaded_demanded}
 use Rattle.type_track.proofs.tracking.findings_by.Goals as goal

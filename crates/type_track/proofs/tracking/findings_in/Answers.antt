@@ -1,11 +1,11 @@
 use Rattle.std.proofs.Common.{◌≡◌, ℕ, List, sym, subst, ◌∙◌, ap}
 use Rattle.query_core.proofs.Refused.{if_ok}
 use Rattle.demand_set.specs.Demands.{DemandParts}
-use Rattle.held_places.specs.Held.{AreHeldIn, AreOfDemand}
+use Rattle.track_tables.specs.Held.{AreHeldIn, AreOfDemand}
 use Rattle.link_rules.specs.Linked.{LinkedProgram}
 use Rattle.lists.specs.Groups.{Grouped}
 use Rattle.spds_rules.specs.Demand.{Asked}
-use Rattle.track_events.specs.declared.statement.EventStatement.{EventStatement}
+use Rattle.site_events.specs.declared.event_statement.EventStatement.{EventStatement}
 use Rattle.type_track.specs.declared.receivers.Receiver.{Receiver}
 use Rattle.type_track.specs.Receivers.{AreReceivers, asked_for, numbers_of}
 use Rattle.type_track.proofs.Asking.{receivers_demanded}

@@ -1,7 +1,8 @@
 use Rattle.std.proofs.Common.{◌≡◌, Err, ap, subst}
-use Rattle.demand_walk.specs.declared.demanded.DemandError.TheVariants.{OverBudget}
-use Rattle.demand_walk.specs.Walks.{HasAtMost}
-use Rattle.spds_rules.specs.Demand.{Asked, Demand, HasMore}
+use Rattle.demand_set.specs.declared.demanded.DemandError.TheVariants.{OverBudget}
+use Rattle.demand_set.specs.Walks.{HasAtMost}
+use Rattle.spds_rules.specs.Demand.{Asked, Demand}
+use Rattle.lists.specs.Lists.{HasMore}
 use Rattle.spds_rules.specs.declared.reach.Reach.TheVariants.{Tracked}
 use Rattle.track_sound.proofs.Sounding.{safe_where_nothing_found}
 use Rattle.type_track.proofs.Asking.{event_node, query_for, query_one}

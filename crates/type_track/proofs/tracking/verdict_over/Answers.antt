@@ -1,6 +1,6 @@
 use Rattle.std.proofs.Common.{length, sym, ap, arith}
 use Rattle.query_core.proofs.Posed.{few_sites}
-use Rattle.track_events.proofs.Asking.{is_query}
+use Rattle.site_events.proofs.Asking.{is_query}
 use Rattle.type_track.specs.Receivers.{asked_for}
 use Rattle.type_track.proofs.tracking.verdict_over.Goals as goal
 

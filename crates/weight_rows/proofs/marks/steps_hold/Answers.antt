@@ -1,5 +1,5 @@
 use Rattle.std.proofs.Common.{◌≡◌, ◌+◌, ◌<◌, ◌⊎◌, ℕ, zero, suc, [], ◌∷◌, Some, slice_get, sym, inl, inr, arith}
-use Rattle.auto_table.specs.Lists.{Has}
+use Rattle.lists.specs.Lists.{Has}
 use Rattle.weight_rows.proofs.marks.steps_hold.Goals as goal
 
 -- an element of two

@@ -1,7 +1,7 @@
 use Rattle.std.proofs.Common.{◌≡◌, ◌<◌, ℕ, List, Some, false, true, length, get_or, slice_get, sym, ap, subst, ◌∙◌, arith}
 use Rattle.std.specs.List.{AllPairs}
 use Rattle.std.proofs.lemmas.Option.{get_or_from_slice_get, slice_get-get_or}
-use Rattle.jim_ast.proofs.Places.{slice_get-below}
+use Rattle.lists.proofs.Places.{slice_get-below}
 use Rattle.link_sites.specs.declared.place.Place.{Place}
 use Rattle.link_sites.specs.contracts.place.PlacePartialEq.TheImpl as places
 use Rattle.link_sites.specs.Places.{ComesBefore}

@@ -1,5 +1,5 @@
-use Rattle.auto_table.proofs.Keys.{Adds-insert_key, insert_key-new}
-use Rattle.auto_table.proofs.Places.{Has-adds_itself}
+use Rattle.lists.proofs.Keys.{Adds-insert_key, insert_key-new}
+use Rattle.lists.proofs.Places.{Has-adds_itself}
 use Rattle.std.proofs.Common.{◌≡◌, ◌∷◌, ◌++◌, [], false, refl, ◌∙◌, eqb, eqb-true, eq-eqb}
 use Rattle.std.specs.List.{list_any}
 use Rattle.call_side.proofs.Trails.{homes_more, not_new}

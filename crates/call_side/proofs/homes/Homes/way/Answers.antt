@@ -1,5 +1,5 @@
 use Rattle.std.proofs.Common.{refl, sym, eqb, eqb-true, eq-eqb}
-use Rattle.auto_table.proofs.Keys.{not-found, slice_get-position}
+use Rattle.lists.proofs.Keys.{not-found, slice_get-position}
 use Rattle.call_side.proofs.homes.Homes.way.Goals as goal
 
 pub returns-in_ok-marks_back-in-Some-clause-some : goal.returns-in_ok-marks_back-in-Some-clause-some

@@ -3,10 +3,10 @@ use Rattle.std.specs.Global.{Vec}
 use Rattle.std.specs.Option.{option_map}
 use Rattle.std.proofs.lemmas.List.{length-map}
 use Rattle.std.proofs.lemmas.Option.{slice_get-get_or, slice_get-map}
-use Rattle.jim_ast.proofs.Places.{slice_get-below}
+use Rattle.lists.proofs.Places.{slice_get-below}
 use Rattle.link_sites.specs.declared.site.Site.{Site}
 use Rattle.spds_rules.specs.declared.node.Node.{Node}
-use Rattle.spds_rules.specs.Demand.{AreAll}
+use Rattle.lists.specs.Lists.{AreAll}
 use Rattle.demand_set.specs.Demands.{StartsAt}
 use Rattle.demand_set.specs.Starts.{AreStarts}
 use Rattle.demand_set.proofs.set.Demand.starts.Goals as goal

@@ -1,6 +1,6 @@
 use Rattle.std.proofs.Common.{◌∙◌, ap, subst}
 use Rattle.std.specs.Prelude.{ℕ, IfNone, IfSome}
-use Rattle.class_tree.specs.Paths.{IsLeast}
+use Rattle.lists.specs.Lists.{IsLeast}
 use Rattle.jim_ast.specs.declared.syntax.Body.{Body}
 use Rattle.link_bodies.specs.Places.{RepeatsName}
 use Rattle.link_bodies.proofs.Again.{none_label, some_label}

@@ -1,14 +1,13 @@
-use Rattle.std.proofs.Common.{◌≡◌, ◌+◌, ◌++◌, ◌∷◌, [], length, take, drop, refl, sym, ap, subst, ◌∙◌, inl, arith}
+use Rattle.std.proofs.Common.{◌≡◌, ◌+◌, ◌++◌, ◌∷◌, [], length, take, drop, refl, sym, ap, subst, ◌∙◌, inl, arith, length-take}
 use Rattle.std.proofs.lemmas.List.{length-map}
-use Rattle.std.proofs.Common.{length-take}
-use Rattle.class_tree.specs.Paths.{IsLeast}
+use Rattle.lists.specs.Lists.{IsLeast, Each}
 use Rattle.link_rules.specs.Keys.{HasFieldKey, field_key}
-use Rattle.link_rules.specs.Lists.{Each}
 use Rattle.link_rules.specs.World.{IsFieldRow}
 use Rattle.link_classes.specs.Seen.{seen_field, seen_fields}
 use Rattle.link_classes.specs.Tables.{KnowsFields}
 use Rattle.link_classes.proofs.FirstMembers.{least_of_front}
-use Rattle.link_classes.proofs.Growing.{Each-push, taken_more, taken_whole}
+use Rattle.link_classes.proofs.Growing.{taken_more, taken_whole}
+use Rattle.lists.proofs.SideBySide.{Each-push}
 use Rattle.link_classes.proofs.KeyTests.{makes_field, opens_field}
 use Rattle.link_classes.proofs.member_tables.FieldTable.new.Goals as goal
 

@@ -1,16 +1,15 @@
-use Rattle.std.proofs.Common.{◌≡◌, ◌+◌, ◌++◌, ◌∷◌, [], All, length, take, drop, refl, sym, ap, subst, ◌∙◌, inl, arith}
+use Rattle.std.proofs.Common.{◌≡◌, ◌+◌, ◌++◌, ◌∷◌, [], All, length, take, drop, refl, sym, ap, subst, ◌∙◌, inl, arith, length-take}
 use Rattle.std.proofs.lemmas.List.{length-map}
-use Rattle.std.proofs.Common.{length-take}
-use Rattle.class_tree.specs.Paths.{IsLeast}
+use Rattle.lists.specs.Lists.{IsLeast, Each}
 use Rattle.link_rules.specs.Keys.{HasMethodKey, method_key}
-use Rattle.link_rules.specs.Lists.{Each}
 use Rattle.link_rules.specs.World.{IsMethodRow}
 use Rattle.link_classes.specs.Classes.{IsKnown}
 use Rattle.link_classes.specs.Keyed.{IsMethodKeyIn}
 use Rattle.link_classes.specs.Seen.{seen_method, seen_methods}
 use Rattle.link_classes.specs.Tables.{KnowsMethods}
 use Rattle.link_classes.proofs.FirstMembers.{least_of_front}
-use Rattle.link_classes.proofs.Growing.{Each-push, taken_more, taken_whole}
+use Rattle.link_classes.proofs.Growing.{taken_more, taken_whole}
+use Rattle.lists.proofs.SideBySide.{Each-push}
 use Rattle.link_classes.proofs.KeyTests.{makes_method, opens_method}
 use Rattle.link_classes.proofs.member_tables.MethodTable.new.Goals as goal
 

@@ -1,5 +1,5 @@
 use Rattle.std.proofs.Common.{take}
-use Rattle.link_rules.specs.Lists.{Each}
+use Rattle.lists.specs.Lists.{Each}
 use Rattle.link_rules.specs.World.{IsMethodRow}
 use Rattle.link_classes.specs.Seen.{seen_methods}
 use Rattle.link_classes.specs.Tables.{KnowsMethods}

@@ -1,5 +1,5 @@
 use Rattle.std.proofs.Common.{[], sym, subst}
-use Rattle.link_rules.specs.Lists.{FirstSeen}
+use Rattle.lists.specs.Lists.{FirstSeen}
 use Rattle.link_classes.proofs.Numbering.{numbers_kept}
 use Rattle.link_classes.proofs.names.AllNames.new.Goals as goal
 

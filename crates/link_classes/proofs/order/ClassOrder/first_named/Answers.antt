@@ -1,6 +1,6 @@
 use Rattle.std.proofs.Common.{[], subst}
 use Rattle.std.proofs.lemmas.Option.{get_or_from_slice_get}
-use Rattle.jim_ast.proofs.Places.{slice_get-below}
+use Rattle.lists.proofs.Places.{slice_get-below}
 use Rattle.link_classes.specs.Seen.{IsFirstNamed, seen_classes}
 use Rattle.link_classes.proofs.Within.{named_has}
 use Rattle.link_classes.proofs.order.ClassOrder.first_named.Goals as goal

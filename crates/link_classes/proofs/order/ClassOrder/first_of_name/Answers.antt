@@ -1,4 +1,4 @@
-use Rattle.jim_ast.proofs.Places.{slice_get-below}
+use Rattle.lists.proofs.Places.{slice_get-below}
 use Rattle.link_rules.specs.Classes.{class_name}
 use Rattle.link_classes.specs.Seen.{seen_class}
 use Rattle.link_classes.proofs.Within.{name_number}

@@ -3,7 +3,7 @@ use Rattle.std.specs.List.{slice_set}
 use Rattle.std.proofs.lemmas.List.{map-append}
 use Rattle.std.proofs.lemmas.List.Elements.{All-push}
 use Rattle.std.proofs.lemmas.Option.{slice_get-get_or}
-use Rattle.jim_ast.proofs.Places.{slice_get-below}
+use Rattle.lists.proofs.Places.{slice_get-below}
 use Rattle.link_classes.specs.Seen.{IsSeen, KnowsClasses, seen_class, seen_classes}
 use Rattle.link_classes.proofs.Naming.{knows_pushed}
 use Rattle.link_classes.proofs.Within.{name_number}

@@ -1,6 +1,6 @@
 use Rattle.std.proofs.Common.{ℕ, List, IsTrue, subst}
 use Rattle.std.specs.Prelude.{◌↔◌}
-use Rattle.jim_ast.specs.Lists.{Has}
+use Rattle.lists.specs.Lists.{Has}
 use Rattle.link_faults.specs.AtSite.{names_of, world_of}
 use Rattle.link_faults.specs.Parts.{seen_call}
 use Rattle.link_faults.specs.Sites.{IsNativeRow, RunsNative}

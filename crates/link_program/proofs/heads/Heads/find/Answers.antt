@@ -3,7 +3,7 @@ use Rattle.std.proofs.Common.{◌≡◌, List, ℕ, Some, map, slice_get, sym, t
 use Rattle.std.specs.Option.{option_map}
 use Rattle.std.proofs.lemmas.List.{length-map}
 use Rattle.std.proofs.lemmas.Option.{slice_get-get_or, slice_get-map}
-use Rattle.jim_ast.specs.Lists.{Has}
+use Rattle.lists.specs.Lists.{Has}
 use Rattle.link_program.specs.declared.method.MethodHead.{MethodHead}
 use Rattle.link_rules.specs.Accessed.{IsFirstPlace}
 use Rattle.link_program.proofs.Searched.{first_here, not_here, nowhere, texts-heads}

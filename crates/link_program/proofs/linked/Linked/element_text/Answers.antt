@@ -1,6 +1,6 @@
 use Rattle.std.proofs.Common.{List, map, subst}
 use Rattle.link_rules.specs.Linked.{Element}
-use Rattle.link_rules.specs.Lists.{AreIncreasing}
+use Rattle.lists.specs.Lists.{AreIncreasing}
 use Rattle.link_rules.specs.Accessed.{HasElementText}
 use Rattle.link_program.proofs.Arrays.{makes_found, makes_ordered, ordered_pairs}
 use Rattle.link_program.proofs.linked.Linked.element_text.Goals as goal

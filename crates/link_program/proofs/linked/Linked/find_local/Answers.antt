@@ -1,4 +1,4 @@
-use Rattle.jim_ast.proofs.Places.{slice_get-there}
+use Rattle.lists.proofs.Places.{slice_get-there}
 use Rattle.link_program.proofs.linked.Linked.find_local.Goals as goal
 
 pub first_name-requires : goal.first_name-requires

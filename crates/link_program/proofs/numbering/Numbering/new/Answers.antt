@@ -1,7 +1,7 @@
 use Rattle.std.proofs.Common.{◌<◌, Some, length, length-set, get_or, sym, ap, subst, ◌∙◌, arith}
 use Rattle.std.proofs.lemmas.List.Elements.{All-get_or}
 use Rattle.std.proofs.lemmas.Option.{slice_get-get_or}
-use Rattle.link_rules.specs.Lists.{AreIncreasing}
+use Rattle.lists.specs.Lists.{AreIncreasing}
 use Rattle.link_program.proofs.Increasing.{HasPlaces, all_places, place_le, places_more}
 use Rattle.link_program.proofs.numbering.Numbering.new.Goals as goal
 

@@ -1,5 +1,5 @@
 use Rattle.std.proofs.Common.{◌+◌, arith, sym, ◌∙◌, refl, slice_get, ◌≡◌, Some}
-use Rattle.jim_ast.proofs.Places.{slice_get-below}
+use Rattle.lists.proofs.Places.{slice_get-below}
 use Rattle.link_reach.proofs.Searching.{searched_class, class_done, class_within, classes_left}
 use Rattle.link_reach.proofs.search.Search.turn_class.Goals as goal
 

@@ -1,5 +1,5 @@
 use Rattle.std.proofs.Common.{◌+◌, arith, sym, ◌∙◌, refl, slice_get, ◌≡◌, Some}
-use Rattle.jim_ast.proofs.Places.{slice_get-below}
+use Rattle.lists.proofs.Places.{slice_get-below}
 use Rattle.link_reach.proofs.Searching.{searched_method, method_done, method_within, method_there, methods_left}
 use Rattle.link_reach.proofs.search.Search.turn_method.Goals as goal
 

@@ -1,5 +1,5 @@
 use Rattle.std.proofs.Common.{◌++◌, ◌∷◌, [], sym, subst, arith}
-use Rattle.auto_table.specs.Lists.{Has}
+use Rattle.lists.specs.Lists.{Has}
 use Rattle.post_star.specs.declared.rise.Item.TheVariants.{At, Between}
 use Rattle.post_star.proofs.Loops.{turned_at, turned_between}
 use Rattle.post_star.proofs.Scopes.{within_popped, has_last}

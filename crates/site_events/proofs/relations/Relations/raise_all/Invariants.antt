@@ -1,5 +1,5 @@
 use Rattle.std.proofs.Common.{take}
-use Rattle.jim_ast.specs.Lists.{Has}
+use Rattle.lists.specs.Lists.{Has}
 use Rattle.site_events.specs.Tables.{AreRaised}
 use Rattle.site_events.proofs.relations.Relations.raise_all.Given as goal
 

@@ -1,13 +1,12 @@
 use Rattle.std.proofs.Common.{◌≡◌, ◌<◌, ◌⊎◌, ◌↔◌, ℕ, List, [], ◌∷◌, ◌++◌, false, length, map, inl, inr, refl, sym, subst, ◌∙◌}
 use Rattle.std.specs.Bool.{◌==◌}
-use Rattle.jim_ast.specs.Lists.{Has}
+use Rattle.lists.specs.Lists.{Has, AreAll}
 use Rattle.link_indexes.proofs.Grown.{Has-push}
 use Rattle.link_program.proofs.Found.{from_map}
 use Rattle.link_rules.specs.Linked.{LinkedProgram}
-use Rattle.spds_rules.specs.Demand.{AreAll}
-use Rattle.track_events.specs.Callers.{AreMethods}
-use Rattle.track_events.specs.Loud.{IsLoud}
-use Rattle.track_events.proofs.Entering.{loud_calls_enter}
+use Rattle.site_events.specs.Callers.{AreMethods}
+use Rattle.site_events.specs.Loud.{IsLoud}
+use Rattle.site_events.proofs.Entering.{loud_calls_enter}
 use Rattle.track_systems.proofs.Meaning.{meaning}
 use Rattle.weight_laws.specs.declared.rel.Rel.{Rel}
 use Rattle.weight_laws.specs.Rel.{Relates}

@@ -1,7 +1,7 @@
 use Rattle.std.proofs.Common.{◌≡◌, ◌↔◌, ◌⊎◌, List, inl, inr, subst, sym}
-use Rattle.demand_walk.proofs.Keys.{Adds-insert_key}
-use Rattle.jim_ast.specs.Lists.{Adds, Has}
-use Rattle.jim_ast.proofs.Places.{Has-adds_itself, slice_get-added, slice_get-adds}
+use Rattle.lists.proofs.Keys.{Adds-insert_key}
+use Rattle.lists.specs.Lists.{Adds, Has}
+use Rattle.lists.proofs.Places.{Has-adds_itself, slice_get-added, slice_get-adds}
 use Rattle.spds_solve.specs.contracts.arrivals.ArrivalPartialEq.TheImpl.{eq-value}
 use Rattle.spds_solve.proofs.SameKey.{same_arrival, self_arrival}
 use Rattle.spds_solve.proofs.arrivals.Arrivals.add.Goals as goal

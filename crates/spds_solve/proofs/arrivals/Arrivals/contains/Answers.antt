@@ -1,4 +1,4 @@
-use Rattle.auto_table.proofs.Keys.{Has-list_any}
+use Rattle.lists.proofs.Keys.{Has-list_any}
 use Rattle.spds_solve.specs.contracts.arrivals.ArrivalPartialEq.TheImpl.{eq-value}
 use Rattle.spds_solve.proofs.SameKey.{same_arrival, self_arrival}
 use Rattle.spds_solve.proofs.arrivals.Arrivals.contains.Goals as goal

@@ -1,5 +1,5 @@
 use Rattle.std.proofs.Common.{List, subst}
-use Rattle.jim_ast.specs.Lists.{Has}
+use Rattle.lists.specs.Lists.{Has}
 use Rattle.spds_solve.proofs.Posting.{none}
 use Rattle.spds_solve.proofs.known.Known.new.Goals as goal
 use Rattle.spds_tables.specs.declared.numbered.Met.{Met as Numbers}

@@ -1,6 +1,6 @@
 use Rattle.std.proofs.Common.{◌↔◌, IsTrue, List, subst}
-use Rattle.auto_table.proofs.Keys.{Has-list_any}
-use Rattle.jim_ast.specs.Lists.{Has}
+use Rattle.lists.proofs.Keys.{Has-list_any}
+use Rattle.lists.specs.Lists.{Has}
 use Rattle.spds_solve.proofs.SameKey.{same_met, self_met}
 use Rattle.spds_solve.proofs.mets.Mets.contains.Goals as goal
 use Rattle.spds_tables.specs.declared.numbered.Met.{Met as Numbers}

@@ -1,5 +1,5 @@
 use Rattle.std.proofs.Common.{◌↔◌, List, ℕ, subst, sym}
-use Rattle.jim_ast.specs.Lists.{Has}
+use Rattle.lists.specs.Lists.{Has}
 use Rattle.spds_solve.specs.declared.heads.Head.{Head}
 use Rattle.spds_solve.specs.Posts.{Knows, post_of}
 use Rattle.spds_solve.proofs.posts.Posts.at_store.Goals as goal

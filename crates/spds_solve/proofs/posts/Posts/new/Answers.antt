@@ -1,5 +1,5 @@
 use Rattle.std.proofs.Common.{List, subst}
-use Rattle.jim_ast.specs.Lists.{Has}
+use Rattle.lists.specs.Lists.{Has}
 use Rattle.spds_solve.specs.declared.posts.Post.{Post}
 use Rattle.spds_solve.proofs.Posting.{none, posted_none}
 use Rattle.spds_solve.proofs.posts.Posts.new.Goals as goal

@@ -1,5 +1,5 @@
 use Rattle.std.proofs.Common.{◌↔◌, List, ℕ, subst, sym, ◌∙◌, ap}
-use Rattle.jim_ast.specs.Lists.{Has}
+use Rattle.lists.specs.Lists.{Has}
 use Rattle.post_star.specs.Groups.{found_at}
 use Rattle.spds_solve.specs.Posts.{Knows, post_of}
 use Rattle.spds_solve.proofs.posts.Posts.with_head.Goals as goal

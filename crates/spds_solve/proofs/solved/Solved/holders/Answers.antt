@@ -1,6 +1,6 @@
 use Rattle.std.proofs.Common.{◌↔◌, List, eqb, subst}
 use Rattle.std.proofs.lemmas.Result.{IfOk-weaker}
-use Rattle.jim_ast.specs.Lists.{Has}
+use Rattle.lists.specs.Lists.{Has}
 use Rattle.lists.specs.Groups.{found_at}
 use Rattle.spds_solve.specs.declared.arrivals.Arrival.{Arrival}
 use Rattle.spds_solve.proofs.solved.Solved.holders.Goals as goal

@@ -1,7 +1,7 @@
 use Rattle.std.proofs.Common.{◌≡◌, ◌↔◌, ℕ, List, slice_index_or, sym, subst, take}
 use Rattle.std.proofs.lemmas.List.{take_all}
 use Rattle.std.proofs.lemmas.Option.{slice_get-get_or}
-use Rattle.jim_ast.specs.Lists.{Has}
+use Rattle.lists.specs.Lists.{Has}
 use Rattle.link_indexes.proofs.Grown.{take-next}
 use Rattle.rule_cells.specs.Renamed.{number_in}
 use Rattle.spds_solve.specs.declared.arrivals.Arrival.{Arrival}

@@ -1,5 +1,5 @@
-use Rattle.demand_walk.proofs.Keys.{Adds-insert_key, put-insert_key}
-use Rattle.jim_ast.proofs.Places.{IsApart-adds}
+use Rattle.lists.proofs.Keys.{Adds-insert_key, put-insert_key}
+use Rattle.lists.proofs.Places.{IsApart-adds}
 use Rattle.spds_tables.specs.contracts.numbered.StartAtPartialEq.TheImpl.{eq-value}
 use Rattle.spds_tables.proofs.SameStart.{same, self}
 use Rattle.spds_tables.proofs.begun.Begun.add.Goals as goal

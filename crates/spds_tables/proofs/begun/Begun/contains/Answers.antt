@@ -1,4 +1,4 @@
-use Rattle.auto_table.proofs.Keys.{Has-list_any}
+use Rattle.lists.proofs.Keys.{Has-list_any}
 use Rattle.spds_tables.specs.contracts.numbered.StartAtPartialEq.TheImpl.{eq-value}
 use Rattle.spds_tables.proofs.SameStart.{same, self}
 use Rattle.spds_tables.proofs.begun.Begun.contains.Goals as goal

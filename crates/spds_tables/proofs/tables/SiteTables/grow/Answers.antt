@@ -1,7 +1,7 @@
 use Rattle.std.proofs.Common.{◌≡◌, ◌<◌, ◌++◌, inl, inr, ℕ, List, length, subst, sym, ap, ◌∙◌, arith, refl}
 use Rattle.std.proofs.lemmas.Bool.{eqb-false, eqb-true}
-use Rattle.jim_ast.specs.Lists.{Has}
-use Rattle.jim_ast.proofs.Places.{slice_get-below, slice_get-there}
+use Rattle.lists.specs.Lists.{Has}
+use Rattle.lists.proofs.Places.{slice_get-below, slice_get-there}
 use Rattle.spds_tables.specs.declared.numbered.Met.{Met}
 use Rattle.spds_tables.specs.declared.numbered.StartAt.{StartAt}
 use Rattle.spds_tables.specs.declared.tables.SiteTables.{SiteTables}

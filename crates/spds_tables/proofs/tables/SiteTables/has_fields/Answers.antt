@@ -2,7 +2,7 @@ use Rattle.std.proofs.Common.{ℕ, [], subst, IsTrue, ◌↔◌}
 use Rattle.auto_table.specs.declared.entry.Entry.TheVariants.{Base}
 use Rattle.auto_table.specs.Cells.{weight_at}
 use Rattle.spds_tables.specs.Systems.{Reaches}
-use Rattle.call_work.proofs.Truth.{base_value, value_derives}
+use Rattle.call_side.proofs.Truth.{base_value, value_derives}
 use Rattle.spds_tables.proofs.tables.SiteTables.has_fields.Goals as goal
 use Rattle.weight_laws.specs.Reach.{reach_domain}
 

@@ -1,5 +1,5 @@
 use Rattle.std.proofs.Common.{List, subst}
-use Rattle.jim_ast.specs.Lists.{Has}
+use Rattle.lists.specs.Lists.{Has}
 use Rattle.spds_tables.specs.declared.numbered.StartAt.{StartAt}
 use Rattle.spds_tables.proofs.Built.{met_passed, met_taken, starts_among}
 use Rattle.spds_tables.proofs.Questions.{one_has}

@@ -1,4 +1,0 @@
-pub mod Adding
-pub mod Called
-pub mod Chosen
-pub mod Standing

@@ -1,7 +1,0 @@
-use Rattle.std.proofs.Common.{ℕ, ◌↔◌}
-use Rattle.jim_ast.specs.Lists.{Has}
-use Rattle.call_refine.proofs.Chosen.{IsChosenOf}
-use Rattle.call_refine.proofs.selecting.chosen.Given as goal
-
-abbrev pub invariant-loop-site : goal.invariant-loop-site
-invariant-loop-site l = (target : ℕ) → Has l.found.keys target ↔ IsChosenOf l.linked l.sites l.class l.key l.site-index target

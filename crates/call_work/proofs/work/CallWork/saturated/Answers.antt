@@ -1,5 +1,0 @@
-use Rattle.call_work.proofs.Coding.{work_table}
-use Rattle.call_work.proofs.work.CallWork.saturated.Goals as goal
-
-pub returns : goal.returns
-returns c = rw (← c.self.view_is) (work_table c.self.inside.common.value c.self.inside.work c.table.result.now c.self.invariant c.table.ensures)

@@ -1,9 +1,0 @@
-use Rattle.std.proofs.Common.{false, true}
-use Rattle.call_work.proofs.Coding.{either_way, work_settled}
-use Rattle.call_work.proofs.work.CallWork.settle.Goals as goal
-
-pub invariant_of-self : goal.invariant_of-self
-invariant_of-self c =
-    either_way c.settle.result _ _ _ c.settle.ensures.ok c.settle.ensures.err
-    (work_settled c.self.inside.common.value c.self.inside.work c.settle.new.self c.self.invariant true)
-    (work_settled c.self.inside.common.value c.self.inside.work c.settle.new.self c.self.invariant false)

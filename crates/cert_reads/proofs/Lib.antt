@@ -1,3 +1,0 @@
-pub mod Held
-mod Read
-pub mod Told

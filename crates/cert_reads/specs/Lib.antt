@@ -1,4 +1,0 @@
-pub mod Closed
-pub mod Readings
-pub mod SameReading
-pub mod Meeting

@@ -1,2 +1,0 @@
-pub mod SamePairing
-pub mod Settled

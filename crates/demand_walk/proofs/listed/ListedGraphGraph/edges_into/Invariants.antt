@@ -1,7 +1,0 @@
-use Rattle.std.proofs.Common.{◌≡◌, take}
-use Rattle.jim_ast.specs.Lists.{Has}
-use Rattle.spds_rules.specs.Demand.{AreAll}
-use Rattle.demand_walk.proofs.listed.ListedGraphGraph.edges_into.Given as goal
-
-abbrev pub invariant-loop-edge : goal.invariant-loop-edge
-invariant-loop-edge l = AreAll (λ e. Has (take l.edge-index l.edge-items) e × (e.to ≡ l.fn.node)) l.into.items

@@ -1,4 +1,0 @@
-pub mod Graphs
-pub mod Walks
-pub mod Searches
-pub mod Numbers

@@ -1,0 +1,18 @@
+use Rattle.std.proofs.Common.{◌≡◌, ◌≢◌, ◌≤◌, List, length}
+use Rattle.jim_signs.specs.declared.lead.Lead.TheVariants as lead
+use Rattle.jim_signs.specs.declared.lead.Sign.{Sign}
+use Rattle.jim_grammar.specs.Expressions.{Tree, spell}
+use Rattle.jim_grammar.specs.Grammar.{name, names}
+use Rattle.jim_stmts.specs.Leads.{lead_at}
+use Rattle.jim_stmts.specs.Meanings.{id, names_of}
+use Rattle.jim_stmts.proofs.Commas.{CommasLeft}
+use Rattle.jim_stmts.proofs.listed.names.Given as goal
+
+abbrev pub invariant-loop-reader : goal.invariant-loop-reader
+invariant-loop-reader l = record {
+  no_longer : length l.reader ≤ length l.fn.reader;
+  left : (x : Tree names) (r : List Sign) → l.fn.reader ≡ spell names x r → lead_at r ≢ lead.Comma → CommasLeft name id (names_of x) l.found.items l.reader r;
+}
+
+abbrev pub decreases-loop-reader : goal.decreases-loop-reader
+decreases-loop-reader l = length l.reader

@@ -1,4 +1,0 @@
-pub mod OneCode
-pub mod OneLink
-pub mod OneList
-pub mod OneRefusal

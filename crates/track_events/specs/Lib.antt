@@ -1,4 +1,0 @@
-pub mod Statements
-pub mod Leading
-pub mod Callers
-pub mod Loud

@@ -1,4 +1,0 @@
-pub mod Holding
-pub mod Joining
-pub mod Weighed
-pub mod Changing

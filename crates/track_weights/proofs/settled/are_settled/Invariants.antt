@@ -1,6 +1,0 @@
-use Rattle.std.proofs.Common.{take}
-use Rattle.track_weights.specs.Passed.{AreSettledIn, var_of}
-use Rattle.track_weights.proofs.settled.are_settled.Given as goal
-
-abbrev pub invariant-loop-target : goal.invariant-loop-target
-invariant-loop-target l = AreSettledIn l.linked (take l.target-index l.targets) (var_of l.position)
