@@ -4,9 +4,9 @@
 -- production is read in one way, and X_apart that the rule is.
 use Rattle.std.proofs.Common.{◌≡◌, ◌≢◌, Bool, true, false, List, [], ◌∷◌, Some, None, refl, sym, ap, ◌∙◌}
 use Rattle.std.proofs.lemmas.Bool.{false≢true}
-use Rattle.jim_signs.specs.declared.lead.Lead.{Lead}
-use Rattle.jim_signs.specs.declared.lead.Lead.TheVariants as lead
-use Rattle.jim_signs.specs.declared.lead.Sign.{Sign}
+use Rattle.jim_text.specs.declared.lead.Lead.{Lead}
+use Rattle.jim_text.specs.declared.lead.Lead.TheVariants as lead
+use Rattle.jim_signs.specs.declared.seen.Sign.{Sign}
 use Rattle.jim_grammar.specs.Sets.{is_base, is_operator, is_plain_invoke, is_switch_word, is_monitor_word, is_skip_word, is_not_end}
 use Rattle.jim_grammar.specs.Forms.{ImmForm, LocalImm, NumberImm, TextImm, ClassImm, NullImm, ExprForm, UseExpr, NewExpr, ArrayExpr, MultiExpr, CastExpr, InstanceExpr, LengthExpr, NegExpr, BinaryExpr, FieldExpr, StaticExpr, CellExpr, InvokeExpr, InvokeForm, OnReceiver, OnClass, Dynamic, StmtForm, ThisStmt, ParamStmt, CaughtStmt, AssignStmt, PutFieldStmt, PutStaticStmt, PutCellStmt, CallStmt, IfStmt, GotoStmt, SwitchStmt, ReturnStmt, RetStmt, ThrowStmt, MonitorStmt, SkipStmt, ResultForm, VoidResult, TypeResult}
 use Rattle.jim_grammar.specs.Expressions.{Tok, Opt, Tree, spell, spell_each}

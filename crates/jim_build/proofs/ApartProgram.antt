@@ -1,9 +1,9 @@
 -- Declarations, lines, bodies, members, classes and programs are read in one way only. The names are those of `ApartCode`.
 use Rattle.std.proofs.Common.{◌≡◌, ◌≢◌, true, false, List, [], refl, sym, ap, ◌∙◌}
 use Rattle.std.proofs.lemmas.Bool.{false≢true}
-use Rattle.jim_signs.specs.declared.lead.Lead.{Lead}
-use Rattle.jim_signs.specs.declared.lead.Lead.TheVariants as lead
-use Rattle.jim_signs.specs.declared.lead.Sign.{Sign}
+use Rattle.jim_text.specs.declared.lead.Lead.{Lead}
+use Rattle.jim_text.specs.declared.lead.Lead.TheVariants as lead
+use Rattle.jim_signs.specs.declared.seen.Sign.{Sign}
 use Rattle.jim_grammar.specs.declared.set.LeadSet.TheVariants.{Modifiers}
 use Rattle.jim_grammar.specs.Sets.{is_base, is_odd_type, is_modifier}
 use Rattle.jim_grammar.specs.Forms.{LineForm, LabelLine, StmtLine, FieldMember, MethodMember, EndForm, NoBody, WithBody, DeclForm, TypeDecl, OddDecl}

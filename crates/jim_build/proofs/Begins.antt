@@ -1,9 +1,9 @@
 -- What the next tokens say of what is next.
 use Rattle.std.proofs.Common.{◌≡◌, ◌≢◌, ℕ, ◌<◌, Bool, true, false, ◌||◌, List, [], ◌∷◌, length, None, Some, refl, ap, ◌∙◌, sym, arith}
 use Rattle.std.proofs.lemmas.Bool.{false≢true}
-use Rattle.jim_signs.specs.declared.lead.Lead.{Lead}
-use Rattle.jim_signs.specs.declared.lead.Lead.TheVariants as lead
-use Rattle.jim_signs.specs.declared.lead.Sign.{Sign}
+use Rattle.jim_text.specs.declared.lead.Lead.{Lead}
+use Rattle.jim_text.specs.declared.lead.Lead.TheVariants as lead
+use Rattle.jim_signs.specs.declared.seen.Sign.{Sign}
 use Rattle.jim_grammar.specs.Sets.{is_modifier, is_base, is_odd_type, is_class_word, is_plain_invoke, is_switch_word, is_monitor_word, is_skip_word}
 use Rattle.jim_grammar.specs.Forms.{LocalImm, NumberImm, TextImm, ClassImm, NullImm, PutCellStmt, CallStmt, SwitchStmt, MonitorStmt, SkipStmt, OnReceiver, OnClass, Dynamic, LabelLine, StmtLine, VoidResult, TypeResult, FieldMember, MethodMember, NoBody, WithBody, TypeDecl, OddDecl}
 use Rattle.jim_grammar.specs.Expressions.{Tree, Opt, spell, spell_each, sign}

@@ -3,7 +3,7 @@ use Rattle.std.proofs.Common.{◌≡◌, ℕ, ◌+◌, List, [], ◌∷◌, ◌+
 use Rattle.std.proofs.lemmas.List.{length-append}
 use Rattle.jim_ast.specs.declared.syntax.Stmt.{Stmt}
 use Rattle.jim_ast.specs.declared.syntax.Label.{Label}
-use Rattle.jim_signs.specs.declared.lead.Sign.{Sign}
+use Rattle.jim_signs.specs.declared.seen.Sign.{Sign}
 use Rattle.jim_grammar.specs.Forms.{LabelLine, StmtLine}
 use Rattle.jim_grammar.specs.Expressions.{Tree, spell, spell_each}
 use Rattle.jim_grammar.specs.Grammar.{line}

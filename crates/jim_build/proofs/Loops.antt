@@ -1,6 +1,6 @@
 -- Loops that read trees of one production, one after the other, until something else is next.
 use Rattle.std.proofs.Common.{◌≡◌, List, [], ◌∷◌, ◌++◌, sym, append_assoc, append-nil}
-use Rattle.jim_signs.specs.declared.lead.Sign.{Sign}
+use Rattle.jim_signs.specs.declared.seen.Sign.{Sign}
 use Rattle.jim_grammar.specs.Expressions.{spell_each}
 
 -- the trees that are left are next, and what was found is what the others mean

@@ -1,7 +1,7 @@
 -- The loop that reads modifiers.
 use Rattle.std.proofs.Common.{◌≡◌, Bool, true, false, ◌||◌, List, [], ◌∷◌, refl, sym, ap, ◌∙◌}
 use Rattle.std.proofs.lemmas.Bool.{false≢true}
-use Rattle.jim_signs.specs.declared.lead.Sign.{Sign}
+use Rattle.jim_signs.specs.declared.seen.Sign.{Sign}
 use Rattle.jim_grammar.specs.declared.set.LeadSet.TheVariants.{Modifiers}
 use Rattle.jim_grammar.specs.Sets.{is_modifier}
 use Rattle.jim_grammar.specs.Expressions.{One, Chosen, spell, spell_each}

@@ -1,9 +1,9 @@
 -- The parts of lines, declarations and members that the next token tells.
 use Rattle.std.proofs.Common.{◌≡◌, ◌≢◌, ℕ, true, false, List, [], ◌∷◌, ◌++◌, None, Some, refl, sym, ap, ◌∙◌}
 use Rattle.std.proofs.lemmas.Bool.{false≢true}
-use Rattle.jim_signs.specs.declared.lead.Lead.{Lead}
-use Rattle.jim_signs.specs.declared.lead.Lead.TheVariants as lead
-use Rattle.jim_signs.specs.declared.lead.Sign.{Sign}
+use Rattle.jim_text.specs.declared.lead.Lead.{Lead}
+use Rattle.jim_text.specs.declared.lead.Lead.TheVariants as lead
+use Rattle.jim_signs.specs.declared.seen.Sign.{Sign}
 use Rattle.jim_grammar.specs.Forms.{LabelLine, StmtLine, TypeResult, FieldMember, MethodMember, NoBody, WithBody, TypeDecl, OddDecl}
 use Rattle.jim_grammar.specs.Expressions.{Tree, Opt, spell, sign}
 use Rattle.jim_grammar.specs.Grammar.{ty, names, stmt, line, decl, member, ending, body, throws, implements}

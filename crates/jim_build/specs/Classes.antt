@@ -2,8 +2,8 @@
 use Rattle.std.specs.Prelude.{◌≡◌, Bool, true, false, List, [], map, Option, Some, None}
 use Rattle.jim_ast.specs.declared.names.NameId.{NameId}
 use Rattle.jim_ast.specs.declared.syntax.Class.{Class}
-use Rattle.jim_signs.specs.declared.lead.Lead.{Lead}
-use Rattle.jim_signs.specs.declared.lead.Lead.TheVariants as lead
+use Rattle.jim_text.specs.declared.lead.Lead.{Lead}
+use Rattle.jim_text.specs.declared.lead.Lead.TheVariants as lead
 use Rattle.jim_grammar.specs.Expressions.{Opt, Tree, spell}
 use Rattle.jim_grammar.specs.Grammar.{extends, implements, class, program}
 use Rattle.jim_stmts.specs.Meanings.{id, names_of}

@@ -3,8 +3,8 @@ use Rattle.std.specs.Prelude.{Bool, true, false, ◌||◌, ◌&&◌, List, [], �
 use Rattle.jim_ast.specs.declared.syntax.Body.{Body}
 use Rattle.jim_ast.specs.declared.syntax.FieldDecl.{FieldDecl}
 use Rattle.jim_ast.specs.declared.syntax.MethodDecl.{MethodDecl}
-use Rattle.jim_signs.specs.declared.lead.Lead.{Lead}
-use Rattle.jim_signs.specs.declared.lead.Lead.TheVariants as lead
+use Rattle.jim_text.specs.declared.lead.Lead.{Lead}
+use Rattle.jim_text.specs.declared.lead.Lead.TheVariants as lead
 use Rattle.jim_grammar.specs.declared.set.LeadSet.TheVariants.{Modifiers}
 use Rattle.jim_grammar.specs.Forms.{FieldMember, MethodMember, NoBody, WithBody}
 use Rattle.jim_grammar.specs.Expressions.{Tree, Chosen}

@@ -3,9 +3,9 @@
 use Rattle.std.specs.Prelude.{Bool, true, false, ◌||◌, ◌&&◌, List, [], ◌∷◌, is_none}
 use Rattle.jim_ast.specs.declared.syntax.FieldDecl.{FieldDecl}
 use Rattle.jim_ast.specs.declared.syntax.MethodDecl.{MethodDecl}
-use Rattle.jim_signs.specs.declared.lead.Lead.{Lead}
-use Rattle.jim_signs.specs.declared.lead.Lead.TheVariants as lead
-use Rattle.jim_signs.specs.declared.lead.Sign.{Sign}
+use Rattle.jim_text.specs.declared.lead.Lead.{Lead}
+use Rattle.jim_text.specs.declared.lead.Lead.TheVariants as lead
+use Rattle.jim_signs.specs.declared.seen.Sign.{Sign}
 use Rattle.jim_grammar.specs.declared.set.LeadSet.TheVariants.{Modifiers}
 use Rattle.jim_grammar.specs.Sets.{is_base, is_odd_type}
 use Rattle.jim_grammar.specs.Forms.{TypeDecl, OddDecl}

@@ -1,7 +1,7 @@
 //! Classes, and the program.
 ghost use Rattle.std.specs.Prelude.{◌≡◌, ◌≢◌, ◌<◌, ◌≤◌, List as Items, [], length, IfOk, OnOk};
-ghost use Rattle.jim_signs.specs.declared.lead.Lead.TheVariants as lead;
-ghost use Rattle.jim_signs.specs.declared.lead.Sign.{Sign};
+ghost use Rattle.jim_text.specs.declared.lead.Lead.TheVariants as lead;
+ghost use Rattle.jim_signs.specs.declared.seen.Sign.{Sign};
 ghost use Rattle.jim_grammar.specs.Expressions.{Opt, Tree, spell};
 ghost use Rattle.jim_grammar.specs.Grammar.{extends, implements, class, program};
 ghost use Rattle.jim_stmts.specs.Leads.{lead_at};

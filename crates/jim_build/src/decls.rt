@@ -1,7 +1,7 @@
 //! Declarations of locals.
 ghost use Rattle.std.specs.Prelude.{◌≡◌, ◌≢◌, ◌<◌, ◌≤◌, ◌||◌, ◌++◌, List as Items, length, false, IsTrue, IfOk, OnOk};
-ghost use Rattle.jim_signs.specs.declared.lead.Lead.TheVariants as lead;
-ghost use Rattle.jim_signs.specs.declared.lead.Sign.{Sign};
+ghost use Rattle.jim_text.specs.declared.lead.Lead.TheVariants as lead;
+ghost use Rattle.jim_signs.specs.declared.seen.Sign.{Sign};
 ghost use Rattle.jim_grammar.specs.Sets.{is_base, is_odd_type};
 ghost use Rattle.jim_grammar.specs.Expressions.{Star, Tree, spell};
 ghost use Rattle.jim_grammar.specs.Grammar.{decl};

@@ -1,7 +1,7 @@
 //! Lines of a body: labels and statements.
 ghost use Rattle.std.specs.Prelude.{◌≡◌, ◌≢◌, ◌<◌, ◌≤◌, ◌++◌, List as Items, [], ◌∷◌, length, false, true, IfOk, OnOk, ◌↔◌, IsTrue};
-ghost use Rattle.jim_signs.specs.declared.lead.Lead.TheVariants as lead;
-ghost use Rattle.jim_signs.specs.declared.lead.Sign.{Sign};
+ghost use Rattle.jim_text.specs.declared.lead.Lead.TheVariants as lead;
+ghost use Rattle.jim_signs.specs.declared.seen.Sign.{Sign};
 ghost use Rattle.jim_grammar.specs.Expressions.{Star, Tree, spell};
 ghost use Rattle.jim_grammar.specs.Grammar.{line};
 ghost use Rattle.jim_stmts.specs.Leads.{lead_at, second_at};

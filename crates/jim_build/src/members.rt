@@ -1,7 +1,7 @@
 //! Fields and methods.
 ghost use Rattle.std.specs.Prelude.{◌≡◌, ◌≢◌, ◌<◌, ◌≤◌, ◌++◌, List as Items, [], ◌∷◌, length, IfOk, OnOk};
-ghost use Rattle.jim_signs.specs.declared.lead.Lead.TheVariants as lead;
-ghost use Rattle.jim_signs.specs.declared.lead.Sign.{Sign};
+ghost use Rattle.jim_text.specs.declared.lead.Lead.TheVariants as lead;
+ghost use Rattle.jim_signs.specs.declared.seen.Sign.{Sign};
 ghost use Rattle.jim_grammar.specs.Expressions.{Star, Opt, Tree, spell};
 ghost use Rattle.jim_grammar.specs.Grammar.{throws, ending, member};
 ghost use Rattle.jim_stmts.specs.Leads.{lead_at};

@@ -1,6 +1,6 @@
 //! Modifiers.
 ghost use Rattle.std.specs.Prelude.{◌≡◌, ◌≤◌, List, length, IsTrue, false, ◌||◌};
-ghost use Rattle.jim_signs.specs.declared.lead.Sign.{Sign};
+ghost use Rattle.jim_signs.specs.declared.seen.Sign.{Sign};
 ghost use Rattle.jim_grammar.specs.declared.set.LeadSet.TheVariants.{Modifiers};
 ghost use Rattle.jim_grammar.specs.Sets.{is_modifier};
 ghost use Rattle.jim_grammar.specs.Expressions.{Star, One, Tree, spell};

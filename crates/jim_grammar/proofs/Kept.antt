@@ -7,9 +7,9 @@ use Rattle.indexmap.specs.IndexSet.{insert_key}
 use Rattle.lists.proofs.Places.{slice_get-append_left, slice_get-pushed, slice_get-below, slice_get-set_same, slice_get-set_other}
 use lib.Pointwise.{pointwise}
 use denote.Enum.Bare.{same_true, tag_one}
-use Rattle.jim_signs.specs.contracts.lead.Lead.{the_type}
-use Rattle.jim_signs.specs.declared.lead.Lead.{Lead}
-use Rattle.jim_signs.specs.declared.lead.Lead.TheVariants as lead
+use Rattle.jim_text.specs.contracts.lead.Lead.{the_type}
+use Rattle.jim_text.specs.declared.lead.Lead.{Lead}
+use Rattle.jim_text.specs.declared.lead.Lead.TheVariants as lead
 use Rattle.jim_grammar.specs.contracts.item.Piece as piece_type
 use Rattle.jim_grammar.specs.contracts.set.LeadSet as set_type
 use Rattle.jim_grammar.specs.contracts.item.ItemPartialEq.TheImpl as item_eq

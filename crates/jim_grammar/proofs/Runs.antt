@@ -1,7 +1,7 @@
 -- What stacks read, step by step.
 use Rattle.std.proofs.Common.{◌≡◌, ◌⊎◌, inl, inr, List, [], ◌∷◌, ◌++◌, refl, sym, ◌∙◌, subst, append_assoc}
-use Rattle.jim_signs.specs.declared.lead.Lead.{Lead}
-use Rattle.jim_signs.specs.declared.lead.Sign.{Sign}
+use Rattle.jim_text.specs.declared.lead.Lead.{Lead}
+use Rattle.jim_signs.specs.declared.seen.Sign.{Sign}
 use Rattle.jim_grammar.specs.Expressions.{Re, Tree, spell}
 use Rattle.jim_grammar.specs.Grammar.{program}
 use Rattle.jim_grammar.specs.Residuals.{Null, Step, Reads}

@@ -1,6 +1,6 @@
 -- What a step of the machine adds, rule by rule.
 use Rattle.std.proofs.Common.{◌≡◌, ℕ, zero, suc, ◌+◌, ◌-◌, ◌<◌, ◌≤◌, ◌⊎◌, inl, inr, List, [], ◌∷◌, ◌++◌, map, length, get_or, take, drop, Vec, Global, Bool, IsTrue, true, false, refl, sym, ap, ◌∙◌, subst, arith, add-one, append_assoc, append-nil}
-use Rattle.jim_signs.specs.declared.lead.Lead.{Lead}
+use Rattle.jim_text.specs.declared.lead.Lead.{Lead}
 use Rattle.jim_grammar.specs.declared.set.LeadSet.{LeadSet}
 use Rattle.jim_grammar.specs.Sets.{is_in}
 use Rattle.jim_grammar.specs.Forms.{Kind, Form, forms, Imms, Exprs, Invokes, Stmts, Lines, Results, Members, Ends, Decls, LocalImm, NumberImm, TextImm, ClassImm, NullImm, UseExpr, NewExpr, ArrayExpr, MultiExpr, CastExpr, InstanceExpr, LengthExpr, NegExpr, BinaryExpr, FieldExpr, StaticExpr, CellExpr, InvokeExpr, OnReceiver, OnClass, Dynamic, ThisStmt, ParamStmt, CaughtStmt, AssignStmt, PutFieldStmt, PutStaticStmt, PutCellStmt, CallStmt, IfStmt, GotoStmt, SwitchStmt, ReturnStmt, RetStmt, ThrowStmt, MonitorStmt, SkipStmt, LabelLine, StmtLine, VoidResult, TypeResult, FieldMember, MethodMember, NoBody, WithBody, TypeDecl, OddDecl}

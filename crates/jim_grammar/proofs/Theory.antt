@@ -1,7 +1,7 @@
 -- Residuals are exact, and each expression has a tree.
 use Rattle.std.proofs.Common.{◌≡◌, ℕ, zero, suc, ◌≤◌, ◌⊎◌, inl, inr, List, [], ◌∷◌, length, Some, None, true, refl, sym, ap, ◌∙◌, subst, arith}
-use Rattle.jim_signs.specs.declared.lead.Lead.{Lead}
-use Rattle.jim_signs.specs.declared.lead.Sign.{Sign}
+use Rattle.jim_text.specs.declared.lead.Lead.{Lead}
+use Rattle.jim_signs.specs.declared.seen.Sign.{Sign}
 use Rattle.jim_grammar.specs.declared.set.LeadSet.{LeadSet}
 use Rattle.jim_grammar.specs.declared.set.LeadSet.TheVariants.{Modifiers, Bases, ClassWords, Relations, Operators, PlainInvokes, SwitchWords, MonitorWords, SkipWords, OddTypes, NotEnds}
 use Rattle.jim_grammar.specs.Forms.{Kind, Form, Imms, Exprs, Invokes, Stmts, Lines, Results, Members, Ends, Decls, NullImm, UseExpr, OnClass, SkipStmt, StmtLine, VoidResult, FieldMember, NoBody, OddDecl}

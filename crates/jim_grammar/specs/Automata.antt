@@ -1,8 +1,8 @@
 -- The sets of stacks that were met, by number, and the moves between them. No clause of a public function speaks of these: they are what the recogniser keeps.
 use Rattle.std.specs.Prelude.{◌≡◌, ◌≢◌, ℕ, ◌+◌, ◌*◌, List, [], ◌∷◌, map, length, slice_get, Some}
 use denote.Enum.Declared.{tag_of}
-use Rattle.jim_signs.specs.contracts.lead.Lead.{the_type}
-use Rattle.jim_signs.specs.declared.lead.Lead.{Lead}
+use Rattle.jim_text.specs.contracts.lead.Lead.{the_type}
+use Rattle.jim_text.specs.declared.lead.Lead.{Lead}
 use Rattle.jim_grammar.specs.declared.automaton.Automaton.{Automaton}
 use Rattle.jim_grammar.specs.declared.automaton.Move.{Move}
 use Rattle.jim_grammar.specs.declared.automaton.Move.TheVariants as move

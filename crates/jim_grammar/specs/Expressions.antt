@@ -1,7 +1,7 @@
 -- Grammars without recursion as expressions, the trees of an expression, and the tokens that a tree spells.
 use Rattle.std.specs.Prelude.{◌≡◌, ℕ, ◌+◌, ◌≤◌, true, List, [], ◌∷◌, length, Option, Some, None}
-use Rattle.jim_signs.specs.declared.lead.Lead.{Lead}
-use Rattle.jim_signs.specs.declared.lead.Sign.{Sign}
+use Rattle.jim_text.specs.declared.lead.Lead.{Lead}
+use Rattle.jim_signs.specs.declared.seen.Sign.{Sign}
 use Rattle.jim_grammar.specs.declared.set.LeadSet.{LeadSet}
 use Rattle.jim_grammar.specs.Forms.{Kind, Form}
 use Rattle.jim_grammar.specs.Sets.{is_in}

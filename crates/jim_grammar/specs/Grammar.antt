@@ -3,7 +3,7 @@
 -- quotes stand for themselves. Each definition is a rule, and each line of a `by_` definition is an alternative of its rule.
 -- The grammar has no recursion, so its whole is one expression, `program`.
 use Rattle.std.specs.Prelude.{List, [], ◌∷◌}
-use Rattle.jim_signs.specs.declared.lead.Lead.TheVariants as lead
+use Rattle.jim_text.specs.declared.lead.Lead.TheVariants as lead
 use Rattle.jim_grammar.specs.declared.set.LeadSet.TheVariants.{Modifiers, Bases, ClassWords, Relations, Operators, PlainInvokes, SwitchWords, MonitorWords, SkipWords, OddTypes, NotEnds}
 use Rattle.jim_grammar.specs.Forms.{ImmForm, LocalImm, NumberImm, TextImm, ClassImm, NullImm, ExprForm, UseExpr, NewExpr, ArrayExpr, MultiExpr, CastExpr, InstanceExpr, LengthExpr, NegExpr, BinaryExpr, FieldExpr, StaticExpr, CellExpr, InvokeExpr, InvokeForm, OnReceiver, OnClass, Dynamic, StmtForm, ThisStmt, ParamStmt, CaughtStmt, AssignStmt, PutFieldStmt, PutStaticStmt, PutCellStmt, CallStmt, IfStmt, GotoStmt, SwitchStmt, ReturnStmt, RetStmt, ThrowStmt, MonitorStmt, SkipStmt, LineForm, LabelLine, StmtLine, ResultForm, VoidResult, TypeResult, MemberForm, FieldMember, MethodMember, EndForm, NoBody, WithBody, DeclForm, TypeDecl, OddDecl, Imms, Exprs, Invokes, Stmts, Lines, Results, Members, Ends, Decls}
 use Rattle.jim_grammar.specs.Expressions.{Re, Eps, Tok, One, ◌·◌, Any, Star, Opt, UpTo, Shared}

@@ -1,6 +1,6 @@
 -- What the parts of the table stand for, and what their rules say. No clause of a public function speaks of these, and the grammar's meaning doesn't stand on them.
 use Rattle.std.specs.Prelude.{◌≡◌, ℕ, suc, map}
-use Rattle.jim_signs.specs.declared.lead.Lead.TheVariants as lead
+use Rattle.jim_text.specs.declared.lead.Lead.TheVariants as lead
 use Rattle.jim_grammar.specs.declared.set.LeadSet.TheVariants.{NotEnds}
 use Rattle.jim_grammar.specs.declared.set.LeadSet.TheVariants as sets
 use Rattle.jim_grammar.specs.declared.item.Item.{Item}

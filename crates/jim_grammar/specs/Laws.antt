@@ -1,8 +1,8 @@
 -- What holds of all texts, and of all lists of tokens that are none.
 use Rattle.std.specs.Prelude.{◌≡◌, ◌≢◌, ℕ, List, map, All}
-use Rattle.jim_signs.specs.declared.lead.Sign.{Sign}
-use Rattle.jim_signs.specs.declared.lead.Lead.{Lead}
-use Rattle.jim_signs.specs.declared.lead.Lead.TheVariants as lead
+use Rattle.jim_signs.specs.declared.seen.Sign.{Sign}
+use Rattle.jim_text.specs.declared.lead.Lead.{Lead}
+use Rattle.jim_text.specs.declared.lead.Lead.TheVariants as lead
 use Rattle.jim_grammar.specs.Refusals.{Derives, Least}
 
 -- no token of a text has the class that no token of lexed bytes has

@@ -1,6 +1,6 @@
 -- The tokens of a text, and the least place at which tokens leave the grammar.
 use Rattle.std.specs.Prelude.{◌≡◌, ℕ, ◌+◌, ◌<◌, ◌≤◌, List, [], ◌++◌, take, length}
-use Rattle.jim_signs.specs.declared.lead.Sign.{Sign}
+use Rattle.jim_signs.specs.declared.seen.Sign.{Sign}
 use Rattle.jim_grammar.specs.Expressions.{Tree, spell}
 use Rattle.jim_grammar.specs.Grammar.{program}
 

@@ -1,7 +1,7 @@
 -- What is left of an expression behind a token of a class: stacks of expressions, the one that is next last.
 use Rattle.std.specs.Prelude.{◌≡◌, ℕ, suc, List, [], ◌∷◌, true}
-use Rattle.jim_signs.specs.declared.lead.Lead.{Lead}
-use Rattle.jim_signs.specs.declared.lead.Sign.{Sign}
+use Rattle.jim_text.specs.declared.lead.Lead.{Lead}
+use Rattle.jim_signs.specs.declared.seen.Sign.{Sign}
 use Rattle.jim_grammar.specs.declared.set.LeadSet.{LeadSet}
 use Rattle.jim_grammar.specs.Forms.{Kind, Form}
 use Rattle.jim_grammar.specs.Sets.{is_in}

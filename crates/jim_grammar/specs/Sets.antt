@@ -1,8 +1,8 @@
 -- The sets of classes that the grammar names: mod, what a type begins with, rel and op of the written grammar, and words that may stand for each other.
 -- The class of no token, `Other`, is in none.
 use Rattle.std.specs.Prelude.{Bool, true, false}
-use Rattle.jim_signs.specs.declared.lead.Lead.{Lead}
-use Rattle.jim_signs.specs.declared.lead.Lead.TheVariants as lead
+use Rattle.jim_text.specs.declared.lead.Lead.{Lead}
+use Rattle.jim_text.specs.declared.lead.Lead.TheVariants as lead
 use Rattle.jim_grammar.specs.declared.set.LeadSet.{LeadSet}
 use Rattle.jim_grammar.specs.declared.set.LeadSet.TheVariants.{Modifiers, Bases, ClassWords, Relations, Operators, PlainInvokes, SwitchWords, MonitorWords, SkipWords, OddTypes, NotEnds}
 

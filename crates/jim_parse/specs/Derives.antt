@@ -6,7 +6,7 @@ use Rattle.std.specs.Prelude.{◌≡◌, ℕ, ◌+◌, ◌<◌, ◌≤◌, List,
 use Rattle.jim_ast.specs.declared.syntax.Program.{Program}
 use Rattle.jim_text.specs.declared.Token.{Token}
 use Rattle.jim_text.specs.Lexes.{Lexes}
-use Rattle.jim_signs.specs.declared.lead.Sign.{Sign}
+use Rattle.jim_signs.specs.declared.seen.Sign.{Sign}
 use Rattle.jim_signs.specs.Names.{names_of}
 use Rattle.jim_signs.specs.Signs.{signs_of}
 use Rattle.jim_signs.specs.Pieces.{Piece, piece_lead}

@@ -1,47 +1,18 @@
 -- Each reserved word and each mark has a class of its own.
 use Rattle.std.proofs.Common.{◌≡◌, ◌≢◌, ℕ, zero, suc, ◌+◌, ◌-◌, ◌<◌, ◌≤◌, Bool, true, false, ◌||◌, ◌==◌, List, [], ◌∷◌, length, take, drop, get_or, slice_range, nat_eq, codes, refl, sym, ap, ◌∙◌, arith, true≢false, eqb-true, if◌then◌else◌}
-use Rattle.std.specs.List.{list_any, list_all, starts_with}
+use Rattle.std.specs.List.{starts_with}
 use Rattle.std.specs.Str.{bytes_eq}
-use Rattle.std.proofs.lemmas.Slice.Eq.{bytes_eq-Decides}
 use Rattle.std.proofs.Math.Seq.{drop-cons}
-use Rattle.jim_text.specs.Words.{is_reserved, reserved_words}
+use Rattle.jim_text.specs.Words.{look_up, is_known, is_in, is_reserved, words, marks}
 use Rattle.jim_text.specs.Spelling.{IsMark, IsAt}
 use Rattle.jim_text.specs.Spelling.IsMark.{single, double, triple}
 use Rattle.jim_text.specs.Spelling.IsAt.{this, caught, parameter}
-use Rattle.jim_signs.specs.declared.lead.Lead.{Lead}
-use Rattle.jim_signs.specs.declared.lead.Lead.TheVariants.{Other, This, Caught, Parameter}
-use Rattle.jim_signs.specs.Leads.{look_up, words, marks, at_lead}
-
-is_known : Lead → Bool
-is_known Other = false
-is_known lead = true
-
-known_class : (lead : Lead) → is_known lead ≡ true → lead ≢ Other
-unfolding is_known
-known_class lead h e = true≢false (sym h ∙ ap is_known e)
-
--- a text of a list each of which has a class
-in_list : (f : List ℕ → Bool) (texts : List (List ℕ)) (text : List ℕ) → list_all f texts ≡ true → list_any (λ first. bytes_eq first text) texts ≡ true → f text ≡ true
-in_list f [] text all some = absurd (true≢false (sym some))
-in_list f (first ∷ texts) text all some = by (bytes_eq first text) refl (in_list f texts text)
-  where
-    here : f first ≡ true
-    here = grind arith
-
-    rest : list_all f texts ≡ true
-    rest = grind arith
-
-    by : (t : Bool) → bytes_eq first text ≡ t → (list_all f texts ≡ true → list_any (λ first. bytes_eq first text) texts ≡ true → f text ≡ true) → f text ≡ true
-    by true e later = ap f (sym ((bytes_eq-Decides first text).0 e)) ∙ here
-    by false e later = later rest (sym (ap (λ t. t || list_any (λ first. bytes_eq first text) texts) e) ∙ some)
-
-word_known : List ℕ → Bool
-unfolding is_known
-word_known text = is_known (look_up words text)
+use Rattle.jim_text.specs.declared.lead.Lead.TheVariants.{Other, This, Caught, Parameter}
+use Rattle.jim_text.proofs.TableLemmas.{class_known}
+use Rattle.jim_signs.specs.Leads.{at_lead}
 
 pub word_classed : (text : List ℕ) → is_reserved text ≡ true → look_up words text ≢ Other
-unfolding is_known words word_known reserved_words
-word_classed text h = known_class (look_up words text) (in_list word_known reserved_words text refl h)
+word_classed text h = class_known (look_up words text) h
 
 part_cons : (bytes : List ℕ) (from to : ℕ) → from < to → to ≤ length bytes → slice_range bytes from to ≡ get_or bytes from 0 ∷ slice_range bytes (from + 1) to
 part_cons bytes from to low high =
@@ -54,28 +25,8 @@ part_cons bytes from to low high =
 part_nil : (bytes : List ℕ) (from to : ℕ) → to ≤ from → slice_range bytes from to ≡ []
 part_nil bytes from to low = let none : to - from ≡ zero = omega arith in ap (λ n. take n (drop from bytes)) none
 
--- a byte of a list each of which is a mark
-in_bytes : (f : List ℕ → Bool) (bytes : List ℕ) (b : ℕ) → list_all (λ m. f (m ∷ [])) bytes ≡ true → list_any (λ m. m == b) bytes ≡ true → f (b ∷ []) ≡ true
-in_bytes f [] b all some = absurd (true≢false (sym some))
-in_bytes f (first ∷ bytes) b all some = by (first == b) refl (in_bytes f bytes b)
-  where
-    here : f (first ∷ []) ≡ true
-    here = grind arith
-
-    rest : list_all (λ m. f (m ∷ [])) bytes ≡ true
-    rest = grind arith
-
-    by : (t : Bool) → (first == b) ≡ t → (list_all (λ m. f (m ∷ [])) bytes ≡ true → list_any (λ m. m == b) bytes ≡ true → f (b ∷ []) ≡ true) → f (b ∷ []) ≡ true
-    by true e later = ap (λ m. f (m ∷ [])) (sym (eqb-true first b e)) ∙ here
-    by false e later = later rest (sym (ap (λ t. t || list_any (λ m. m == b) bytes) e) ∙ some)
-
-mark_known : List ℕ → Bool
-unfolding is_known
-mark_known text = is_known (look_up marks text)
-
 pub mark_classed : (bytes : List ℕ) (from to : ℕ) → IsMark bytes from to → from < to → to ≤ length bytes → look_up marks (slice_range bytes from to) ≢ Other
-unfolding is_known marks mark_known
-mark_classed bytes from to mark low high = known_class (look_up marks (slice_range bytes from to)) (by mark)
+mark_classed bytes from to mark low high = class_known (look_up marks (slice_range bytes from to)) (by mark)
   where
     one : to ≡ from + 1 → slice_range bytes from to ≡ get_or bytes from 0 ∷ []
     one e = part_cons bytes from to low high ∙ ap (λ s. get_or bytes from 0 ∷ s) (part_nil bytes (from + 1) to (omega (arith, e)))
@@ -91,11 +42,10 @@ mark_classed bytes from to mark low high = known_class (look_up marks (slice_ran
         ∙ ap (λ s. get_or bytes (from + 1) 0 ∷ s) (ap (λ n. slice_range bytes n to) place ∙ part_cons bytes (from + 2) to (omega (arith, e)) high
         ∙ ap (λ s. get_or bytes (from + 2) 0 ∷ s) (part_nil bytes (from + 2 + 1) to (omega (arith, e)))))
 
-    by : IsMark bytes from to → mark_known (slice_range bytes from to) ≡ true
-    by (single e is bare) = ap mark_known (one e) ∙ in_bytes mark_known (codes "{}()[];,:.=<>+-*/%&^|") (get_or bytes from 0) refl is
-    by (double e is) = ap mark_known (two e)
-        ∙ in_list mark_known (codes ":=" ∷ codes "==" ∷ codes "!=" ∷ codes "<=" ∷ codes ">=" ∷ codes "<<" ∷ codes ">>" ∷ []) (get_or bytes from 0 ∷ get_or bytes (from + 1) 0 ∷ []) refl is
-    by (triple e is) = ap mark_known (three e ∙ (bytes_eq-Decides (get_or bytes from 0 ∷ get_or bytes (from + 1) 0 ∷ get_or bytes (from + 2) 0 ∷ []) (codes ">>>")).0 is)
+    by : IsMark bytes from to → is_in marks (slice_range bytes from to) ≡ true
+    by (single e is bare) = ap (is_in marks) (one e) ∙ is
+    by (double e is) = ap (is_in marks) (two e) ∙ is
+    by (triple e is) = ap (is_in marks) (three e) ∙ is
 
 take_within : (n m : ℕ) (xs : List ℕ) → n ≤ m → take n (take m xs) ≡ take n xs
 take_within zero m xs h = refl
@@ -104,7 +54,6 @@ take_within (suc n) (suc m) [] h = refl
 take_within (suc n) (suc m) (x ∷ xs) h = ap (λ s. x ∷ s) (take_within n m xs (omega arith))
 
 at_parameter : (text : List ℕ) → starts_with nat_eq text (codes "@parameter") ≡ true → is_known (at_lead text) ≡ true
-unfolding is_known
 at_parameter text starts = by (bytes_eq text (codes "@this")) (bytes_eq text (codes "@caughtexception")) (starts_with nat_eq text (codes "@parameter")) starts
   where
     by : (a b c : Bool) → c ≡ true → is_known (if a then This else if b then Caught else if c then Parameter else Other) ≡ true
@@ -113,10 +62,9 @@ at_parameter text starts = by (bytes_eq text (codes "@this")) (bytes_eq text (co
     by false false c e = ap (λ t. is_known (if t then Parameter else Other)) e
 
 pub at_classed : (bytes : List ℕ) (from to : ℕ) → IsAt bytes from to → to ≤ length bytes → at_lead (slice_range bytes from to) ≢ Other
-unfolding is_known
-at_classed bytes from to (this has e) high = known_class (at_lead (slice_range bytes from to)) (ap (λ s. is_known (at_lead s)) (ap (slice_range bytes from) e ∙ has))
-at_classed bytes from to (caught has e) high = known_class (at_lead (slice_range bytes from to)) (ap (λ s. is_known (at_lead s)) (ap (slice_range bytes from) e ∙ has))
-at_classed bytes from to (parameter has digits) high = known_class (at_lead (slice_range bytes from to)) (at_parameter (slice_range bytes from to) starts)
+at_classed bytes from to (this has e) high = class_known (at_lead (slice_range bytes from to)) (ap (λ s. is_known (at_lead s)) (ap (slice_range bytes from) e ∙ has))
+at_classed bytes from to (caught has e) high = class_known (at_lead (slice_range bytes from to)) (ap (λ s. is_known (at_lead s)) (ap (slice_range bytes from) e ∙ has))
+at_classed bytes from to (parameter has digits) high = class_known (at_lead (slice_range bytes from to)) (at_parameter (slice_range bytes from to) starts)
   where
     front : take 10 (slice_range bytes from to) ≡ codes "@parameter"
     front =

@@ -1,7 +1,7 @@
 -- A token for each class.
 use Rattle.std.proofs.Common.{◌≡◌, ℕ, ◌+◌, ◌<◌, ◌≤◌, ◌⊎◌, true, List, [], ◌∷◌, length, get_or, codes, refl, sym, ap, ◌∙◌, inl, inr, arith}
 use Rattle.jim_text.specs.declared.Kind.TheVariants as kind
-use Rattle.jim_text.specs.Words.{reserved_words}
+use Rattle.jim_text.specs.Words.{words, marks}
 use Rattle.jim_text.specs.Laws.{IsSpelledAlone}
 use Rattle.jim_text.specs.Spelling.{Digits, is_digit, IsMark, IsAt}
 use Rattle.jim_text.specs.Spelling.IsMark.{single, double, triple}
@@ -9,9 +9,8 @@ use Rattle.jim_text.specs.Spelling.IsNumber.{not_a_number}
 use Rattle.jim_text.specs.Spelling.IsName.{init}
 use Rattle.jim_text.specs.Spelling.IsAt.{this, caught, parameter}
 use Rattle.jim_text.specs.Spelling.Items.{ends}
-use Rattle.jim_signs.specs.declared.lead.Lead.{Lead}
-use Rattle.jim_signs.specs.declared.lead.Lead.TheVariants as lead
-use Rattle.jim_signs.specs.Leads.{words, marks}
+use Rattle.jim_text.specs.declared.lead.Lead.{Lead}
+use Rattle.jim_text.specs.declared.lead.Lead.TheVariants as lead
 use Rattle.jim_signs.specs.Pieces.{Piece, piece_lead}
 
 abbrev word : (text : List ℕ) → IsSpelledAlone kind.Word text → Piece
@@ -31,7 +30,7 @@ one_digit bytes at digit = record { some = omega arith; few = omega arith; each 
     each k low high = let here : at ≡ k = omega arith in ap (λ i. is_digit (get_or bytes i 0)) (sym here) ∙ digit
 
 pub has_token : (class : Lead) → (class ≡ lead.Other) ⊎ ((piece : Piece) × (piece_lead piece ≡ class))
-unfolding words marks reserved_words
+unfolding words marks
 has_token lead.Name = inr (record { kind = kind.Name; text = codes "<init>"; spelled = (init refl refl, refl) }, refl)
 has_token lead.Number = inr (record { kind = kind.Number; text = codes "#NaN"; spelled = not_a_number refl (inl refl) }, refl)
 has_token lead.Text = inr (record { kind = kind.Text; text = 34 ∷ 34 ∷ []; spelled = record { close = 1; opened = refl; items = ends refl; closed = refl; ends = refl } }, refl)

@@ -11,8 +11,8 @@ use Rattle.jim_text.specs.declared.Token.{Token}
 use Rattle.jim_text.specs.Spelling.{Spells}
 use Rattle.jim_text.specs.Lexes.{Begins, Reads}
 use Rattle.jim_text.specs.Lexes.Reads.{ends, blank, comment, token as read_token}
-use Rattle.jim_signs.specs.declared.lead.Lead.TheVariants.{Other}
-use Rattle.jim_signs.specs.declared.lead.Sign.{Sign}
+use Rattle.jim_text.specs.declared.lead.Lead.TheVariants.{Other}
+use Rattle.jim_signs.specs.declared.seen.Sign.{Sign}
 use Rattle.jim_signs.specs.Names.{text_of, contents, with_contents, names_of}
 use Rattle.jim_signs.specs.Signs.{IsNamed, number_of, sign_of, IsBelow}
 use Rattle.jim_signs.proofs.NameLemmas.{place_of-append, slice_get-place_of, list_any-more, list_any-with_text}

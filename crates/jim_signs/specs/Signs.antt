@@ -6,8 +6,8 @@ use Rattle.jim_text.specs.declared.Kind.{Kind}
 use Rattle.jim_text.specs.declared.Kind.TheVariants as kind
 use Rattle.jim_text.specs.declared.Token.{Token}
 use Rattle.jim_text.specs.Contents as name
-use Rattle.jim_signs.specs.declared.lead.Lead.TheVariants as lead
-use Rattle.jim_signs.specs.declared.lead.Sign.{Sign}
+use Rattle.jim_text.specs.declared.lead.Lead.TheVariants as lead
+use Rattle.jim_signs.specs.declared.seen.Sign.{Sign}
 use Rattle.jim_signs.specs.Leads.{lead_of}
 use Rattle.jim_signs.specs.Names.{text_of, contents, between_quotes, place_of, names_of}
 

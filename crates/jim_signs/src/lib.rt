@@ -2,11 +2,10 @@
 #![tactic(auto)]
 
 mod law;
-mod lead;
-mod mark;
+mod seen;
 mod sign;
-mod word;
 
+pub use jim_text::Lead;
 pub use law::{has_tokens, names_are_firsts};
-pub use lead::{Lead, Sign, Signs};
+pub use seen::{Sign, Signs};
 pub use sign::signs;

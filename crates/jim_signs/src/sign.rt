@@ -9,11 +9,9 @@ ghost use Rattle.jim_signs.specs.Leads.{at_lead};
 ghost use Rattle.jim_signs.specs.Names.{between_quotes, contents, names_of, place_of, text_of, with_contents, with_text};
 ghost use Rattle.jim_signs.specs.Signs.{IsBelow, IsNamed, at_number, sign_of, signs_of};
 
-use super::lead::{Lead, Sign, Signs};
-use super::mark::mark_lead;
-use super::word::word_lead;
+use super::seen::{Sign, Signs};
 use jim_ast::Names;
-use jim_text::{Kind, Token, has_quote};
+use jim_text::{Kind, Lead, Token, has_quote, mark_lead, word_lead};
 use lists::NoMemory;
 use std::alloc::Global;
 

@@ -1,8 +1,8 @@
 -- Which production the next tokens begin.
 use Rattle.std.proofs.Common.{◌≡◌, ◌≢◌, ◌<◌, IsTrue, IfOk, Result, true, length, arith, List, [], ◌∷◌, Some, None, refl, sym, ap, ◌∙◌, subst}
-use Rattle.jim_signs.specs.declared.lead.Lead.{Lead}
-use Rattle.jim_signs.specs.declared.lead.Lead.TheVariants as lead
-use Rattle.jim_signs.specs.declared.lead.Sign.{Sign}
+use Rattle.jim_text.specs.declared.lead.Lead.{Lead}
+use Rattle.jim_text.specs.declared.lead.Lead.TheVariants as lead
+use Rattle.jim_signs.specs.declared.seen.Sign.{Sign}
 use Rattle.jim_grammar.specs.Forms.{Kind, Form, Imms, Invokes, InvokeForm, OnReceiver, OnClass, Dynamic, ImmForm, LocalImm, NumberImm, TextImm, ClassImm, NullImm, VoidResult, TypeResult}
 use Rattle.jim_grammar.specs.Expressions.{Re, Any, One, Opt, Tree, spell}
 use Rattle.jim_grammar.specs.declared.set.LeadSet.TheVariants.{NotEnds}

@@ -1,7 +1,7 @@
 -- Elements with commas between them.
 use Rattle.std.proofs.Common.{◌≡◌, ◌≢◌, ℕ, List, [], ◌∷◌, ◌++◌, sym, ap, ◌∙◌, append_assoc, append-nil}
-use Rattle.jim_signs.specs.declared.lead.Lead.TheVariants as lead
-use Rattle.jim_signs.specs.declared.lead.Sign.{Sign}
+use Rattle.jim_text.specs.declared.lead.Lead.TheVariants as lead
+use Rattle.jim_signs.specs.declared.seen.Sign.{Sign}
 use Rattle.jim_grammar.specs.Expressions.{Re, Tree, spell, spell_each, sign}
 use Rattle.jim_grammar.specs.Grammar.{commas, comma_more}
 use Rattle.jim_stmts.specs.Leads.{lead_at}

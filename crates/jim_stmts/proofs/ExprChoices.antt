@@ -2,9 +2,9 @@
 use Rattle.std.proofs.Common.{◌≡◌, ◌≢◌, ℕ, false, true, List, ◌∷◌, Some, None, refl, sym, ap, ◌∙◌, subst}
 use Rattle.jim_ast.specs.declared.syntax.Imm.{Imm}
 use Rattle.jim_ast.specs.declared.syntax.Expr.TheVariants as exprs
-use Rattle.jim_signs.specs.declared.lead.Lead.{Lead}
-use Rattle.jim_signs.specs.declared.lead.Lead.TheVariants as lead
-use Rattle.jim_signs.specs.declared.lead.Sign.{Sign}
+use Rattle.jim_text.specs.declared.lead.Lead.{Lead}
+use Rattle.jim_text.specs.declared.lead.Lead.TheVariants as lead
+use Rattle.jim_signs.specs.declared.seen.Sign.{Sign}
 use Rattle.jim_grammar.specs.declared.set.LeadSet.TheVariants.{Operators}
 use Rattle.jim_grammar.specs.Sets.{is_operator, is_plain_invoke}
 use Rattle.jim_grammar.specs.Forms.{Exprs, ExprForm, UseExpr, NewExpr, ArrayExpr, MultiExpr, CastExpr, InstanceExpr, LengthExpr, NegExpr, BinaryExpr, FieldExpr, StaticExpr, CellExpr, InvokeExpr, OnReceiver, OnClass, Dynamic, LocalImm, NumberImm, TextImm, ClassImm, NullImm}

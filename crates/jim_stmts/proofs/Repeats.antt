@@ -1,6 +1,6 @@
 -- Elements one behind the other.
 use Rattle.std.proofs.Common.{◌≡◌, List, [], ◌∷◌}
-use Rattle.jim_signs.specs.declared.lead.Sign.{Sign}
+use Rattle.jim_signs.specs.declared.seen.Sign.{Sign}
 use Rattle.jim_grammar.specs.Expressions.{Re, Tree, spell, spell_each}
 
 -- the elements that are left, of which a fact holds

@@ -1,8 +1,8 @@
 -- The classes of the next tokens, `Other` where there is none.
 use Rattle.std.specs.Prelude.{IsTrue, List, [], ◌∷◌}
-use Rattle.jim_signs.specs.declared.lead.Lead.{Lead}
-use Rattle.jim_signs.specs.declared.lead.Lead.TheVariants as lead
-use Rattle.jim_signs.specs.declared.lead.Sign.{Sign}
+use Rattle.jim_text.specs.declared.lead.Lead.{Lead}
+use Rattle.jim_text.specs.declared.lead.Lead.TheVariants as lead
+use Rattle.jim_signs.specs.declared.seen.Sign.{Sign}
 use Rattle.jim_grammar.specs.Sets.{is_not_end}
 
 abbrev pub lead_at : List Sign → Lead

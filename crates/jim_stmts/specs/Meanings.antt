@@ -17,8 +17,8 @@ use Rattle.jim_ast.specs.declared.syntax.Expr.{Expr}
 use Rattle.jim_ast.specs.declared.syntax.Expr.TheVariants as exprs
 use Rattle.jim_ast.specs.declared.syntax.Stmt.{Stmt}
 use Rattle.jim_ast.specs.declared.syntax.Stmt.TheVariants as stmts
-use Rattle.jim_signs.specs.declared.lead.Lead.{Lead}
-use Rattle.jim_signs.specs.declared.lead.Lead.TheVariants as lead
+use Rattle.jim_text.specs.declared.lead.Lead.{Lead}
+use Rattle.jim_text.specs.declared.lead.Lead.TheVariants as lead
 use Rattle.jim_grammar.specs.Forms.{LocalImm, NumberImm, TextImm, ClassImm, NullImm, UseExpr, NewExpr, ArrayExpr, MultiExpr, CastExpr, InstanceExpr, LengthExpr, NegExpr, BinaryExpr, FieldExpr, StaticExpr, CellExpr, InvokeExpr, OnReceiver, OnClass, Dynamic, ThisStmt, ParamStmt, CaughtStmt, AssignStmt, PutFieldStmt, PutStaticStmt, PutCellStmt, CallStmt, IfStmt, GotoStmt, SwitchStmt, ReturnStmt, RetStmt, ThrowStmt, MonitorStmt, SkipStmt, VoidResult, TypeResult}
 use Rattle.jim_grammar.specs.Expressions.{Re, Opt, Tree, Between}
 use Rattle.jim_grammar.specs.Grammar.{name, names, ty, types, imm, imms, fsig, outcome, msig, invoke, own, first_own, expr, case_line, stmt, pair, commas, comma_more}

@@ -1,7 +1,7 @@
 //! Calls.
 ghost use Rattle.std.specs.Prelude.{◌≡◌, ◌≤◌, List, length, IfOk, OnOk, IsTrue, ◌↔◌};
-ghost use Rattle.jim_signs.specs.declared.lead.Lead.TheVariants as lead;
-ghost use Rattle.jim_signs.specs.declared.lead.Sign.{Sign};
+ghost use Rattle.jim_text.specs.declared.lead.Lead.TheVariants as lead;
+ghost use Rattle.jim_signs.specs.declared.seen.Sign.{Sign};
 ghost use Rattle.jim_grammar.specs.Expressions.{Tree, spell};
 ghost use Rattle.jim_grammar.specs.Forms.{OnReceiver, OnClass, Dynamic};
 ghost use Rattle.jim_grammar.specs.Grammar as grammar;

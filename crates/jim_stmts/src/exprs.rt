@@ -1,7 +1,7 @@
 //! Expressions.
 ghost use Rattle.std.specs.Prelude.{◌≡◌, ◌≢◌, ◌+◌, ◌-◌, ◌<◌, ◌≤◌, List, length, IfOk, OnOk, IsTrue, false, is_some};
-ghost use Rattle.jim_signs.specs.declared.lead.Lead.TheVariants as lead;
-ghost use Rattle.jim_signs.specs.declared.lead.Sign.{Sign};
+ghost use Rattle.jim_text.specs.declared.lead.Lead.TheVariants as lead;
+ghost use Rattle.jim_signs.specs.declared.seen.Sign.{Sign};
 ghost use Rattle.jim_grammar.specs.Expressions.{Tree, spell, spell_each};
 ghost use Rattle.jim_grammar.specs.Forms.{NewExpr, ArrayExpr, MultiExpr, CastExpr, LengthExpr, NegExpr, FieldExpr, StaticExpr, CellExpr, InvokeExpr};
 ghost use Rattle.jim_grammar.specs.Grammar as grammar;

@@ -1,7 +1,7 @@
 //! Lists of names.
 ghost use Rattle.std.specs.Prelude.{◌≡◌, ◌≢◌, ◌≤◌, List, length, IfOk, OnOk};
-ghost use Rattle.jim_signs.specs.declared.lead.Lead.TheVariants as lead;
-ghost use Rattle.jim_signs.specs.declared.lead.Sign.{Sign};
+ghost use Rattle.jim_text.specs.declared.lead.Lead.TheVariants as lead;
+ghost use Rattle.jim_signs.specs.declared.seen.Sign.{Sign};
 ghost use Rattle.jim_grammar.specs.Expressions.{Tree, spell};
 ghost use Rattle.jim_grammar.specs.Grammar as grammar;
 ghost use Rattle.jim_stmts.specs.Leads.{lead_at};

@@ -1,6 +1,6 @@
 //! A place in a list of tokens.
 ghost use Rattle.std.specs.Prelude.{◌≡◌, ◌<◌, ◌≤◌, ℕ, List, [], ◌∷◌, length, IsTrue, ◌↔◌};
-ghost use Rattle.jim_signs.specs.declared.lead.Sign.{Sign};
+ghost use Rattle.jim_signs.specs.declared.seen.Sign.{Sign};
 ghost use Rattle.jim_stmts.specs.Leads.{lead_at, second_at, third_at};
 ghost use Rattle.jim_stmts.specs.Meanings.{id};
 
@@ -17,7 +17,7 @@ pub struct Reader<'a> {
 
 impl<'a> Model for Reader<'a> {
     ghost use Rattle.std.specs.Prelude.{drop, length, List, ◌≤◌};
-    ghost use Rattle.jim_signs.specs.declared.lead.Sign.{Sign};
+    ghost use Rattle.jim_signs.specs.declared.seen.Sign.{Sign};
 
     ghost Value = { List Sign };
 

@@ -1,7 +1,7 @@
 //! Types and signatures.
 ghost use Rattle.std.specs.Prelude.{◌≡◌, ◌≢◌, ◌<◌, ◌≤◌, List, length, IfOk, OnOk};
-ghost use Rattle.jim_signs.specs.declared.lead.Lead.TheVariants as lead;
-ghost use Rattle.jim_signs.specs.declared.lead.Sign.{Sign};
+ghost use Rattle.jim_text.specs.declared.lead.Lead.TheVariants as lead;
+ghost use Rattle.jim_signs.specs.declared.seen.Sign.{Sign};
 ghost use Rattle.jim_grammar.specs.declared.set.LeadSet.TheVariants as sets;
 ghost use Rattle.jim_grammar.specs.Expressions.{Tree, One, Opt, spell, spell_each};
 ghost use Rattle.jim_grammar.specs.Grammar as grammar;

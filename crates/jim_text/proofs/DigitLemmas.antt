@@ -1,6 +1,5 @@
 -- Tests of bytes and of words, digits, and bytes that may stand at a place.
 use Rattle.std.proofs.Common.{◌≡◌, ℕ, zero, suc, ◌+◌, ◌-◌, ◌<◌, ◌≤◌, ◌⊎◌, Bool, true, false, ◌==◌, ◌&&◌, ◌||◌, List, [], ◌∷◌, length, drop, get_or, refl, sym, ap, ◌∙◌, inl, inr, arith, true≢false}
-use Rattle.std.specs.List.{list_any, list_all}
 use Rattle.std.specs.Str.{bytes_eq}
 use Rattle.std.proofs.lemmas.List.{get_or-take, get_or-drop, length-take, length-drop}
 use Rattle.jim_text.specs.Chars.{Has}
@@ -28,20 +27,6 @@ bytes_equal [] [] h = refl
 bytes_equal [] (y ∷ ys) h = absurd (true≢false (sym h))
 bytes_equal (x ∷ xs) [] h = absurd (true≢false (sym h))
 bytes_equal (x ∷ xs) (y ∷ ys) h = let p = both (x == y) (bytes_eq xs ys) h in let e : x ≡ y = grind (arith, p.0) in let r = bytes_equal xs ys p.1 in cc
-
--- what each of some words passes, a text among them passes
-pub any_word : (q : List ℕ → Bool) (text : List ℕ) (words : List (List ℕ)) → list_all q words ≡ true → list_any (λ w. bytes_eq w text) words ≡ true → q text ≡ true
-any_word q text [] all h = absurd (true≢false (sym h))
-any_word q text (w ∷ ws) all h =
-    let p = both (q w) (list_all q ws) all in
-    elim (either (bytes_eq w text) (list_any (λ w. bytes_eq w text) ws) h) [ inl e ↦ rw (← bytes_equal w text e) p.0 | inr r ↦ any_word q text ws p.1 r ]
-
--- and of bytes
-pub any_byte : (q : ℕ → Bool) (b : ℕ) (marks : List ℕ) → list_all q marks ≡ true → list_any (λ m. m == b) marks ≡ true → q b ≡ true
-any_byte q b [] all h = absurd (true≢false (sym h))
-any_byte q b (m ∷ ms) all h =
-    let p = both (q m) (list_all q ms) all in
-    elim (either (m == b) (list_any (λ m. m == b) ms) h) [ inl e ↦ (let same : b ≡ m = grind (arith, e) in rw same p.0) | inr r ↦ any_byte q b ms p.1 r ]
 
 -- a byte that passes a test that 0 fails stands before the end
 pub test_before : (is : ℕ → Bool) (bytes : List ℕ) (at : ℕ) → is 0 ≡ false → is (get_or bytes at 0) ≡ true → at < length bytes

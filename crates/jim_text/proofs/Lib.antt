@@ -7,6 +7,7 @@ pub mod MarkLemmas
 pub mod NameLemmas
 pub mod NumberLemmas
 pub mod ReadLemmas
+pub mod TableLemmas
 pub mod TextLemmas
 pub mod TokenLemmas
 pub mod WordLemmas

@@ -1,26 +1,34 @@
 -- The longest mark at a place.
-use Rattle.std.proofs.Common.{◌≡◌, ℕ, ◌+◌, ◌<◌, ◌≤◌, true, false, nat_le, ◌&&◌, List, [], ◌∷◌, length, get_or, refl, sym, ap, ◌∙◌, arith, true≢false, codes}
+use Rattle.std.proofs.Common.{◌≡◌, ℕ, ◌+◌, ◌<◌, ◌≤◌, true, false, nat_le, ◌&&◌, ◌||◌, ◌==◌, not, List, [], ◌∷◌, length, get_or, refl, sym, ap, ◌∙◌, arith, true≢false, codes}
+use Rattle.std.specs.Str.{bytes_eq}
+use Rattle.jim_text.specs.Words.{marks}
 use Rattle.jim_text.specs.Spelling.{is_single, is_double, is_triple, is_bare, IsMark}
 use Rattle.jim_text.specs.Spelling.IsMark.{single, double, triple}
 use Rattle.jim_text.specs.Ends.{IsEnd}
 use Rattle.jim_text.proofs.CharLemmas.{byte_before}
-use Rattle.jim_text.proofs.DigitLemmas.{both, any_word, bytes_equal}
+use Rattle.jim_text.proofs.DigitLemmas.{both, bytes_equal}
+use Rattle.jim_text.proofs.TableLemmas.{any_entry}
 
--- the marks of two bytes
-abbrev pub doubles : List (List ℕ)
-doubles = codes ":=" ∷ codes "==" ∷ codes "!=" ∷ codes "<=" ∷ codes ">=" ∷ codes "<<" ∷ codes ">>" ∷ []
+-- a byte that isn't 0
+some_byte : (c : ℕ) → nat_le 1 c ≡ true → 0 < c
+some_byte c h = grind arith
 
 -- the second byte of a mark of two is not 0, which stands for none
 second_some : (b c : ℕ) → is_double b c ≡ true → 0 < c
-second_some b c h = let low : nat_le 1 c ≡ true = any_word (λ t. nat_le 1 (get_or t 1 0)) (b ∷ c ∷ []) doubles refl h in grind arith
+unfolding marks
+second_some b c h = some_byte c (any_entry (λ t. not (length t == 2) || nat_le 1 (get_or t 1 0)) (b ∷ c ∷ []) marks refl h)
 
 -- the bytes of the mark of three
 pub triple_bytes : (b c d : ℕ) → is_triple b c d ≡ true → (b ≡ 62) × (c ≡ 62) × (d ≡ 62)
-triple_bytes b c d h = let e = bytes_equal (b ∷ c ∷ d ∷ []) (62 ∷ 62 ∷ 62 ∷ []) h in
+unfolding marks
+triple_bytes b c d h =
+    let same : bytes_eq (b ∷ c ∷ d ∷ []) (codes ">>>") ≡ true = any_entry (λ t. not (length t == 3) || bytes_eq t (codes ">>>")) (b ∷ c ∷ d ∷ []) marks refl h in
+    let e = bytes_equal (b ∷ c ∷ d ∷ []) (62 ∷ 62 ∷ 62 ∷ []) same in
     (ap (λ s. get_or s 0 0) e, ap (λ s. get_or s 1 0) e, ap (λ s. get_or s 2 0) e)
 
 -- it begins with a mark of two
 triple_double : (b c d : ℕ) → is_triple b c d ≡ true → is_double b c ≡ true
+unfolding marks
 triple_double b c d h = let e = triple_bytes b c d h in rw (e.0, e.1) refl
 
 module _ (bytes : List ℕ) (at : ℕ) (within : at < length bytes) where

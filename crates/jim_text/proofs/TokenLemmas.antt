@@ -9,8 +9,10 @@ use Rattle.jim_text.specs.Spelling.IsAt.{this, caught, parameter}
 use Rattle.jim_text.specs.Spelling.IsMark.{single, double, triple}
 use Rattle.jim_text.specs.Ends.{IsEnd, IsMade, IsNameToken, is_lead, is_number_lead}
 use Rattle.jim_text.specs.Lexes.{Begins, NoTokenAt, TokenAt}
-use Rattle.jim_text.proofs.DigitLemmas.{either, any_word, any_byte, has_first}
-use Rattle.jim_text.proofs.MarkLemmas.{doubles, triple_bytes}
+use Rattle.jim_text.specs.Words.{marks}
+use Rattle.jim_text.proofs.DigitLemmas.{either, has_first}
+use Rattle.jim_text.proofs.MarkLemmas.{triple_bytes}
+use Rattle.jim_text.proofs.TableLemmas.{any_entry}
 use Rattle.jim_text.proofs.NumberLemmas.{number_first}
 use Rattle.jim_text.proofs.NameLemmas.{name_lead}
 use Rattle.jim_text.proofs.WordLemmas.{word_name}
@@ -20,14 +22,11 @@ use Rattle.jim_text.proofs.CommentLemmas.{comment_first, comment_second}
 abbrev is_mark_lead : ℕ → Bool
 is_mark_lead b = not (is_digit b || (b == 35) || is_lead b || is_blank b || (b == 34) || (b == 64))
 
--- the marks of one byte
-abbrev singles : List ℕ
-singles = codes "{}()[];,:.=<>+-*/%&^|"
-
 -- a mark begins with a byte of marks
 mark_lead : {bytes : List ℕ} {from to : ℕ} → IsMark bytes from to → is_mark_lead (get_or bytes from 0) ≡ true
-mark_lead {bytes} {from} (single e h bare) = any_byte is_mark_lead (get_or bytes from 0) singles refl h
-mark_lead {bytes} {from} (double e h) = any_word (λ t. is_mark_lead (get_or t 0 0)) (get_or bytes from 0 ∷ get_or bytes (from + 1) 0 ∷ []) doubles refl h
+unfolding marks
+mark_lead {bytes} {from} (single e h bare) = any_entry (λ t. is_mark_lead (get_or t 0 0)) (get_or bytes from 0 ∷ []) marks refl h
+mark_lead {bytes} {from} (double e h) = any_entry (λ t. is_mark_lead (get_or t 0 0)) (get_or bytes from 0 ∷ get_or bytes (from + 1) 0 ∷ []) marks refl h
 mark_lead {bytes} {from} (triple e h) = ap is_mark_lead (triple_bytes (get_or bytes from 0) (get_or bytes (from + 1) 0) (get_or bytes (from + 2) 0) h).0
 
 -- a mark has three bytes at most
@@ -39,12 +38,13 @@ mark_short (triple e h) = omega (arith, e)
 -- no mark begins where a comment could
 mark_bare : {bytes : List ℕ} {from to : ℕ} → IsMark bytes from to → get_or bytes from 0 ≡ 47
     → ¬ ((get_or bytes (from + 1) 0 ≡ 47) ⊎ (get_or bytes (from + 1) 0 ≡ 42))
+unfolding marks
 mark_bare {bytes} {from} (single e h bare) slash next = elim next [
   | inl s ↦ true≢false (sym bare ∙ (λ i. is_bare (slash i) (s i)))
   | inr s ↦ true≢false (sym bare ∙ (λ i. is_bare (slash i) (s i)))
 ]
 mark_bare {bytes} {from} (double e h) slash next =
-    true≢false (sym (any_word (λ t. not (get_or t 0 0 == 47)) (get_or bytes from 0 ∷ get_or bytes (from + 1) 0 ∷ []) doubles refl h) ∙ ap (λ b. not (b == 47)) slash)
+    true≢false (sym (any_entry (λ t. (length t == 1) || not (get_or t 0 0 == 47)) (get_or bytes from 0 ∷ get_or bytes (from + 1) 0 ∷ []) marks refl h) ∙ ap (λ b. not (b == 47)) slash)
 mark_bare {bytes} {from} (triple e h) slash next = omega (arith, slash, (triple_bytes (get_or bytes from 0) (get_or bytes (from + 1) 0) (get_or bytes (from + 2) 0) h).0)
 
 -- a word with an at sign begins with it

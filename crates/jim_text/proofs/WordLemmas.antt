@@ -1,20 +1,20 @@
 -- The reserved words are names.
-use Rattle.std.proofs.Common.{◌≡◌, ℕ, zero, suc, ◌+◌, ◌-◌, ◌<◌, ◌≤◌, Bool, true, false, nat_le, ◌&&◌, ◌||◌, ◌==◌, List, [], ◌∷◌, length, take, drop, get_or, refl, sym, ap, ◌∙◌, subst, inl, inr, cond, true≢false, arith}
+use Rattle.std.proofs.Common.{◌≡◌, ℕ, zero, suc, ◌+◌, ◌-◌, ◌<◌, ◌≤◌, Bool, true, nat_le, ◌&&◌, ◌||◌, ◌==◌, List, [], ◌∷◌, length, take, drop, get_or, refl, sym, ap, ◌∙◌, subst, arith}
 use Rattle.std.specs.Prelude.{slice_range}
-use Rattle.std.specs.List.{list_any, list_all, filter}
-use Rattle.std.specs.Str.{bytes_eq}
+use Rattle.std.specs.List.{list_all}
 use Rattle.std.specs.Char.{is_ascii_alphabetic, is_ascii_alphanumeric}
 use Rattle.std.proofs.lemmas.List.{length-take, length-drop}
 use Rattle.unicode_ident.proofs.IdentLemmas.{is_xid_start-ascii, is_xid_continue-ascii}
 use Rattle.jim_text.specs.Chars.{Run, Has}
 use Rattle.jim_text.specs.Chars.Run.{ends, goes}
-use Rattle.jim_text.specs.Words.{reserved_words, is_reserved}
+use Rattle.jim_text.specs.Words.{words, is_reserved}
 use Rattle.jim_text.specs.Spelling.{is_start, is_continue, IsName}
 use Rattle.jim_text.specs.Spelling.Component.{plain}
 use Rattle.jim_text.specs.Spelling.Joined.{last}
 use Rattle.jim_text.specs.Spelling.IsName.{joined}
 use Rattle.jim_text.proofs.CharLemmas.{ascii_char}
-use Rattle.jim_text.proofs.DigitLemmas.{both, either, any_word, bytes_equal, has_byte}
+use Rattle.jim_text.proofs.DigitLemmas.{both, has_byte}
+use Rattle.jim_text.proofs.TableLemmas.{any_entry}
 
 -- a small letter of ASCII
 abbrev is_lower : ℕ → Bool
@@ -26,43 +26,8 @@ is_simple text = is_lower (get_or text 0 0) && list_all (λ b. is_lower b || (b 
 
 -- each reserved word is one
 reserved_simple : (text : List ℕ) → is_reserved text ≡ true → is_simple text ≡ true
-unfolding reserved_words
-reserved_simple text h = any_word is_simple text reserved_words refl h
-
--- a text that begins with a byte is among some words as it is among those that begin with it
-pub by_letter : (text : List ℕ) (words : List (List ℕ)) (letter : ℕ) → get_or text 0 0 ≡ letter
-    → list_any (λ word. bytes_eq word text) words ≡ list_any (λ word. bytes_eq word text) (filter (λ word. get_or word 0 0 == letter) words)
-by_letter text [] letter e = refl
-by_letter text (word ∷ words) letter e = step (by_letter text words letter e) (get_or word 0 0 == letter) refl
-  where
-    other : (b : Bool) → bytes_eq word text ≡ b → (get_or word 0 0 == letter) ≡ false → b ≡ false
-    other true same differs = let first : get_or word 0 0 ≡ letter = ap (λ s. get_or s 0 0) (bytes_equal word text same) ∙ e in absurd (grind (arith, first, differs))
-    other false same differs = refl
-
-    step : list_any (λ w. bytes_eq w text) words ≡ list_any (λ w. bytes_eq w text) (filter (λ w. get_or w 0 0 == letter) words)
-        → (t : Bool) → (get_or word 0 0 == letter) ≡ t
-        → bytes_eq word text || list_any (λ w. bytes_eq w text) words ≡ list_any (λ w. bytes_eq w text) (cond t (word ∷ filter (λ w. get_or w 0 0 == letter) words) (filter (λ w. get_or w 0 0 == letter) words))
-    step rest true _ = ap (λ r. bytes_eq word text || r) rest
-    step rest false differs = rw (other (bytes_eq word text) refl differs) rest
-
--- a byte that differs from each of some bytes
-abbrev pub DiffersFrom : ℕ → List ℕ → Type 0
-DiffersFrom b [] = Unit {0}
-DiffersFrom b (letter ∷ letters) = ¬ (b ≡ letter) × DiffersFrom b letters
-
--- such a byte is none of them
-differs_none : (b : ℕ) (letters : List ℕ) → DiffersFrom b letters → ¬ (list_any (λ l. l == b) letters ≡ true)
-differs_none b [] d h = true≢false (sym h)
-differs_none b (letter ∷ letters) d h = elim (either (letter == b) (list_any (λ l. l == b) letters) h) [ inl e ↦ d.0 (grind (arith, e)) | inr r ↦ differs_none b letters d.1 r ]
-
--- a text that begins with no letter of some words is none of them
-pub no_letter : (text : List ℕ) (words : List (List ℕ)) (letters : List ℕ) → list_all (λ word. list_any (λ l. l == get_or word 0 0) letters) words ≡ true
-    → DiffersFrom (get_or text 0 0) letters → list_any (λ word. bytes_eq word text) words ≡ false
-no_letter text words letters all differs = by (list_any (λ word. bytes_eq word text) words) refl
-  where
-    by : (r : Bool) → list_any (λ word. bytes_eq word text) words ≡ r → r ≡ false
-    by true e = absurd (differs_none (get_or text 0 0) letters differs (any_word (λ word. list_any (λ l. l == get_or word 0 0) letters) text words all e))
-    by false e = refl
+unfolding words
+reserved_simple text h = any_entry is_simple text words refl h
 
 -- a test of all bytes holds of each
 all_at : (q : ℕ → Bool) (xs : List ℕ) → list_all q xs ≡ true → (k : ℕ) → k < length xs → q (get_or xs k 0) ≡ true

@@ -4,10 +4,9 @@
 -- (Vallée-Rai), for a fixed profile of it: limits on digits and the bytes that may stand in quotes are this project's own.
 use Rattle.std.specs.Prelude.{◌≡◌, ℕ, ◌+◌, ◌<◌, ◌≤◌, ◌⊎◌, Bool, ◌==◌, nat_le, ◌&&◌, ◌||◌, not, List, [], ◌∷◌, length, slice_index, slice_range, IsTrue, IsFalse, codes}
 use Rattle.std.specs.List.{list_any}
-use Rattle.std.specs.Str.{bytes_eq}
 use Rattle.unicode_ident.specs.Ident.{is_xid_start, is_xid_continue}
 use Rattle.jim_text.specs.Chars.{CharAt, Run, Has}
-use Rattle.jim_text.specs.Words.{is_reserved}
+use Rattle.jim_text.specs.Words.{is_in, marks, is_reserved}
 use Rattle.jim_text.specs.declared.Kind.{Kind}
 use Rattle.jim_text.specs.declared.Kind.TheVariants.{Word, Name, Number, Text, At, Mark}
 
@@ -119,17 +118,17 @@ pub data IsAt (bytes : List ℕ) : ℕ → ℕ → Type 0 where
   caught : {from to : ℕ} → Has bytes from (codes "@caughtexception") → to ≡ from + 16 → IsAt bytes from to
   parameter : {from to : ℕ} → Has bytes from (codes "@parameter") → Digits is_digit 5 bytes (from + 10) to → IsAt bytes from to
 
--- the marks of one byte; 124 is the bar
+-- the marks of one byte
 abbrev pub is_single : ℕ → Bool
-is_single b = list_any (λ m. m == b) (codes "{}()[];,:.=<>+-*/%&^|")
+is_single b = is_in marks (b ∷ [])
 
 -- the marks of two bytes
 abbrev pub is_double : ℕ → ℕ → Bool
-is_double b c = list_any (λ mark. bytes_eq mark (b ∷ c ∷ [])) (codes ":=" ∷ codes "==" ∷ codes "!=" ∷ codes "<=" ∷ codes ">=" ∷ codes "<<" ∷ codes ">>" ∷ [])
+is_double b c = is_in marks (b ∷ c ∷ [])
 
 -- the mark of three bytes
 abbrev pub is_triple : ℕ → ℕ → ℕ → Bool
-is_triple b c d = bytes_eq (b ∷ c ∷ d ∷ []) (codes ">>>")
+is_triple b c d = is_in marks (b ∷ c ∷ d ∷ [])
 
 -- a slash is a mark only where no comment could begin
 abbrev pub is_bare : ℕ → ℕ → Bool

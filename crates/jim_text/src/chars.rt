@@ -74,7 +74,7 @@ fn wide_char_at(bytes: &[u8], at: usize) -> Option<char>
 }
 
 /// The character at a place, and the place after it.
-#[inline]
+#[inline(always)]
 pub(crate) fn char_at(bytes: &[u8], at: usize) -> Option<(char, usize)>
     requires { at < length bytes.now }
     ensures place { MatchOption result (NoCharAt bytes.now at) (λ found. CharAt bytes.now at found.0 found.1) }

@@ -9,6 +9,7 @@ mod chars;
 mod comment;
 mod content;
 mod laws;
+mod lead;
 mod lexer;
 mod mark;
 mod name;
@@ -18,8 +19,11 @@ mod word;
 
 pub use content::{contents, has_quote};
 pub use laws::{has_one_list, spells_alone};
+pub use lead::Lead;
 pub use lexer::lex;
+pub use mark::mark_lead;
 pub use std::alloc::AllocError as NoMemory;
+pub use word::word_lead;
 
 /// What a token is.
 #[derive(Clone, Copy, Debug, PartialEq, Eq)]

@@ -7,7 +7,7 @@ use Rattle.jim_text.specs.declared.Kind.{Kind}
 use Rattle.jim_text.specs.declared.Kind.TheVariants as kind
 use Rattle.jim_text.specs.declared.Token.{Token}
 use Rattle.jim_text.specs.Contents as name
-use Rattle.jim_signs.specs.declared.lead.Lead.TheVariants as lead
+use Rattle.jim_text.specs.declared.lead.Lead.TheVariants as lead
 use Rattle.jim_signs.specs.Leads.{lead_of, at_lead}
 use Rattle.jim_signs.specs.Names.{text_of, contents, between_quotes, with_contents, names_of, place_of}
 use Rattle.jim_signs.specs.Signs.{IsBelow, number_of, sign_of, signs_of}

@@ -1,7 +1,7 @@
 -- The numbers in a tree whose tokens have numbers below a bound.
 use Rattle.std.proofs.Common.{ℕ, List, [], ◌∷◌, Some, None, IfSome}
 use Rattle.std.specs.List.{AllByRecursion}
-use Rattle.jim_signs.specs.declared.lead.Sign.{Sign}
+use Rattle.jim_signs.specs.declared.seen.Sign.{Sign}
 use Rattle.jim_signs.specs.Signs.{IsBelow}
 use Rattle.jim_grammar.specs.Expressions.{Re, Eps, Tok, One, ◌·◌, Any, Star, Opt, UpTo, Shared, Tree, spell, spell_each, sign}
 

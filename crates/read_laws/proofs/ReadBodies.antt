@@ -9,8 +9,8 @@ use Rattle.jim_ast.specs.declared.syntax.Body.{Body}
 use Rattle.jim_ast.specs.declared.syntax.Class.{Class}
 use Rattle.jim_ast.specs.declared.syntax.Label.{Label}
 use Rattle.jim_ast.specs.declared.syntax.MethodDecl.{MethodDecl}
-use Rattle.jim_signs.specs.declared.lead.Lead.{Lead}
-use Rattle.jim_signs.specs.declared.lead.Lead.TheVariants as lead
+use Rattle.jim_text.specs.declared.lead.Lead.{Lead}
+use Rattle.jim_text.specs.declared.lead.Lead.TheVariants as lead
 use Rattle.jim_grammar.specs.Forms.{LabelLine, StmtLine, FieldMember, MethodMember, NoBody, WithBody, InvokeExpr, MultiExpr, OnReceiver, OnClass, Dynamic, AssignStmt, CallStmt, SwitchStmt}
 use Rattle.jim_grammar.specs.Expressions.{Between, Tree}
 use Rattle.jim_grammar.specs.Grammar.{invoke, expr, own, first_own, pair, case_line, stmt, line, body, ending, member, class, program}

@@ -1,5 +1,5 @@
 use Rattle.std.proofs.Common.{◌≡◌, ◌≤◌, List, length, false}
-use Rattle.jim_signs.specs.declared.lead.Sign.{Sign}
+use Rattle.jim_signs.specs.declared.seen.Sign.{Sign}
 use Rattle.jim_grammar.specs.Expressions.{Star, Tree, spell}
 use Rattle.jim_grammar.specs.Grammar.{decl}
 use Rattle.jim_build.specs.Decls.{locals_of}

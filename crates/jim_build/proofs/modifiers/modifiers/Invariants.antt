@@ -1,5 +1,5 @@
 use Rattle.std.proofs.Common.{◌≡◌, ◌≤◌, List, length, false}
-use Rattle.jim_signs.specs.declared.lead.Sign.{Sign}
+use Rattle.jim_signs.specs.declared.seen.Sign.{Sign}
 use Rattle.jim_grammar.specs.declared.set.LeadSet.TheVariants.{Modifiers}
 use Rattle.jim_grammar.specs.Sets.{is_modifier}
 use Rattle.jim_grammar.specs.Expressions.{Star, One, Tree, spell}

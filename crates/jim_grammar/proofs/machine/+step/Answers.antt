@@ -1,6 +1,6 @@
 use Rattle.std.proofs.Common.{◌+◌, IsTrue, refl, sym, ap, ◌∙◌, arith}
 use Rattle.jim_grammar.specs.Residuals.{Null, null_eps, null_star, null_opt, null_upto}
-use Rattle.jim_signs.specs.declared.lead.Lead.TheVariants as lead
+use Rattle.jim_text.specs.declared.lead.Lead.TheVariants as lead
 use Rattle.jim_grammar.specs.declared.item.Item.TheVariants as item
 use Rattle.jim_grammar.specs.Forms.{forms}
 use Rattle.jim_grammar.specs.Items.{re}

@@ -1,8 +1,8 @@
 use Rattle.std.proofs.Common.{sym, ◌∙◌, subst, rules, ◌≡◌, true}
 use denote.Enum.Bare.{same_true}
-use Rattle.jim_signs.specs.contracts.lead.Lead.{the_type}
-use Rattle.jim_signs.specs.contracts.lead.LeadPartialEq.TheImpl.{eq-value}
-use Rattle.jim_signs.specs.declared.lead.Lead.{Lead}
+use Rattle.jim_text.specs.contracts.lead.Lead.{the_type}
+use Rattle.jim_text.specs.contracts.lead.LeadPartialEq.TheImpl.{eq-value}
+use Rattle.jim_text.specs.declared.lead.Lead.{Lead}
 use Rattle.jim_grammar.proofs.machine.is_same.Goals as goal
 
 self : (x : Lead) → (eq-value).it x x ≡ true

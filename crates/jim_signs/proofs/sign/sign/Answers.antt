@@ -1,6 +1,6 @@
 use Rattle.std.proofs.Common.{sym, ap, arith, subst, length, ℕ, ◌≢◌}
-use Rattle.jim_signs.specs.declared.lead.Lead.TheVariants.{Name, Other}
-use Rattle.jim_signs.specs.declared.lead.Sign.{Sign}
+use Rattle.jim_text.specs.declared.lead.Lead.TheVariants.{Name, Other}
+use Rattle.jim_signs.specs.declared.seen.Sign.{Sign}
 use Rattle.jim_text.specs.declared.Kind.TheVariants as kind
 use Rattle.jim_signs.proofs.DigitLemmas.{at_digits, length-part}
 use Rattle.jim_signs.proofs.KnownLemmas.{word_classed, mark_classed, at_classed}

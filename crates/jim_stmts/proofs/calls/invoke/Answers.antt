@@ -1,5 +1,5 @@
 use Rattle.std.proofs.Common.{◌∙◌, sym}
-use Rattle.jim_signs.specs.declared.lead.Lead.TheVariants as lead
+use Rattle.jim_text.specs.declared.lead.Lead.TheVariants as lead
 use Rattle.jim_stmts.proofs.Choices.{invoke_at, invoke_plain, ok_same}
 use Rattle.jim_stmts.proofs.calls.invoke.Goals as goal
 

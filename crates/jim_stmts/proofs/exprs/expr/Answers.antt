@@ -1,5 +1,5 @@
 use Rattle.std.proofs.Common.{◌∙◌, sym, ap}
-use Rattle.jim_signs.specs.declared.lead.Lead.TheVariants as lead
+use Rattle.jim_text.specs.declared.lead.Lead.TheVariants as lead
 use Rattle.jim_grammar.specs.Forms.{Exprs, InvokeExpr}
 use Rattle.jim_grammar.specs.Grammar.{by_expr}
 use Rattle.jim_stmts.specs.Leads.{lead_at}

@@ -1,5 +1,5 @@
 use Rattle.std.proofs.Common.{◌≡◌, ◌∙◌, IsTrue, arith}
-use Rattle.jim_signs.specs.declared.lead.Lead.TheVariants as lead
+use Rattle.jim_text.specs.declared.lead.Lead.TheVariants as lead
 use Rattle.jim_grammar.specs.Grammar.{name}
 use Rattle.jim_stmts.specs.Leads.{lead_at}
 use Rattle.jim_stmts.specs.Meanings.{id}

@@ -1,5 +1,5 @@
 use Rattle.std.proofs.Common.{ap, sym, ◌∙◌}
-use Rattle.jim_signs.specs.declared.lead.Lead.TheVariants as lead
+use Rattle.jim_text.specs.declared.lead.Lead.TheVariants as lead
 use Rattle.jim_ast.specs.declared.syntax.Imm.TheVariants as operands
 use Rattle.jim_stmts.proofs.Choices.{imm_at}
 use Rattle.jim_stmts.proofs.operands.imm.Goals as goal

@@ -1,5 +1,5 @@
 use Rattle.std.proofs.Common.{◌≡◌, refl, sym, ap, ◌∙◌, IsTrue, arith, append_assoc, append-nil}
-use Rattle.jim_signs.specs.declared.lead.Lead.TheVariants as lead
+use Rattle.jim_text.specs.declared.lead.Lead.TheVariants as lead
 use Rattle.jim_grammar.specs.Grammar.{case_line}
 use Rattle.jim_stmts.specs.Leads.{lead_at}
 use Rattle.jim_stmts.proofs.Drops.{left_where_lead}

@@ -1,6 +1,6 @@
 use Rattle.std.proofs.Common.{◌≡◌, ◌≢◌, ◌≤◌, ◌++◌, List, length, map}
-use Rattle.jim_signs.specs.declared.lead.Lead.TheVariants as lead
-use Rattle.jim_signs.specs.declared.lead.Sign.{Sign}
+use Rattle.jim_text.specs.declared.lead.Lead.TheVariants as lead
+use Rattle.jim_signs.specs.declared.seen.Sign.{Sign}
 use Rattle.jim_grammar.specs.Expressions.{Tree, Star, spell}
 use Rattle.jim_grammar.specs.Grammar.{case_line}
 use Rattle.jim_stmts.specs.Leads.{lead_at}

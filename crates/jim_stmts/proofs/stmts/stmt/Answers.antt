@@ -1,5 +1,5 @@
 use Rattle.std.proofs.Common.{◌∙◌, sym}
-use Rattle.jim_signs.specs.declared.lead.Lead.TheVariants as lead
+use Rattle.jim_text.specs.declared.lead.Lead.TheVariants as lead
 use Rattle.jim_grammar.specs.Forms.{PutStaticStmt, CallStmt, IfStmt, GotoStmt, SwitchStmt, ReturnStmt, ThrowStmt, MonitorStmt}
 use Rattle.jim_stmts.proofs.Choices.{ok_same}
 use Rattle.jim_stmts.proofs.StmtChoices.{stmt_at, form_at-first, form_at-switch, form_at-monitor, stmt_form-other}

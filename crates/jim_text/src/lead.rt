@@ -1,5 +1,6 @@
-//! Classes of tokens, and signs.
-use jim_ast::Names;
+//! Classes of tokens.
+ghost use Rattle.std.specs.Prelude.{◌≡◌};
+ghost use Rattle.jim_text.specs.Words.{is_known};
 
 /// A class of tokens: a kind of tokens, or one word or mark. A token of a lexed text is never `Other`.
 #[derive(Clone, Copy, Debug, PartialEq, Eq, Hash)]
@@ -103,17 +104,15 @@ pub enum Lead {
     Other,
 }
 
-/// A token as the grammar sees it: its class, and what it names by a number. A name or a text has the number of its contents among the names of the
-/// program, a parameter its own number, and each other token 0.
-#[derive(Clone, Copy, Debug, PartialEq, Eq)]
-pub struct Sign {
-    pub lead: Lead,
-    pub text: u32,
-}
-
-/// The names of a text, each once in the order in which it comes first, and one sign for each token.
-#[derive(Drop)]
-pub struct Signs {
-    pub names: Names,
-    pub signs: Vec<Sign>,
+impl Lead {
+    /// Whether it is any class but `Other`.
+    #[inline]
+    pub(crate) fn is_known(self) -> bool
+        ensures { result ≡ is_known self }
+    {
+        match self {
+            Lead::Other => false,
+            _ => true,
+        }
+    }
 }

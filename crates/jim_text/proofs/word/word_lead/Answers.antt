@@ -1,7 +1,7 @@
 use Rattle.std.proofs.Common.{◌∙◌, sym, refl, length, arith}
-use Rattle.jim_signs.specs.Leads.{words}
-use Rattle.jim_signs.proofs.LeadLemmas.{look_up-filter, look_up-absent, words-length}
-use Rattle.jim_signs.proofs.word.word_lead.Goals as goal
+use Rattle.jim_text.specs.Words.{words}
+use Rattle.jim_text.proofs.TableLemmas.{look_up-filter, look_up-absent, words-length}
+use Rattle.jim_text.proofs.word.word_lead.Goals as goal
 
 pub returns-in-2 : goal.returns-in-2
 unfolding words
