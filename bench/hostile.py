@@ -193,6 +193,68 @@ def calls(count):
     return main_of(f'{OBJECT} x;', ''.join(f'x = new C{i}; virtualinvoke x.<C{i}: void m()>();\n' for i in range(count)), made)
 
 
+def chain(count, head='', of_each='', members=''):
+    """A chain of classes, the first with this head, the others with what follows a parent's name and with these members, and the last one's name."""
+    return f'class C0{head}\n' + ''.join(f'class C{i} extends C{i - 1}{of_each} {{ {members} }}\n' for i in range(1, count)), f'C{count - 1}'
+
+
+def static_fields(count):
+    return ''.join(f'static int f{i};\n' for i in range(count))
+
+
+def accesses(count, made, last):
+    return main_of('int x;', ''.join(f'x = <{last}: int f{i}>;\n' for i in range(count)), made)
+
+
+def fields_above(count):
+    """Accesses that name the last class of a chain and fields of its first."""
+    return accesses(count, *chain(count, f' {{ {static_fields(count)} }}'))
+
+
+def fields_above_interfaces(count):
+    """The same, where each other class names an interface."""
+    made, last = chain(count, f' {{ {static_fields(count)} }}', ' implements I')
+    return accesses(count, 'interface I { }\n' + made, last)
+
+
+def fields_of_an_interface(count):
+    """The same, where the fields are of an interface that the first class names."""
+    made, last = chain(count, ' implements I { }')
+    return accesses(count, f'interface I {{ {static_fields(count)} }}\n' + made, last)
+
+
+def calls_on_a_chain(count):
+    """Calls that name each class of a chain, of which the first has the method."""
+    made, last = chain(count, ' { void m() { return; } }')
+    return main_of(f'{last} x;', f'x = new {last};\n' + ''.join(f'virtualinvoke x.<C{i}: void m()>();\n' for i in range(count)), made)
+
+
+def every_second(count):
+    """An interface with many methods that every second of the classes before it implements."""
+    methods = ''.join(f'void m{i}();\n' for i in range(count))
+    return main_of('', '', ''.join(f'abstract class C{i}{" implements I" * (i % 2)} {{ }}\n' for i in range(count)) + f'interface I {{ {methods} }}\n')
+
+
+def every_second_of_a_chain(count):
+    """A chain of interfaces, of which every second of the classes before them implements the last."""
+    made = 'interface I0 { }\n' + ''.join(f'interface I{i} implements I{i - 1} {{ }}\n' for i in range(1, count))
+    return main_of('', '', ''.join(f'class C{i}{f" implements I{count - 1}" * (i % 2)} {{ }}\n' for i in range(count)) + made)
+
+
+def side_by_side(count):
+    """A call on an object of a class with many below it, each with an interface of its own that has the method."""
+    made = ''.join(f'interface I{i} {{ void m() {{ return; }} }}\nclass A{i} extends A implements I{i} {{ }}\n' for i in range(count))
+    return main_of('A x;', 'x = new A0; virtualinvoke x.<A: void m()>();\n', made + 'abstract class A { abstract void m(); }\n')
+
+
+def hidden(count):
+    """A call on an object of a class with many below it, which reach many interfaces with the method, each hidden by one without a body."""
+    made = ''.join(f'interface D{i} {{ void m() {{ return; }} }}\ninterface H{i} implements D{i} {{ void m(); }}\n' for i in range(count))
+    every = ', '.join(f'H{i}' for i in range(count))
+    made += f'abstract class A implements {every} {{ abstract void m(); }}\n' + ''.join(f'class C{i} extends A {{ }}\n' for i in range(count))
+    return main_of('A x;', 'x = new C0; virtualinvoke x.<A: void m()>();\n', made)
+
+
 def open_ended(head, piece):
     return lambda size: head + piece * ((size - len(head)) // len(piece))
 
@@ -220,6 +282,14 @@ SHAPES = {
     'each with an interface': (repeated(60_000)(chain_with_interfaces), RUN),
     'a cycle behind a chain': (repeated(60_000)(cycle), RUN),
     'a call on each class': (repeated(60_000)(calls), RUN),
+    'fields above': (repeated(200_000)(fields_above), RUN),
+    'fields over interfaces': (repeated(175_000)(fields_above_interfaces), RUN),
+    'fields of an interface': (repeated(200_000)(fields_of_an_interface), RUN),
+    'calls on a chain': (repeated(200_000)(calls_on_a_chain), RUN),
+    'every second class': (repeated(300_000)(every_second), RUN),
+    'under a chain': (repeated(200_000)(every_second_of_a_chain), RUN),
+    'interfaces side by side': (repeated(160_000)(side_by_side), RUN),
+    'hidden interfaces': (repeated(100_000)(hidden), RUN),
     'open comment': (open_ended('/*', '* '), RUN),
     'open line': (open_ended('//', 'x'), RUN),
     'open text': (open_ended('"', '\\"'), RUN),

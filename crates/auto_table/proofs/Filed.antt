@@ -1,8 +1,9 @@
 -- Cells that are found by their keys: one is written, one is put last into its row, and rows come in.
-use Rattle.std.proofs.Common.{◌≡◌, ◌≢◌, ◌⊎◌, inl, inr, ℕ, zero, suc, ◌+◌, ◌-◌, ◌<◌, List, [], ◌∷◌, ◌++◌, length, map, slice_get, Some, refl, sym, ap, ◌∙◌, subst, arith, length-append}
+use Rattle.std.proofs.Common.{◌≡◌, ◌≢◌, ◌⊎◌, inl, inr, ℕ, zero, suc, ◌+◌, ◌-◌, ◌<◌, List, [], ◌∷◌, ◌++◌, length, slice_get, Some, refl, sym, ap, ◌∙◌, subst, arith, length-append}
 use Rattle.std.specs.List.{slice_set}
 use Rattle.lists.specs.Lists.{Has}
 use Rattle.lists.proofs.Places.{IsApart-push, slice_get-append_left, slice_get-below, slice_get-push, slice_get-pushed, slice_get-set_other, slice_get-set_same}
+use Rattle.std.proofs.lemmas.List.{length-set}
 use Rattle.auto_table.specs.Grids.{HasPlace, IsFiled, IsFound, IsPlaced, row_at}
 use Rattle.auto_table.proofs.Found.{one_or_other}
 
@@ -40,11 +41,6 @@ module _ {X : Type 0} where
   pub rows-new : (rows : List (List X)) (r : List X) → rows ++ r ∷ [] ≡ slice_set (rows ++ [] ∷ []) (length rows) r
   rows-new [] r = refl
   rows-new (q ∷ rows) r = ap (λ (rs : List (List X)). q ∷ rs) (rows-new rows r)
-
-  length-set : (xs : List X) (i : ℕ) (x : X) → length (slice_set xs i x) ≡ length xs
-  length-set [] i x = refl
-  length-set (y ∷ xs) zero x = refl
-  length-set (y ∷ xs) (suc i) x = ap suc (length-set xs i x)
 
 -- the number of rows stays
 pub rows-set : {X : Type 0} (rows : List (List X)) (i : ℕ) (r : List X) → length (slice_set rows i r) ≡ length rows
@@ -219,11 +215,6 @@ module _ {S X K : Type 0} (row_of : S → ℕ) (of : S → K) (one : (s t : S) �
               at = slice_get-append_left places (place ∷ []) c.number l c.at;
             }
           ]
-
--- ---- lists of lists
-pub length_map : {X Y : Type 0} (f : X → Y) (xs : List X) → length (map f xs) ≡ length xs
-length_map f [] = refl
-length_map f (x ∷ xs) = ap suc (length_map f xs)
 
 -- the room that is left
 pub less_room : (cap len cap' len' : ℕ) → cap' ≡ cap → len' ≡ len + 1 → cap' - len' ≡ cap - len - 1

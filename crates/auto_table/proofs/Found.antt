@@ -1,11 +1,12 @@
 -- The weight of a key in a row, and what there is at the number of an entry.
-use Rattle.std.proofs.Common.{◌≡◌, ◌≢◌, ◌⊎◌, inl, inr, ℕ, zero, suc, Bool, true, false, cond, List, [], ◌∷◌, ◌++◌, length, slice_get, Some, refl, sym, ap, ◌∙◌, subst, true≢false, arith}
+use Rattle.std.proofs.Common.{◌≡◌, ◌≢◌, ◌⊎◌, inl, inr, ℕ, zero, suc, Bool, true, false, cond, List, [], ◌∷◌, ◌++◌, length, slice_get, Some, refl, sym, ap, ◌∙◌, arith}
 use Rattle.std.specs.List.{slice_set}
 use Rattle.auto_table.specs.declared.entry.Entry.{Entry}
 use Rattle.auto_table.specs.contracts.entry.EntryPartialEq.TheImpl as entry
 use Rattle.auto_table.specs.Cells.{at_entry, weight_of}
 use Rattle.lists.specs.Lists.{Has, IsApart}
 use Rattle.auto_table.proofs.Same.{same_entry, self_entry}
+use Rattle.lists.proofs.OneKey.{one_key}
 
 -- two numbers are one, or they differ
 pub one_or_other : (i j : ℕ) → (i ≡ j) ⊎ (i ≢ j)
@@ -16,19 +17,11 @@ module _ {K X W : Type 0} (eq : K → K → Bool) (same : (x y : K) → eq x y �
   abbrev in_row : K → List X → W
   in_row k xs = weight_of eq is_of weight none k xs
 
-  -- two keys are one, or the test tells them apart
-  one_key : (a b : K) → ((a ≡ b) × (eq a b ≡ true)) ⊎ ((a ≢ b) × (eq a b ≡ false))
-  one_key a b = by (eq a b) refl
-    where
-      by : (t : Bool) → eq a b ≡ t → ((a ≡ b) × (eq a b ≡ true)) ⊎ ((a ≢ b) × (eq a b ≡ false))
-      by true e = inl (same a b e, e)
-      by false e = inr ((λ h. let t : eq a b ≡ true = subst (λ (z : K). eq a z ≡ true) h (self a) in true≢false (sym t ∙ e)), e)
-
   first : (x : X) (xs : List X) (k : K) → is_of x ≡ k → in_row k (x ∷ xs) ≡ weight x
   first x xs k e = ap (λ (t : Bool). cond t (weight x) (in_row k xs)) (ap (λ (z : K). eq z k) e ∙ self k)
 
   later : (x : X) (xs : List X) (k : K) → is_of x ≢ k → in_row k (x ∷ xs) ≡ in_row k xs
-  later x xs k n = elim (one_key (is_of x) k) [
+  later x xs k n = elim (one_key eq self same (is_of x) k) [
     | inl e ↦ absurd (n e.0)
     | inr e ↦ ap (λ (t : Bool). cond t (weight x) (in_row k xs)) e.1
   ]
@@ -49,7 +42,7 @@ module _ {K X W : Type 0} (eq : K → K → Bool) (same : (x y : K) → eq x y �
   -- a key weighs nothing there, or a cell is of it
   pub row-or : (xs : List X) (k : K) → (in_row k xs ≡ none) ⊎ ((j : ℕ) × (x : X) × (slice_get xs j ≡ Some x) × (is_of x ≡ k))
   row-or [] k = inl refl
-  row-or (x ∷ xs) k = elim (one_key (is_of x) k) [
+  row-or (x ∷ xs) k = elim (one_key eq self same (is_of x) k) [
     | inl e ↦ inr (0, x, refl, e.0)
     | inr e ↦ elim (row-or xs k) [
       | inl n ↦ inl (later x xs k e.0 ∙ n)
@@ -70,7 +63,7 @@ module _ {K X W : Type 0} (eq : K → K → Bool) (same : (x y : K) → eq x y �
 
 -- two entries are one, or the test tells them apart
 pub one_entry : (a b : Entry) → ((a ≡ b) × (entry.eq-value.it a b ≡ true)) ⊎ ((a ≢ b) × (entry.eq-value.it a b ≡ false))
-one_entry a b = one_key {W = ℕ} entry.eq-value.it same_entry self_entry (λ (x : Entry). x) (λ _. 0) 0 a b
+one_entry a b = one_key entry.eq-value.it self_entry same_entry a b
 
 -- ---- at the number of an entry
 module _ {X : Type 0} where

@@ -1,5 +1,5 @@
 //! Words, with what they ask for where they are a command.
-use boom_words::{Asked, AskedBoth, FieldWord, Query, Running, read_fields, read_words};
+use boom_words::{Asked, FieldWord, Query, Running, read_fields, read_words};
 use std::alloc::{AllocError, Global};
 use std::test::Fail;
 
@@ -199,10 +199,10 @@ fn of_one(alloc: Global, a: &Asked<'_>) -> Result<String, AllocError> {
     )
 }
 
-fn of_both(alloc: Global, a: &AskedBoth<'_>) -> Result<String, AllocError> {
+fn of_both(alloc: Global, a: &Asked<'_>, second: &str) -> Result<String, AllocError> {
     format!(in alloc;
         "{} at {}, {} and {}, within {}",
-        a.method, a.index, a.first, a.second, a.budget
+        a.method, a.index, a.local, second, a.budget
     )
 }
 
@@ -218,18 +218,18 @@ fn of_run(alloc: Global, a: &Running<'_>) -> Result<String, AllocError> {
 fn asked_of(alloc: Global, query: &Query<'_>) -> Result<String, AllocError> {
     match query {
         Query::PointsTo(a) => of_one(alloc, a),
-        Query::Alias(a) => of_both(alloc, a),
+        Query::Alias { asked, second } => of_both(alloc, asked, second),
         Query::Explain(a) => format!(in alloc;
             "why {} at {}, {}, within {}",
             a.method, a.index, a.local, a.budget
         ),
-        Query::Paths(a) => format!(in alloc;
+        Query::Paths { asked: a, fields } => format!(in alloc;
             "{} at {}, {} along {}, within {}",
-            a.method, a.index, a.local, a.fields, a.budget
+            a.method, a.index, a.local, fields, a.budget
         ),
-        Query::Refined(a) => format!(in alloc;
+        Query::Refined { asked: a, rounds } => format!(in alloc;
             "{} at {}, {} in {} rounds, within {}",
-            a.method, a.index, a.local, a.rounds, a.budget
+            a.method, a.index, a.local, rounds, a.budget
         ),
         Query::Run(a) => of_run(alloc, a),
         Query::Replay { budget } => format!(in alloc; "a certificate, within {budget}"),

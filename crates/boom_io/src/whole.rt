@@ -1,4 +1,4 @@
-ghost use Rattle.std.specs.Prelude.{◌≡◌, ◌≢◌, ℕ, ◌+◌, ◌-◌, ◌*◌, ◌^◌, ◌<◌, ◌≤◌, length, take, drop, vec_len, IfOk, IfSome, OnOk, OnErr, Err};
+ghost use Rattle.std.specs.Prelude.{◌≡◌, ◌≢◌, ℕ, ◌+◌, ◌<◌, ◌≤◌, ◌++◌, length, take, vec_len, vec_capacity, IfOk, IfSome, OnOk, OnErr, Err};
 ghost use Rattle.std.specs.Io.KnownBytes.{Appends, Consumes, IsAtEnd, Keeps};
 ghost use Rattle.boom_io.specs.Causes.{Rose, HasCause};
 ghost use Rattle.boom_io.specs.Whole.{TakesWithin, TakesFirst, AppendsProperPrefix};
@@ -45,39 +45,27 @@ impl From<NoMemory> for ReadAll {
 #[derive(Clone, Copy, Debug, PartialEq, Eq)]
 pub struct WriteFault;
 
-// How many bytes there is room for at first.
-const PIECE: usize = 64 * 1024;
+// How many bytes are read at most at once.
+const PIECE: usize = 16 * 1024;
 
-// Sees to it that there is room behind the bytes that are filled, for at most `most` in all. Where
-// there is none, the vector grows to twice its length, so that zeroing and moving bytes takes time
-// in proportion to the bytes that were read.
-fn make_room(bytes: &mut Vec<u8>, filled: usize, most: usize) -> Result<(), NoMemory>
-    requires more { filled < most }
-    requires within { filled ≤ vec_len bytes.old }
-    requires bound { vec_len bytes.old ≤ most }
-    ensures room { OnOk result (filled < vec_len bytes.new) }
-    ensures bound { vec_len bytes.new ≤ most }
-    ensures front { OnOk result (take filled bytes.new.items ≡ take filled bytes.old.items) }
-{
-    if filled < bytes.len() {
-        return Ok(());
-    }
-    let longer = filled.saturating_mul(2).max(PIECE).min(most);
-    bytes.resize(longer, 0)
-}
-
-// One read into the part of the buffer that isn't filled.
-fn read_behind<S: Source>(source: &mut S, buf: &mut [u8], filled: usize) -> Result<usize, Failed>
-    requires { filled < length buf.old }
-    ensures bound { IfOk result (λ n. filled + n ≤ length buf.new) }
-    ensures front { take filled buf.new ≡ take filled buf.old }
-    ensures bytes { IfOk result (λ n. Consumes (S.left source.old) (S.left source.new)
-        (take n (drop filled buf.new))) }
+// One read into a piece, whose front is then put behind the bytes that were read before. There is room for it.
+fn read_behind<S: Source>(
+    source: &mut S,
+    piece: &mut [u8],
+    bytes: &mut Vec<u8>,
+) -> Result<usize, Failed>
+    requires some { 0 < length piece.old }
+    requires room { vec_len bytes.old + length piece.old ≤ vec_capacity bytes.old }
+    ensures bound { IfOk result (λ n. n ≤ length piece.new) }
+    ensures bytes { IfOk result (λ n. Consumes (S.left source.old) (S.left source.new) (take n piece.new)) }
+    ensures put { IfOk result (λ n. bytes.new.items ≡ bytes.old.items ++ take n piece.new) }
     ensures end { IfOk result (λ n. n ≡ 0 → IsAtEnd (S.left source.new)) }
     ensures kept { OnErr result (Keeps (S.left source.old) (S.left source.new)) }
     ensures cause { HasCause (S.faults source.old) (S.faults source.new) result }
 {
-    source.read(&mut buf[filled..])
+    let count = source.read(piece)?;
+    let _ = bytes.extend_from_slice(&piece[..count]);
+    Ok(count)
 }
 
 /// Reads until a read gives no byte, or until there are more than `limit` bytes.
@@ -105,16 +93,15 @@ pub fn read_all<S: Source>(alloc: Global, source: &mut S, limit: usize) -> Resul
     ensures later { S.faults source.old ≤ S.faults source.new }
 {
     let most = limit + 1;
+    let mut piece = vec![in alloc; 0u8; PIECE.min(most)]?;
     let mut bytes = Vec::new(alloc);
-    let mut filled = 0;
-    while filled < most {
-        make_room(&mut bytes, filled, most)?;
-        let count = read_behind(source, &mut bytes, filled)?;
+    while bytes.len() < most {
+        let room = piece.len().min(most - bytes.len());
+        bytes.reserve(room)?;
+        let count = read_behind(source, &mut piece[..room], &mut bytes)?;
         if count == 0 {
-            bytes.truncate(filled);
             return Ok(bytes);
         }
-        filled += count;
     }
     Err(ReadAll::TooLong)
 }

@@ -6,7 +6,7 @@ use Rattle.std.specs.Io.KnownBytes.{Appends}
 use Rattle.boom_io.specs.Causes.{Rose}
 use Rattle.boom_io.specs.Whole.{AppendsProperPrefix, TakesFirst}
 use Rattle.report_text.specs.Lines.{text_of}
-use Rattle.boom_words.specs.Requests.{Request, Typestate, IsRequest, IsTypestate, typestate}
+use Rattle.boom_words.specs.Requests.{Request, Typestate, IsQuestion, IsRequest, typestate}
 use Rattle.boom_top.specs.Parts.{IsGiven, Makes, Sends, status_of}
 use Rattle.boom_top.specs.Evidence.{HasEvidence}
 use Rattle.boom_top.specs.Queries.{Accepted, rest_in, source_of}
@@ -131,7 +131,7 @@ module _ (old new : Option (List ℕ)) (before now : ℕ) (result : Status) (X :
     ]
 
     pub safely : (made : Result Reply NoReply) → IfOk made Sent → IfErr made Unsent → IfOk made Made → (IsOk made → IsOne)
-        → result ≡ Done → (entry : List ℕ) (asked : Typestate) → IsTypestate words entry asked
+        → result ≡ Done → (entry : List ℕ) (asked : Typestate) → IsQuestion words entry (typestate asked)
         → (a : Accepted (record { entry = entry; question = typestate asked }) bytes) (k : ProtocolParts) → IsProtocolOf a.linked asked.protocol k
         → SaysSafe old new → IsSafe a.linked k
     safely (Err none.ReadFault) sent unsent is one done entry asked is_request a k of says = absurd (let no : ReadFault ≡ Done = sym unsent.0 ∙ done in cc)

@@ -1,12 +1,10 @@
 -- What a request asks of a text: the program that it spells and that is linked.
-use Rattle.std.specs.Prelude.{ℕ, ◌<◌, ◌≤◌, List, [], All, codes, length}
-use Rattle.std.specs.Char.{IsAsciiDigit}
+use Rattle.std.specs.Prelude.{ℕ, ◌≤◌, List, [], codes, length}
 use Rattle.jim_ast.specs.declared.syntax.Program.{Program}
 use Rattle.jim_parse.specs.Derives.{Spells}
 use Rattle.jim_prelude.specs.Text.{prelude_text}
 use Rattle.link_rules.specs.Conditions.{DeclaresNine}
 use Rattle.link_rules.specs.Linked.{LinkedProgram, Links}
-use Rattle.boom_words.specs.Fields.{AreFields, FieldName}
 use Rattle.boom_words.specs.Requests.{Question, Request, alias, batch, demo, explain, paths, points_to, refined, replay, run, typestate}
 use Rattle.demo_text.specs.Demo.{demo_source}
 use Rattle.batch_lines.specs.Cuts.{before_mark, behind_mark, lines_of}
@@ -73,19 +71,6 @@ IsDemo (replay budget) = ⊥
 IsDemo (typestate asked) = ⊥
 IsDemo (batch budget) = ⊥
 IsDemo (refined asked) = ⊥
-
--- what the parts of a question keep: the choices of a run are digits, a word spells the fields of a path, and the demo has from 1 to 400 boxes
-abbrev pub IsFit : Question → Type 0
-IsFit (run asked) = All IsAsciiDigit asked.choices
-IsFit (demo boxes) = (0 < boxes) × (boxes ≤ 400)
-IsFit (points_to asked) = Unit {0}
-IsFit (explain asked) = Unit {0}
-IsFit (alias asked) = Unit {0}
-IsFit (paths asked) = (names : List FieldName) × AreFields asked.fields names
-IsFit (replay budget) = Unit {0}
-IsFit (typestate asked) = Unit {0}
-IsFit (batch budget) = Unit {0}
-IsFit (refined asked) = Unit {0}
 
 -- the stand-ins for Java's own classes: the program that their text spells. It declares the nine classes that linking needs
 pub record IsPrelude (prelude : Program) : Type 0 where

@@ -4,12 +4,12 @@ ghost use Rattle.std.specs.Io.KnownBytes.{Appends, IsAtEnd};
 ghost use Rattle.boom_io.specs.Causes.{Rose};
 ghost use Rattle.boom_io.specs.Whole.{AppendsProperPrefix};
 ghost use Rattle.boom_words.specs.Commands.{question_of, request_of};
-ghost use Rattle.boom_words.specs.Requests.{Request, Typestate, IsRequest, IsTypestate, NoRequest, typestate};
+ghost use Rattle.boom_words.specs.Requests.{Request, Typestate, IsQuestion, IsRequest, IsWithinBounds, NoRequest, typestate};
 ghost use Rattle.demo_text.specs.Demo.{demo_source};
 ghost use Rattle.report_text.specs.Lines.{text_of};
 ghost use Rattle.boom_top.specs.Evidence.{HasEvidence};
 ghost use Rattle.boom_top.specs.Parts.{IsGiven, Makes, Sends, status_of};
-ghost use Rattle.boom_top.specs.Queries.{Accepted, IsDemo, IsFit, rest_in, source_of};
+ghost use Rattle.boom_top.specs.Queries.{Accepted, IsDemo, rest_in, source_of};
 ghost use Rattle.boom_top.specs.Replies.{GivesUp, IsReply, IsReplyTo, IsSourceReply};
 ghost use Rattle.boom_top.specs.Runs.{AreAbout, CoversAllRuns, IsAnswerable, ReadsNothing};
 ghost use Rattle.boom_top.specs.Safety.{SaysSafe};
@@ -54,7 +54,7 @@ fn own_reply<R: Threads + Sync, G: Gate>(
     command: &Command<'_>,
     boxes: u32,
 ) -> Result<Reply, NoMemory>
-    requires { IsFit (question_of command.now.query) }
+    requires { IsWithinBounds command.now.entry.now (question_of command.now.query) }
     ensures { IfOk result (Makes (IsSourceReply (request_of command.now) (demo_source boxes))) }
 {
     let text = demo_text(hands.alloc, boxes)?;
@@ -67,7 +67,7 @@ fn read_reply<R: Threads + Sync, S: Source, G: Gate>(
     command: &Command<'_>,
     source: &mut S,
 ) -> Result<Reply, NoReply>
-    requires { IsFit (question_of command.now.query) }
+    requires { IsWithinBounds command.now.entry.now (question_of command.now.query) }
     ensures reply { IfSome (S.left source.old) (λ bytes. IfOk result (Makes (IsSourceReply (request_of command.now) bytes))) }
     ensures given { IfOk result (λ reply. IsGiven reply.status) }
     ensures whole { IfOk result (λ reply. reply.status ≡ Status.Done → IsAtEnd (S.left source.new)) }
@@ -88,7 +88,7 @@ fn command_reply<R: Threads + Sync, S: Source, G: Gate>(
     command: &Command<'_>,
     source: &mut S,
 ) -> Result<Reply, NoReply>
-    requires { IsFit (question_of command.now.query) }
+    requires { IsWithinBounds command.now.entry.now (question_of command.now.query) }
     ensures reply { (bytes : List ℕ) → (S.left source.old ≡ Some bytes) ⊎ IsDemo (question_of command.now.query)
         → IfOk result (Makes (IsReplyTo (request_of command.now) bytes)) }
     ensures given { IfOk result (λ reply. IsGiven reply.status) }
@@ -181,7 +181,7 @@ pub fn boomer<R: Threads + Sync, S: Source, K: Sink, G: Gate>(
     // Its third part: where the sink tells that the answer to a `typestate` command ends with `verdict safe` and the size of the demand, no run of the
     // machine, of any length, breaks the protocol: no event comes on an object in a state in which no row allows it.
     ensures safe { (bytes : List ℕ) → S.left source.old ≡ Some bytes → result ≡ Status.Done
-        → (entry : List ℕ) (asked : Typestate) → IsTypestate (map string_bytes words.now) entry asked
+        → (entry : List ℕ) (asked : Typestate) → IsQuestion (map string_bytes words.now) entry (typestate asked)
         → (a : Accepted (record { entry = entry; question = typestate asked }) bytes) (k : ProtocolParts) → IsProtocolOf a.linked asked.protocol k
         → SaysSafe (K.written sink.old) (K.written sink.new) → IsSafe a.linked k }
     // The evidence: for each site that an answer prints some list of lines is certified; an explanation prints one for each, without a line twice or one

@@ -1,4 +1,3 @@
 pub mod Elements
-pub mod Inverted
 pub mod Parts
 pub mod Words

@@ -1,5 +1,5 @@
 -- What the words of a command line ask for.
-use Rattle.std.specs.Prelude.{◌≡◌, ℕ, ◌^◌, ◌<◌, ◌≤◌, ◌⊎◌, List, [], ◌∷◌, All, codes, length}
+use Rattle.std.specs.Prelude.{◌≡◌, ℕ, ◌^◌, ◌<◌, ◌≤◌, List, [], ◌∷◌, All, codes, length}
 use Rattle.std.specs.Fmt.{decimal}
 use Rattle.std.specs.Char.{IsAsciiDigit}
 use Rattle.boom_words.specs.Fields.{AreFields, FieldName}
@@ -66,88 +66,46 @@ pub record Request : Type 0 where
   pub entry : List ℕ
   pub question : Question
 
--- the words of a `points-to` command, by position: the two numbers are decimal digits without a leading zero, below 2^32
-pub record IsPointsTo (words : List (List ℕ)) (entry : List ℕ) (asked : PointsTo) : Type 0 where
-  pub in_order : words ≡ codes "points-to" ∷ entry ∷ asked.method ∷ decimal asked.index ∷ asked.local ∷ decimal asked.budget ∷ []
-  pub small_index : asked.index < 2 ^ 32
-  pub small_budget : asked.budget < 2 ^ 32
+-- the word for choices: a dash for none, or the choices themselves
+abbrev pub choices_word : List ℕ → List ℕ
+choices_word [] = codes "-"
+choices_word (c ∷ cs) = c ∷ cs
 
--- the words of an `explain` command, by position: they are as those of a `points-to` command
-pub record IsExplain (words : List (List ℕ)) (entry : List ℕ) (asked : PointsTo) : Type 0 where
-  pub in_order : words ≡ codes "explain" ∷ entry ∷ asked.method ∷ decimal asked.index ∷ asked.local ∷ decimal asked.budget ∷ []
-  pub small_index : asked.index < 2 ^ 32
-  pub small_budget : asked.budget < 2 ^ 32
+-- choices are decimal digits, at most a thousand
+abbrev pub AreChoices : List ℕ → Type 0
+AreChoices choices = (length choices ≤ 1000) × All IsAsciiDigit choices
 
--- the words of an `alias` command, by position: the two numbers are as those of a `points-to` command
-pub record IsAlias (words : List (List ℕ)) (entry : List ℕ) (asked : Alias) : Type 0 where
-  pub in_order : words
-      ≡ codes "alias" ∷ entry ∷ asked.method ∷ decimal asked.index ∷ asked.first ∷ asked.second ∷ decimal asked.budget ∷ []
-  pub small_index : asked.index < 2 ^ 32
-  pub small_budget : asked.budget < 2 ^ 32
+-- the words of a question behind an entry, by position: numbers are decimal digits without a sign or a leading zero
+abbrev pub question_words : List ℕ → Question → List (List ℕ)
+question_words entry (points_to a) = codes "points-to" ∷ entry ∷ a.method ∷ decimal a.index ∷ a.local ∷ decimal a.budget ∷ []
+question_words entry (explain a) = codes "explain" ∷ entry ∷ a.method ∷ decimal a.index ∷ a.local ∷ decimal a.budget ∷ []
+question_words entry (alias a) = codes "alias" ∷ entry ∷ a.method ∷ decimal a.index ∷ a.first ∷ a.second ∷ decimal a.budget ∷ []
+question_words entry (paths a) = codes "paths" ∷ entry ∷ a.method ∷ decimal a.index ∷ a.local ∷ a.fields ∷ decimal a.budget ∷ []
+question_words entry (refined a) = codes "refined" ∷ entry ∷ a.method ∷ decimal a.index ∷ a.local ∷ decimal a.rounds ∷ decimal a.budget ∷ []
+question_words entry (run a) = codes "run" ∷ entry ∷ decimal a.steps ∷ choices_word a.choices ∷ []
+question_words entry (replay budget) = codes "replay" ∷ entry ∷ decimal budget ∷ []
+question_words entry (typestate a) = codes "typestate" ∷ entry ∷ a.protocol ∷ decimal a.budget ∷ []
+question_words entry (batch budget) = codes "batch" ∷ entry ∷ decimal budget ∷ []
+question_words entry (demo boxes) = codes "demo" ∷ decimal boxes ∷ []
 
--- the words of a `paths` command, by position: the two numbers are as those of a `points-to` command, and a word spells 1 to 4 fields
-pub record IsPaths (words : List (List ℕ)) (entry : List ℕ) (asked : Paths) : Type 0 where
-  pub names : List FieldName
-  pub in_order : words
-      ≡ codes "paths" ∷ entry ∷ asked.method ∷ decimal asked.index ∷ asked.local ∷ asked.fields ∷ decimal asked.budget ∷ []
-  pub small_index : asked.index < 2 ^ 32
-  pub are_fields : AreFields asked.fields names
-  pub small_budget : asked.budget < 2 ^ 32
-
--- the words of a `refined` command, by position: index and budget are as those of a `points-to` command, and the rounds are one digit, at most 8
-pub record IsRefined (words : List (List ℕ)) (entry : List ℕ) (asked : Refined) : Type 0 where
-  pub in_order : words
-      ≡ codes "refined" ∷ entry ∷ asked.method ∷ decimal asked.index ∷ asked.local ∷ decimal asked.rounds ∷ decimal asked.budget ∷ []
-  pub small_index : asked.index < 2 ^ 32
-  pub few_rounds : asked.rounds ≤ 8
-  pub small_budget : asked.budget < 2 ^ 32
-
--- the word for choices: a dash for none, or decimal digits, at most a thousand
-abbrev pub AreChoices : List ℕ → List ℕ → Type 0
-AreChoices word choices = ((word ≡ codes "-") × (choices ≡ []))
-    ⊎ ((word ≡ choices) × (0 < length choices) × (length choices ≤ 1000) × All IsAsciiDigit choices)
-
--- the words of a `run` command, by position: the number of steps is decimal digits without a leading zero, at most a million
-pub record IsRun (words : List (List ℕ)) (entry : List ℕ) (asked : RunFor) : Type 0 where
-  pub word : List ℕ
-  pub in_order : words ≡ codes "run" ∷ entry ∷ decimal asked.steps ∷ word ∷ []
-  pub few_steps : asked.steps ≤ 1000000
-  pub are_choices : AreChoices word asked.choices
-
--- the words of a `replay` command, by position: the number is decimal digits without a leading zero, below 2^32
-pub record IsReplay (words : List (List ℕ)) (entry : List ℕ) (budget : ℕ) : Type 0 where
-  pub in_order : words ≡ codes "replay" ∷ entry ∷ decimal budget ∷ []
-  pub small_budget : budget < 2 ^ 32
-
--- the words of a `typestate` command, by position: the number is decimal digits without a leading zero, below 2^32
-pub record IsTypestate (words : List (List ℕ)) (entry : List ℕ) (asked : Typestate) : Type 0 where
-  pub in_order : words ≡ codes "typestate" ∷ entry ∷ asked.protocol ∷ decimal asked.budget ∷ []
-  pub small_budget : asked.budget < 2 ^ 32
-
--- the words of a `batch` command, by position: the number is decimal digits without a leading zero, below 2^32
-pub record IsBatch (words : List (List ℕ)) (entry : List ℕ) (budget : ℕ) : Type 0 where
-  pub in_order : words ≡ codes "batch" ∷ entry ∷ decimal budget ∷ []
-  pub small_budget : budget < 2 ^ 32
-
--- the words of a `demo` command: the number of boxes is decimal digits without a leading zero, from 1 to 400. Its program begins in its class Demo
-pub record IsDemo (words : List (List ℕ)) (entry : List ℕ) (boxes : ℕ) : Type 0 where
-  pub in_order : words ≡ codes "demo" ∷ decimal boxes ∷ []
-  pub some : 0 < boxes
-  pub few : boxes ≤ 400
-  pub is_entry : entry ≡ codes "Demo"
+-- what is asked is within bounds: indexes and budgets are below 2^32, a word spells 1 to 4 fields, calls are narrowed in 8 rounds at most, a run is of a
+-- million steps at most, and the demo has 1 to 400 boxes; its program begins in its class Demo
+abbrev pub IsWithinBounds : List ℕ → Question → Type 0
+IsWithinBounds entry (points_to a) = (a.index < 2 ^ 32) × (a.budget < 2 ^ 32)
+IsWithinBounds entry (explain a) = (a.index < 2 ^ 32) × (a.budget < 2 ^ 32)
+IsWithinBounds entry (alias a) = (a.index < 2 ^ 32) × (a.budget < 2 ^ 32)
+IsWithinBounds entry (paths a) = (a.index < 2 ^ 32) × (a.budget < 2 ^ 32) × (names : List FieldName) × AreFields a.fields names
+IsWithinBounds entry (refined a) = (a.index < 2 ^ 32) × (a.budget < 2 ^ 32) × (a.rounds ≤ 8)
+IsWithinBounds entry (run a) = (a.steps ≤ 1000000) × AreChoices a.choices
+IsWithinBounds entry (replay budget) = budget < 2 ^ 32
+IsWithinBounds entry (typestate a) = a.budget < 2 ^ 32
+IsWithinBounds entry (batch budget) = budget < 2 ^ 32
+IsWithinBounds entry (demo boxes) = (0 < boxes) × (boxes ≤ 400) × (entry ≡ codes "Demo")
 
 -- the words of a command
-abbrev pub IsQuestion : List (List ℕ) → List ℕ → Question → Type 0
-IsQuestion words entry (points_to asked) = IsPointsTo words entry asked
-IsQuestion words entry (explain asked) = IsExplain words entry asked
-IsQuestion words entry (alias asked) = IsAlias words entry asked
-IsQuestion words entry (paths asked) = IsPaths words entry asked
-IsQuestion words entry (refined asked) = IsRefined words entry asked
-IsQuestion words entry (run asked) = IsRun words entry asked
-IsQuestion words entry (replay budget) = IsReplay words entry budget
-IsQuestion words entry (typestate asked) = IsTypestate words entry asked
-IsQuestion words entry (batch budget) = IsBatch words entry budget
-IsQuestion words entry (demo boxes) = IsDemo words entry boxes
+pub record IsQuestion (words : List (List ℕ)) (entry : List ℕ) (q : Question) : Type 0 where
+  pub in_order : words ≡ question_words entry q
+  pub within : IsWithinBounds entry q
 
 -- the words are this request
 abbrev pub IsRequest : List (List ℕ) → Request → Type 0

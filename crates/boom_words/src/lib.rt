@@ -3,8 +3,8 @@
 
 mod fields;
 mod request;
+mod word;
 
 pub use fields::{FieldWord, read_fields};
-pub use request::{
-    Asked, AskedBoth, AskedPath, Command, Query, Refining, Running, Tracking, number, read_words,
-};
+pub use request::{Asked, Command, Query, Running, Tracking, read_words};
+pub use word::number;

@@ -1,50 +1,19 @@
-//! Words, read by position.
-ghost use Rattle.std.specs.Prelude.{◌≡◌, ◌^◌, ◌<◌, ◌↔◌, ◌∷◌, ℕ, List, Some, All, IfOk, IfSome, IsSomeAnd, IsTrue, codes, map, string_bytes};
+//! The commands, by their words: first by how many stand behind the entry, then by the first of all.
+ghost use Rattle.std.specs.Prelude.{◌≡◌, ◌<◌, ◌∷◌, ℕ, List, [], length, map, string_bytes, IfOk, IfSome, IsSomeAnd};
 ghost use Rattle.std.specs.Fmt.{decimal};
-ghost use Rattle.std.specs.Char.{IsAsciiDigit};
-ghost use Rattle.boom_words.specs.Requests.{AreChoices, IsRequest, Request};
-ghost use Rattle.boom_words.specs.Commands.{request_of};
+ghost use Rattle.boom_words.specs.Requests.{IsQuestion, IsRequest, NoRequest, Request};
+ghost use Rattle.boom_words.specs.Commands.{IfRefused, place_words, question_of, request_of};
 
-use super::fields::read_fields;
+use super::word::{NotRead, asked, choices, number_to, path};
 use lists::NoMemory;
-use std::alloc::Global;
+use std::alloc::{AllocError, Global};
 
-/// What a `points-to` or an `explain` command asks for.
+/// A local just before the statement of a method with an index, and the most nodes that may be demanded.
 #[derive(Clone, Copy)]
 pub struct Asked<'a> {
     pub method: &'a str,
     pub index: u32,
     pub local: &'a str,
-    pub budget: u32,
-}
-
-/// What an `alias` command asks for.
-#[derive(Clone, Copy)]
-pub struct AskedBoth<'a> {
-    pub method: &'a str,
-    pub index: u32,
-    pub first: &'a str,
-    pub second: &'a str,
-    pub budget: u32,
-}
-
-/// What a `paths` command asks for: the fields as the word spells them.
-#[derive(Clone, Copy)]
-pub struct AskedPath<'a> {
-    pub method: &'a str,
-    pub index: u32,
-    pub local: &'a str,
-    pub fields: &'a str,
-    pub budget: u32,
-}
-
-/// What a `refined` command asks for: the targets of calls are narrowed in 0 to 8 rounds.
-#[derive(Clone, Copy)]
-pub struct Refining<'a> {
-    pub method: &'a str,
-    pub index: u32,
-    pub local: &'a str,
-    pub rounds: u32,
     pub budget: u32,
 }
 
@@ -69,12 +38,12 @@ pub enum Query<'a> {
     PointsTo(Asked<'a>),
     /// Which sites may a local hold, and what shows of each that it may?
     Explain(Asked<'a>),
-    /// Which sites may two locals both hold?
-    Alias(AskedBoth<'a>),
-    /// Which sites may be at the end of a path of fields from a local?
-    Paths(AskedPath<'a>),
-    /// Which sites may a local hold, where calls have the targets alone that their receivers leave them?
-    Refined(Refining<'a>),
+    /// Which sites may a local and a second one of its method both hold?
+    Alias { asked: Asked<'a>, second: &'a str },
+    /// Which sites may be at the end of a path from a local? The fields are as the word spells them.
+    Paths { asked: Asked<'a>, fields: &'a str },
+    /// Which sites may a local hold, where calls have the targets alone that their receivers leave them? They are narrowed in 0 to 8 rounds.
+    Refined { asked: Asked<'a>, rounds: u32 },
     /// How does a run stand after some steps?
     Run(Running<'a>),
     /// Is the certificate behind the program one, where no more nodes may be demanded?
@@ -100,376 +69,160 @@ const MOST_ROUNDS: u32 = 8;
 /// The most steps of a run.
 const MOST_STEPS: u32 = 1_000_000;
 
-/// The most choices that a word names.
-const MOST_CHOICES: usize = 1000;
-
 /// The most boxes of the demo.
 const MOST_BOXES: u32 = 400;
 
 /// The class that the demo's program begins in.
 const DEMO: &str = "Demo";
 
-/// The number that a word spells, if it is one below 2^32: decimal digits without a sign or a leading zero, as it would be printed.
-pub fn number(alloc: Global, word: &str) -> Result<Option<u32>, NoMemory>
-    ensures some { IfOk result (λ found. IfSome found (λ n. (n < 2 ^ 32) × (word.now ≡ decimal n))) }
-    ensures only { IfOk result (λ found. (n : ℕ) → n < 2 ^ 32 → word.now ≡ decimal n → found ≡ Some n) }
+// BUDGET, behind an entry: `replay` or `batch`.
+fn budget_query(first: &str, budget: u32) -> Result<Query<'static>, NotRead>
+    ensures some { IfOk result (λ q. (entry : List ℕ) → IsQuestion (first.now ∷ entry ∷ decimal budget ∷ []) entry (question_of q)) }
+    ensures none { IfRefused result ((entry : List ℕ) → NoRequest (first.now ∷ entry ∷ decimal budget ∷ [])) }
 {
-    let Ok(number) = word.parse::<u32>() else {
-        return Ok(None);
-    };
-    let printed = format!(in alloc; "{number}")?;
-    if printed.as_str() == word {
-        Ok(Some(number))
-    } else {
-        Ok(None)
+    match first {
+        "replay" => Ok(Query::Replay { budget }),
+        "batch" => Ok(Query::Batch { budget }),
+        _ => Err(NotRead::Refused),
     }
 }
 
-// Whether all characters are decimal digits.
-fn are_digits(characters: &[u8]) -> bool
-    ensures { IsTrue result ↔ All IsAsciiDigit characters.now }
-{
-    characters.iter().all(|c| c.is_ascii_digit())
-}
-
-// The choices that a word names.
-fn choices(word: &str) -> Option<&[u8]>
-    ensures some { IfSome result (λ c. AreChoices word.now c.now) }
-    ensures only { (c : List ℕ) → AreChoices word.now c → IsSomeAnd result (λ found. found.now ≡ c) }
-{
-    let characters = word.as_bytes();
-    if word == "-" {
-        return Some(&characters[1..]);
-    }
-    if characters.is_empty() || characters.len() > MOST_CHOICES || !are_digits(characters) {
-        return None;
-    }
-    Some(characters)
-}
-
-// The `points-to` command with this entry and these words behind it.
-fn points_to<'a>(
+// Two words behind an entry: `run` with STEPS CHOICES, or `typestate` with PROTOCOL BUDGET.
+fn pair_query<'a>(
     alloc: Global,
-    entry: &'a str,
-    words: &'a [String],
-) -> Result<Option<Command<'a>>, NoMemory>
-    ensures some { IfOk result (λ found. IfSome found (λ c.
-        IsRequest (codes "points-to" ∷ entry.now ∷ map string_bytes words.now) (request_of c))) }
-    ensures only { IfOk result (λ found. (r : Request) → IsRequest (codes "points-to" ∷ entry.now ∷ map string_bytes words.now) r
-        → IsSomeAnd found (λ c. request_of c ≡ r)) }
-{
-    let [method, index, local, budget] = words else {
-        return Ok(None);
-    };
-    let Some(index) = number(alloc, index.as_str())? else {
-        return Ok(None);
-    };
-    let Some(budget) = number(alloc, budget.as_str())? else {
-        return Ok(None);
-    };
-    let asked = Asked {
-        method: method.as_str(),
-        index,
-        local: local.as_str(),
-        budget,
-    };
-    Ok(Some(Command {
-        entry,
-        query: Query::PointsTo(asked),
-    }))
-}
-
-// The `explain` command with this entry and these words behind it.
-fn explain<'a>(
-    alloc: Global,
-    entry: &'a str,
-    words: &'a [String],
-) -> Result<Option<Command<'a>>, NoMemory>
-    ensures some { IfOk result (λ found. IfSome found (λ c.
-        IsRequest (codes "explain" ∷ entry.now ∷ map string_bytes words.now) (request_of c))) }
-    ensures only { IfOk result (λ found. (r : Request) → IsRequest (codes "explain" ∷ entry.now ∷ map string_bytes words.now) r
-        → IsSomeAnd found (λ c. request_of c ≡ r)) }
-{
-    let [method, index, local, budget] = words else {
-        return Ok(None);
-    };
-    let Some(index) = number(alloc, index.as_str())? else {
-        return Ok(None);
-    };
-    let Some(budget) = number(alloc, budget.as_str())? else {
-        return Ok(None);
-    };
-    let asked = Asked {
-        method: method.as_str(),
-        index,
-        local: local.as_str(),
-        budget,
-    };
-    Ok(Some(Command {
-        entry,
-        query: Query::Explain(asked),
-    }))
-}
-
-// The `alias` command with this entry and these words behind it.
-fn alias<'a>(
-    alloc: Global,
-    entry: &'a str,
-    words: &'a [String],
-) -> Result<Option<Command<'a>>, NoMemory>
-    ensures some { IfOk result (λ found. IfSome found (λ c.
-        IsRequest (codes "alias" ∷ entry.now ∷ map string_bytes words.now) (request_of c))) }
-    ensures only { IfOk result (λ found. (r : Request) → IsRequest (codes "alias" ∷ entry.now ∷ map string_bytes words.now) r
-        → IsSomeAnd found (λ c. request_of c ≡ r)) }
-{
-    let [method, index, first, second, budget] = words else {
-        return Ok(None);
-    };
-    let Some(index) = number(alloc, index.as_str())? else {
-        return Ok(None);
-    };
-    let Some(budget) = number(alloc, budget.as_str())? else {
-        return Ok(None);
-    };
-    let asked = AskedBoth {
-        method: method.as_str(),
-        index,
-        first: first.as_str(),
-        second: second.as_str(),
-        budget,
-    };
-    Ok(Some(Command {
-        entry,
-        query: Query::Alias(asked),
-    }))
-}
-
-// The `paths` command with this entry and these words behind it.
-fn paths<'a>(
-    alloc: Global,
-    entry: &'a str,
-    words: &'a [String],
-) -> Result<Option<Command<'a>>, NoMemory>
-    ensures some { IfOk result (λ found. IfSome found (λ c.
-        IsRequest (codes "paths" ∷ entry.now ∷ map string_bytes words.now) (request_of c))) }
-    ensures only { IfOk result (λ found. (r : Request) → IsRequest (codes "paths" ∷ entry.now ∷ map string_bytes words.now) r
-        → IsSomeAnd found (λ c. request_of c ≡ r)) }
-{
-    let [method, index, local, fields, budget] = words else {
-        return Ok(None);
-    };
-    let Some(index) = number(alloc, index.as_str())? else {
-        return Ok(None);
-    };
-    let Some(budget) = number(alloc, budget.as_str())? else {
-        return Ok(None);
-    };
-    let fields = fields.as_str();
-    if read_fields(alloc, fields)?.is_none() {
-        return Ok(None);
-    }
-    let asked = AskedPath {
-        method: method.as_str(),
-        index,
-        local: local.as_str(),
-        fields,
-        budget,
-    };
-    Ok(Some(Command {
-        entry,
-        query: Query::Paths(asked),
-    }))
-}
-
-// The `refined` command with this entry and these words behind it.
-fn refined<'a>(
-    alloc: Global,
-    entry: &'a str,
-    words: &'a [String],
-) -> Result<Option<Command<'a>>, NoMemory>
-    ensures some { IfOk result (λ found. IfSome found (λ c.
-        IsRequest (codes "refined" ∷ entry.now ∷ map string_bytes words.now) (request_of c))) }
-    ensures only { IfOk result (λ found. (r : Request) → IsRequest (codes "refined" ∷ entry.now ∷ map string_bytes words.now) r
-        → IsSomeAnd found (λ c. request_of c ≡ r)) }
-{
-    let [method, index, local, rounds, budget] = words else {
-        return Ok(None);
-    };
-    let Some(index) = number(alloc, index.as_str())? else {
-        return Ok(None);
-    };
-    let Some(rounds) = number(alloc, rounds.as_str())? else {
-        return Ok(None);
-    };
-    if rounds > MOST_ROUNDS {
-        return Ok(None);
-    }
-    let Some(budget) = number(alloc, budget.as_str())? else {
-        return Ok(None);
-    };
-    let asked = Refining {
-        method: method.as_str(),
-        index,
-        local: local.as_str(),
-        rounds,
-        budget,
-    };
-    Ok(Some(Command {
-        entry,
-        query: Query::Refined(asked),
-    }))
-}
-
-// The `run` command with this entry and these words behind it.
-fn run<'a>(
-    alloc: Global,
-    entry: &'a str,
-    words: &'a [String],
-) -> Result<Option<Command<'a>>, NoMemory>
-    ensures some { IfOk result (λ found. IfSome found (λ c.
-        IsRequest (codes "run" ∷ entry.now ∷ map string_bytes words.now) (request_of c))) }
-    ensures only { IfOk result (λ found. (r : Request) → IsRequest (codes "run" ∷ entry.now ∷ map string_bytes words.now) r
-        → IsSomeAnd found (λ c. request_of c ≡ r)) }
-{
-    let [steps, word] = words else {
-        return Ok(None);
-    };
-    let Some(steps) = number(alloc, steps.as_str())? else {
-        return Ok(None);
-    };
-    if steps > MOST_STEPS {
-        return Ok(None);
-    }
-    let Some(choices) = choices(word.as_str()) else {
-        return Ok(None);
-    };
-    Ok(Some(Command {
-        entry,
-        query: Query::Run(Running { steps, choices }),
-    }))
-}
-
-// The `replay` command with this entry and these words behind it.
-fn replay<'a>(
-    alloc: Global,
-    entry: &'a str,
-    words: &'a [String],
-) -> Result<Option<Command<'a>>, NoMemory>
-    ensures some { IfOk result (λ found. IfSome found (λ c.
-        IsRequest (codes "replay" ∷ entry.now ∷ map string_bytes words.now) (request_of c))) }
-    ensures only { IfOk result (λ found. (r : Request) → IsRequest (codes "replay" ∷ entry.now ∷ map string_bytes words.now) r
-        → IsSomeAnd found (λ c. request_of c ≡ r)) }
-{
-    let [budget] = words else {
-        return Ok(None);
-    };
-    let Some(budget) = number(alloc, budget.as_str())? else {
-        return Ok(None);
-    };
-    Ok(Some(Command {
-        entry,
-        query: Query::Replay { budget },
-    }))
-}
-
-// The `typestate` command with this entry and these words behind it.
-fn typestate<'a>(
-    alloc: Global,
-    entry: &'a str,
-    words: &'a [String],
-) -> Result<Option<Command<'a>>, NoMemory>
-    ensures some { IfOk result (λ found. IfSome found (λ c.
-        IsRequest (codes "typestate" ∷ entry.now ∷ map string_bytes words.now) (request_of c))) }
-    ensures only { IfOk result (λ found. (r : Request) → IsRequest (codes "typestate" ∷ entry.now ∷ map string_bytes words.now) r
-        → IsSomeAnd found (λ c. request_of c ≡ r)) }
-{
-    let [protocol, budget] = words else {
-        return Ok(None);
-    };
-    let Some(budget) = number(alloc, budget.as_str())? else {
-        return Ok(None);
-    };
-    let protocol = protocol.as_str();
-    Ok(Some(Command {
-        entry,
-        query: Query::Typestate(Tracking { protocol, budget }),
-    }))
-}
-
-// The `batch` command with this entry and these words behind it.
-fn batch<'a>(
-    alloc: Global,
-    entry: &'a str,
-    words: &'a [String],
-) -> Result<Option<Command<'a>>, NoMemory>
-    ensures some { IfOk result (λ found. IfSome found (λ c.
-        IsRequest (codes "batch" ∷ entry.now ∷ map string_bytes words.now) (request_of c))) }
-    ensures only { IfOk result (λ found. (r : Request) → IsRequest (codes "batch" ∷ entry.now ∷ map string_bytes words.now) r
-        → IsSomeAnd found (λ c. request_of c ≡ r)) }
-{
-    let [budget] = words else {
-        return Ok(None);
-    };
-    let Some(budget) = number(alloc, budget.as_str())? else {
-        return Ok(None);
-    };
-    Ok(Some(Command {
-        entry,
-        query: Query::Batch { budget },
-    }))
-}
-
-// The `demo` command with this number and these words behind it.
-fn demo<'a>(
-    alloc: Global,
+    first: &str,
     word: &'a str,
-    words: &'a [String],
-) -> Result<Option<Command<'a>>, NoMemory>
-    ensures some { IfOk result (λ found. IfSome found (λ c.
-        IsRequest (codes "demo" ∷ word.now ∷ map string_bytes words.now) (request_of c))) }
-    ensures only { IfOk result (λ found. (r : Request) → IsRequest (codes "demo" ∷ word.now ∷ map string_bytes words.now) r
-        → IsSomeAnd found (λ c. request_of c ≡ r)) }
+    last: &'a str,
+) -> Result<Query<'a>, NotRead>
+    ensures some { IfOk result (λ q. (entry : List ℕ) → IsQuestion (first.now ∷ entry ∷ word.now ∷ last.now ∷ []) entry (question_of q)) }
+    ensures none { IfRefused result ((entry : List ℕ) → NoRequest (first.now ∷ entry ∷ word.now ∷ last.now ∷ [])) }
 {
-    if !words.is_empty() {
-        return Ok(None);
+    match first {
+        "run" => Ok(Query::Run(Running {
+            steps: number_to(alloc, word, MOST_STEPS)?,
+            choices: choices(last)?,
+        })),
+        "typestate" => Ok(Query::Typestate(Tracking {
+            protocol: word,
+            budget: number_to(alloc, last, u32::MAX)?,
+        })),
+        _ => Err(NotRead::Refused),
     }
-    let Some(boxes) = number(alloc, word)? else {
-        return Ok(None);
-    };
-    if boxes == 0 || boxes > MOST_BOXES {
-        return Ok(None);
-    }
-    Ok(Some(Command {
-        entry: DEMO,
-        query: Query::Demo { boxes },
-    }))
 }
 
-/// The command that the words are, if they are one: `points-to ENTRY METHOD INDEX LOCAL BUDGET`,
-/// `explain ENTRY METHOD INDEX LOCAL BUDGET`, `alias ENTRY METHOD INDEX LOCAL LOCAL BUDGET`, `paths ENTRY METHOD INDEX LOCAL FIELDS BUDGET`,
-/// `refined ENTRY METHOD INDEX LOCAL ROUNDS BUDGET`, `run ENTRY STEPS CHOICES`, `replay ENTRY BUDGET`, `typestate ENTRY PROTOCOL BUDGET`,
-/// `batch ENTRY BUDGET` or `demo BOXES`.
+// METHOD INDEX LOCAL BUDGET, behind an entry: `points-to` or `explain`.
+fn place_query<'a>(first: &str, asked: Asked<'a>) -> Result<Query<'a>, NotRead>
+    ensures some { IfOk result (λ q. (entry : List ℕ) → IsQuestion (first.now ∷ entry ∷ place_words asked.entry []) entry (question_of q)) }
+    ensures none { IfRefused result ((entry : List ℕ) → NoRequest (first.now ∷ entry ∷ place_words asked.entry [])) }
+{
+    match first {
+        "points-to" => Ok(Query::PointsTo(asked)),
+        "explain" => Ok(Query::Explain(asked)),
+        _ => Err(NotRead::Refused),
+    }
+}
+
+// METHOD INDEX LOCAL WORD BUDGET, behind an entry: `alias` with LOCAL for the word, `paths` with FIELDS, or `refined` with ROUNDS.
+fn wider_query<'a>(
+    alloc: Global,
+    first: &str,
+    asked: Asked<'a>,
+    word: &'a str,
+) -> Result<Query<'a>, NotRead>
+    ensures some { IfOk result (λ q. (entry : List ℕ) → IsQuestion (first.now ∷ entry ∷ place_words asked.entry (word.now ∷ [])) entry (question_of q)) }
+    ensures none { IfRefused result ((entry : List ℕ) → NoRequest (first.now ∷ entry ∷ place_words asked.entry (word.now ∷ []))) }
+{
+    match first {
+        "alias" => Ok(Query::Alias {
+            asked,
+            second: word,
+        }),
+        "paths" => Ok(Query::Paths {
+            asked,
+            fields: path(alloc, word)?,
+        }),
+        "refined" => Ok(Query::Refined {
+            asked,
+            rounds: number_to(alloc, word, MOST_ROUNDS)?,
+        }),
+        _ => Err(NotRead::Refused),
+    }
+}
+
+// BOXES without an entry: `demo`.
+fn demo(alloc: Global, first: &str, word: &str) -> Result<Command<'static>, NotRead>
+    ensures some { IfOk result (λ c. IsRequest (first.now ∷ word.now ∷ []) (request_of c)) }
+    ensures none { IfRefused result (NoRequest (first.now ∷ word.now ∷ [])) }
+{
+    if first != "demo" {
+        return Err(NotRead::Refused);
+    }
+    match number_to(alloc, word, MOST_BOXES)? {
+        0 => Err(NotRead::Refused),
+        boxes => Ok(Command {
+            entry: DEMO,
+            query: Query::Demo { boxes },
+        }),
+    }
+}
+
+// What a first word and those behind an entry ask, by how many these are.
+fn query_of<'a>(alloc: Global, first: &str, words: &'a [String]) -> Result<Query<'a>, NotRead>
+    requires { 0 < length words.now }
+    ensures some { IfOk result (λ q. (entry : List ℕ) → IsQuestion (first.now ∷ entry ∷ map string_bytes words.now) entry (question_of q)) }
+    ensures none { IfRefused result ((entry : List ℕ) → NoRequest (first.now ∷ entry ∷ map string_bytes words.now)) }
+{
+    match words {
+        [budget] => budget_query(first, number_to(alloc, budget, u32::MAX)?),
+        [word, last] => pair_query(alloc, first, word, last),
+        [method, index, local, budget] => {
+            place_query(first, asked(alloc, method, index, local, budget)?)
+        }
+        [method, index, local, word, budget] => {
+            let asked = asked(alloc, method, index, local, budget)?;
+            wider_query(alloc, first, asked, word)
+        }
+        _ => Err(NotRead::Refused),
+    }
+}
+
+// The command with this first word, this second one, and these behind them.
+fn read_command<'a>(
+    alloc: Global,
+    first: &str,
+    entry: &'a str,
+    words: &'a [String],
+) -> Result<Command<'a>, NotRead>
+    ensures some { IfOk result (λ c. IsRequest (first.now ∷ entry.now ∷ map string_bytes words.now) (request_of c)) }
+    ensures none { IfRefused result (NoRequest (first.now ∷ entry.now ∷ map string_bytes words.now)) }
+{
+    if words.is_empty() {
+        return demo(alloc, first, entry);
+    }
+    let query = query_of(alloc, first, words)?;
+    Ok(Command { entry, query })
+}
+
+/// The command that the words are, if they are one:
+/// - `points-to ENTRY METHOD INDEX LOCAL BUDGET` and `explain ENTRY METHOD INDEX LOCAL BUDGET`;
+/// - `alias ENTRY METHOD INDEX LOCAL LOCAL BUDGET`, `paths ENTRY METHOD INDEX LOCAL FIELDS BUDGET` and `refined ENTRY METHOD INDEX LOCAL ROUNDS BUDGET`;
+/// - `run ENTRY STEPS CHOICES` and `typestate ENTRY PROTOCOL BUDGET`;
+/// - `replay ENTRY BUDGET` and `batch ENTRY BUDGET`;
+/// - `demo BOXES`, whose entry is its program's class `Demo`.
 ///
-/// INDEX, BUDGET, STEPS, ROUNDS and BOXES are decimal digits without a leading zero, at most 4,294,967,295, STEPS at most 1,000,000, ROUNDS at most 8 and
-/// BOXES from 1 to 400. FIELDS is as for [`read_fields`]. CHOICES is a dash for none, or 1 to 1,000 decimal digits. The other words are any texts. The entry of `demo` is its program's class `Demo`.
+/// INDEX (from 0), BUDGET (of nodes), STEPS, ROUNDS and BOXES are decimal digits without a sign or a leading zero: INDEX and BUDGET at most 4,294,967,295,
+/// STEPS at most 1,000,000, ROUNDS at most 8 and BOXES from 1 to 400. FIELDS is as for [`read_fields`](crate::read_fields). CHOICES is a dash for none, or 1 to 1,000 decimal
+/// digits. The other words are any texts. An error is want of memory alone.
 pub fn read_words(alloc: Global, words: &[String]) -> Result<Option<Command<'_>>, NoMemory>
     ensures some { IfOk result (λ found. IfSome found (λ c. IsRequest (map string_bytes words.now) (request_of c))) }
     ensures only { IfOk result (λ found. (r : Request) → IsRequest (map string_bytes words.now) r → IsSomeAnd found (λ c. request_of c ≡ r)) }
 {
-    let [command, second, rest @ ..] = words else {
+    let [first, second, rest @ ..] = words else {
         return Ok(None);
     };
-    match command.as_str() {
-        "points-to" => points_to(alloc, second.as_str(), rest),
-        "explain" => explain(alloc, second.as_str(), rest),
-        "alias" => alias(alloc, second.as_str(), rest),
-        "paths" => paths(alloc, second.as_str(), rest),
-        "refined" => refined(alloc, second.as_str(), rest),
-        "run" => run(alloc, second.as_str(), rest),
-        "replay" => replay(alloc, second.as_str(), rest),
-        "typestate" => typestate(alloc, second.as_str(), rest),
-        "batch" => batch(alloc, second.as_str(), rest),
-        "demo" => demo(alloc, second.as_str(), rest),
-        _ => Ok(None),
+    match read_command(alloc, first, second, rest) {
+        Ok(command) => Ok(Some(command)),
+        Err(NotRead::Refused) => Ok(None),
+        Err(NotRead::NoMemory) => Err(AllocError),
     }
 }

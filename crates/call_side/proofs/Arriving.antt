@@ -15,6 +15,7 @@ use Rattle.auto_table.proofs.Same.{same_entry, self_entry}
 use Rattle.auto_table.specs.contracts.entry.EntryPartialEq.TheImpl as entry
 use Rattle.lists.specs.Lists.{Adds, Has}
 use Rattle.lists.proofs.Places.{Has-adds_itself, slice_get-added, slice_get-adds, slice_get-append_left, slice_get-below}
+use Rattle.lists.proofs.Joined.{Has-adds}
 use Rattle.post_star.specs.declared.bases.BaseStep.{BaseStep}
 use Rattle.post_star.specs.declared.bases.Start.{Start}
 use Rattle.post_star.specs.Derivations.{any_word, Derives, DerivesAny}
@@ -111,13 +112,6 @@ module _ (t : Cells Reach) where
     (λ own. (record { node = n; weight = weight_at reach_domain t entry n }, is.all n own.0, (refl, own.1))),
   )
 
--- the elements of a list to which one was added
-pub has_added : {X : Type 0} (old new : List X) (x : X) → Adds old x new → (y : X) → Has new y ↔ (Has old y ⊎ (y ≡ x))
-has_added old new x adds y = (
-  (λ has. elim (slice_get-added old new x adds has.0 y has.1) [ inl a ↦ inl (has.0, a) | inr e ↦ inr e ]),
-  (λ h. elim h [ inl a ↦ (a.0, slice_get-adds old new x adds a.0 y a.1) | inr e ↦ subst (Has new) (sym e) (Has-adds_itself old new x adds) ]),
-)
-
 -- and it goes on from the old one
 pub behind_adds : {X : Type 0} (old new : List X) (x : X) → Adds old x new → (behind : List X) × (new ≡ old ++ behind)
 behind_adds old new x (inl h) = ([], h.1 ∙ sym (append-nil old))
@@ -169,7 +163,7 @@ nodes_more row i d first old new below was now n = (
 module _ (t : Cells Reach) where
   -- an entry that leads to a base came in
   pub live_adds : (old new : List Entry) (entry : Entry) → Adds old entry new → GoesDown t old entry → AreLive t old → AreLive t new
-  live_adds old new entry adds down are e has = elim ((has_added old new entry adds e).0 has) [
+  live_adds old new entry adds down are e has = elim ((Has-adds old new entry adds e).0 has) [
     | inl a ↦ are e a
     | inr same ↦ subst (IsLive t) (sym same) (down_live t old entry are down)
   ]
@@ -210,7 +204,7 @@ none_there xs e x has = let low = slice_get-below xs has.0 x has.1 in absurd (om
 
 -- a number came in
 pub inserted : (old new : List ℕ) (x : ℕ) → new ≡ insert_key eqb old x → (y : ℕ) → Has new y ↔ (Has old y ⊎ (y ≡ x))
-inserted old new x e = has_added old new x (subst (Adds old x) (sym e) (Adds-insert_key eqb eqb-true (λ y. eq-eqb y y refl) old x))
+inserted old new x e = Has-adds old new x (subst (Adds old x) (sym e) (Adds-insert_key eqb eqb-true (λ y. eq-eqb y y refl) old x))
 
 -- one more parent isn't there
 pub parents_more : (keys : List Entry) (parents : List (Linked Reach)) (i : ℕ) (d : Linked Reach) (b : Bool) → i < length parents

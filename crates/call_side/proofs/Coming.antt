@@ -2,7 +2,7 @@
 use Rattle.std.proofs.Common.{◌≡◌, ℕ, ◌+◌, ◌⊎◌, ◌↔◌, List, Option, Some, None, slice_get, take, inl, inr, refl, sym, ap, subst}
 use Rattle.auto_table.specs.declared.entry.Entry.{Entry}
 use Rattle.lists.specs.Lists.{Has}
-use Rattle.link_indexes.proofs.Grown.{Has-push, take-next}
+use Rattle.lists.proofs.Places.{Has-push, take-next}
 use Rattle.call_side.specs.declared.origin.Origin.{Origin}
 use Rattle.call_side.specs.declared.pairs.Pair.{Pair}
 use Rattle.call_side.specs.Search.{Asked, Came, IsTrail, MayCome, SpellBoth}

@@ -4,13 +4,13 @@ use Rattle.std.proofs.lemmas.Bool.{cases_lt}
 use Rattle.lists.proofs.Places.{slice_get-below}
 use Rattle.link_rules.specs.declared.code.Code.{Code}
 use Rattle.link_rules.specs.Linked.{LinkedMethod, LinkedProgram}
-use Rattle.link_indexes.proofs.Filed.{AreExactly-push, AreExactly-same}
+use Rattle.lists.proofs.Exactly.{AreExactly-push, AreExactly-same}
 use Rattle.link_sites.specs.declared.place.Place.{Place}
 use Rattle.link_sites.specs.Places.{CodeAt, ComesBefore, HasCode, before}
 use Rattle.call_side.specs.Calls.{AreCallsUpTo, AreTheCalls, IsCall, IsCallPlace}
 
 -- a place by its parts
-place_is : (x : Place) (method index : ℕ) → x.raised ≡ false → x.method ≡ method → x.index ≡ index → x ≡ before method index
+pub place_is : (x : Place) (method index : ℕ) → x.raised ≡ false → x.method ≡ method → x.index ≡ index → x ≡ before method index
 place_is x method index raised m i =
     subst (λ (n : ℕ). x ≡ record { method = n; index = index; raised = false }) m
     (subst (λ (k : ℕ). x ≡ record { method = x.method; index = k; raised = false }) i
@@ -18,7 +18,7 @@ place_is x method index raised m i =
 
 module _ (p : LinkedProgram) (method index : ℕ) where
   -- what comes before the next statement
-  next_before : (y : Place) → ComesBefore y (before method (index + 1)) ↔ (ComesBefore y (before method index) ⊎ ((y.method ≡ method) × (y.index ≡ index)))
+  pub next_before : (y : Place) → ComesBefore y (before method (index + 1)) ↔ (ComesBefore y (before method index) ⊎ ((y.method ≡ method) × (y.index ≡ index)))
   next_before y = (
     (λ h. elim h [
       | inl a ↦ inl (inl a)

@@ -5,6 +5,7 @@ use Rattle.std.proofs.lemmas.Bool.{cases_eq, cases_lt}
 use Rattle.std.proofs.lemmas.List.{get_or-take}
 use Rattle.std.proofs.lemmas.Option.{get_or_from_slice_get, slice_get-get_or}
 use Rattle.lists.proofs.Places.{slice_get-below, slice_get-there}
+use Rattle.lists.proofs.Joined.{AllPairs-at}
 use Rattle.link_sites.specs.declared.place.Place.{Place}
 use Rattle.link_sites.specs.contracts.place.PlacePartialEq.TheImpl as places
 use Rattle.link_sites.specs.Places.{ComesBefore}
@@ -33,14 +34,6 @@ ComesBefore-transitive x y z h k =
       ]
     ]
 
-module _ {X : Type 0} (R : X → X → Type 0) where
-  -- two elements of a list in order
-  pub ordered_at : (xs : List X) (i j : ℕ) (x y : X) → AllPairs R xs → i < j → slice_get xs i ≡ Some x → slice_get xs j ≡ Some y → R x y
-  ordered_at xs i j x y ordered less first second =
-      let lower = get_or_from_slice_get xs i x x first in
-      let upper = get_or_from_slice_get xs j y x second in
-      subst (λ (u : X). R u y) lower (subst (λ (v : X). R (get_or xs i x) v) upper (ordered i j x less (slice_get-below xs j y second)))
-
 module _ {X : Type 0} where
   -- what stands in the front of a list
   pub taken_at : (xs : List X) (j i : ℕ) (x : X) → slice_get (take j xs) i ≡ Some x → (i < j) × (slice_get xs i ≡ Some x)
@@ -57,7 +50,7 @@ ordered_places xs i j x y ordered first second before =
       | inl less ↦ less
       | inr more ↦ elim (cases_eq i j) [
         | inl e ↦ absurd (ComesBefore-irreflexive x (let f : slice_get xs j ≡ Some x = subst (λ (k : ℕ). slice_get xs k ≡ Some x) e first in let same : y ≡ x = cc in subst (λ (u : Place). ComesBefore x u) same before))
-        | inr n ↦ absurd (ComesBefore-irreflexive x (ComesBefore-transitive x y x before (ordered_at ComesBefore xs j i y x ordered (omega arith) second first)))
+        | inr n ↦ absurd (ComesBefore-irreflexive x (ComesBefore-transitive x y x before (AllPairs-at ComesBefore xs j i y x ordered (omega arith) second first)))
       ]
     ]
 
@@ -65,9 +58,9 @@ ordered_places xs i j x y ordered first second before =
 pub ordered_once : (xs : List Place) (i j : ℕ) (x : Place) → AllPairs ComesBefore xs → slice_get xs i ≡ Some x → slice_get xs j ≡ Some x → i ≡ j
 ordered_once xs i j x ordered first second =
     elim (cases_lt i j) [
-      | inl less ↦ absurd (ComesBefore-irreflexive x (ordered_at ComesBefore xs i j x x ordered less first second))
+      | inl less ↦ absurd (ComesBefore-irreflexive x (AllPairs-at ComesBefore xs i j x x ordered less first second))
       | inr more ↦ elim (cases_lt j i) [
-        | inl less ↦ absurd (ComesBefore-irreflexive x (ordered_at ComesBefore xs j i x x ordered less second first))
+        | inl less ↦ absurd (ComesBefore-irreflexive x (AllPairs-at ComesBefore xs j i x x ordered less second first))
         | inr same ↦ omega arith
       ]
     ]
@@ -77,7 +70,7 @@ pub rank_more : (xs : List Place) (middle : ℕ) (m place : Place) → AllPairs 
     → (k : ℕ) (x : Place) → k < middle + 1 → slice_get xs k ≡ Some x → ComesBefore x place
 rank_more xs middle m place ordered there before k x less here =
     elim (cases_lt k middle) [
-      | inl lower ↦ ComesBefore-transitive x m place (ordered_at ComesBefore xs k middle x m ordered lower here there) before
+      | inl lower ↦ ComesBefore-transitive x m place (AllPairs-at ComesBefore xs k middle x m ordered lower here there) before
       | inr more ↦
           let e : k ≡ middle = omega arith in
           let same : slice_get xs middle ≡ Some x = subst (λ (i : ℕ). slice_get xs i ≡ Some x) e here in
@@ -89,7 +82,7 @@ pub rank_less : (xs : List Place) (middle : ℕ) (m place : Place) → AllPairs 
     → (k : ℕ) (x : Place) → middle ≤ k → slice_get xs k ≡ Some x → ComesBefore x place → ⊥
 rank_less xs middle m place ordered there none k x less here before =
     elim (cases_lt middle k) [
-      | inl higher ↦ none (ComesBefore-transitive m x place (ordered_at ComesBefore xs middle k m x ordered higher there here) before)
+      | inl higher ↦ none (ComesBefore-transitive m x place (AllPairs-at ComesBefore xs middle k m x ordered higher there here) before)
       | inr more ↦
           let e : k ≡ middle = omega arith in
           let same : slice_get xs middle ≡ Some x = subst (λ (i : ℕ). slice_get xs i ≡ Some x) e here in
@@ -107,7 +100,7 @@ rank_there xs at mark place ordered within before behind there =
         | inl higher ↦
             let below : mark < length xs = slice_get-below xs mark place there in
             let x = slice_get-there xs at (omega arith) in
-            absurd (behind at x.0 (omega arith) x.1 (ordered_at ComesBefore xs at mark x.0 place ordered higher x.1 there))
+            absurd (behind at x.0 (omega arith) x.1 (AllPairs-at ComesBefore xs at mark x.0 place ordered higher x.1 there))
         | inr same ↦ omega arith
       ]
     ]

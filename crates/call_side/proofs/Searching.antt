@@ -4,8 +4,7 @@ use Rattle.std.proofs.lemmas.Bool.{cases_lt}
 use Rattle.auto_table.specs.declared.entry.Entry.{Entry}
 use Rattle.auto_table.specs.declared.entry.Entry.TheVariants.{Base}
 use Rattle.lists.specs.Lists.{Has}
-use Rattle.lists.proofs.Places.{slice_get-below, slice_get-there}
-use Rattle.link_indexes.proofs.Grown.{Has-push, take-next}
+use Rattle.lists.proofs.Places.{slice_get-below, slice_get-there, Has-push, take-next}
 use Rattle.call_side.specs.declared.origin.Origin.{Origin}
 use Rattle.call_side.specs.declared.pairs.Pair.{Pair}
 use Rattle.call_side.specs.Search.{AreBegun, AreDone, Asked, Came, IsLedOn, IsTrail, MoveBoth, ShareNone, SpellBoth, last_pair}

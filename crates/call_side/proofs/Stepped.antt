@@ -9,15 +9,16 @@ use Rattle.link_indexes.specs.declared.method.Place.{Place as CallPlace}
 use Rattle.link_indexes.specs.Facts.{Calls}
 use Rattle.link_indexes.specs.Rows.{AreThePlaces, Precedes}
 use Rattle.link_indexes.specs.Tables.{IsAt}
-use Rattle.link_indexes.proofs.Filed.{AreExactly-push, AreExactly-same}
-use Rattle.link_indexes.proofs.Grown.{Has-push, take-next}
+use Rattle.lists.proofs.Exactly.{AreExactly-push, AreExactly-same}
+use Rattle.lists.proofs.Places.{Has-push, take-next}
+use Rattle.lists.proofs.Joined.{AllPairs-at}
 use Rattle.link_rules.specs.Accessed.{codes_in}
 use Rattle.link_sites.specs.declared.place.Place.{Place}
 use Rattle.link_sites.specs.Places.{ComesBefore, before}
 use Rattle.post_star.specs.declared.bases.BaseStep.{BaseStep}
 use Rattle.post_star.specs.Derivations.{step_of}
 use Rattle.call_side.specs.Bases.{AreCallSteps, AreStepsUpTo, IsCallStep, IsStepUpTo, PrecedesStep}
-use Rattle.call_side.proofs.Order.{ordered_at, ordered_once, ordered_places, taken_at}
+use Rattle.call_side.proofs.Order.{ordered_once, ordered_places, taken_at}
 use Rattle.call_side.proofs.Targets.{HasTarget-listed, listed-HasTarget, target_below}
 
 -- a caller by its parts
@@ -39,7 +40,7 @@ module _ (p : LinkedProgram) (calls : List Place) (ordered : AllPairs ComesBefor
     earlier : (call : CallPlace) → Has (take j callers) call → Precedes call (call_at method index)
     earlier call has =
         let front = taken_at callers j has.0 call has.1 in
-        ordered_at Precedes callers has.0 j call (call_at method index) are.ordered front.0 front.1 there
+        AllPairs-at Precedes callers has.0 j call (call_at method index) are.ordered front.0 front.1 there
 
     -- the next caller has a mark
     pub steps_more : (mark : ℕ) → slice_get calls mark ≡ Some (before method index) → AreStepsUpTo p calls target (take (j + 1) callers) (steps ++ step_of target mark method ∷ [])

@@ -1,11 +1,10 @@
 -- Call strings as base steps of a pushdown system: a method stands for its call strings, whose words are the numbers of their calls.
 use Rattle.std.specs.Prelude.{◌≡◌, ◌+◌, ◌<◌, ◌⊎◌, ◌↔◌, ℕ, List, Some, length, slice_get}
 use Rattle.std.specs.List.{AllZip}
-use Rattle.lists.specs.Lists.{Has}
+use Rattle.lists.specs.Lists.{Has, AreExactly}
 use Rattle.link_rules.specs.Linked.{LinkedMethod, LinkedProgram}
 use Rattle.link_rules.specs.WellLinked.{HasTarget}
 use Rattle.link_indexes.specs.declared.method.Place.{Place as CallPlace}
-use Rattle.link_indexes.specs.Rows.{AreExactly}
 use Rattle.link_sites.specs.declared.place.Place.{Place}
 use Rattle.link_sites.specs.Places.{before}
 use Rattle.spds_rules.specs.Systems.{IsString}

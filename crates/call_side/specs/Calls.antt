@@ -3,7 +3,7 @@ use Rattle.std.specs.Prelude.{◌≤◌, ◌^◌, ℕ, List, AllPairs, length}
 use Rattle.link_rules.specs.declared.code.Code.{Code}
 use Rattle.link_rules.specs.declared.code.Code.TheVariants.{Call}
 use Rattle.link_rules.specs.Linked.{LinkedProgram}
-use Rattle.link_indexes.specs.Rows.{AreExactly}
+use Rattle.lists.specs.Lists.{AreExactly}
 use Rattle.link_sites.specs.declared.place.Place.{Place}
 use Rattle.link_sites.specs.Places.{ComesBefore, before}
 use Rattle.link_sites.specs.Sites.{IsUnraised}

@@ -7,9 +7,8 @@ ghost use Rattle.call_side.specs.Trails.{AreBackward, AreKept, IsBack};
 
 use super::origin::{Origin, marks_back};
 use indexmap::IndexSet;
-use lists::NoMemory;
+use lists::{ByKey, NoMemory};
 use post_star::BaseStep;
-use post_star::by_key::ByKey;
 use post_star::key::Key;
 use std::alloc::Global;
 
@@ -69,7 +68,7 @@ impl Homes {
 }
 
 // The steps by the base below.
-fn file_below(alloc: Global, steps: &[BaseStep]) -> Result<ByKey<BaseStep>, NoMemory>
+fn file_below(alloc: Global, steps: &[BaseStep]) -> Result<ByKey<Key, BaseStep>, NoMemory>
     ensures { IfOk result (IsFiledBy below_key steps.now) }
 {
     let mut by_below = ByKey::new(alloc);
@@ -98,7 +97,7 @@ fn add_all(homes: &mut Homes, steps: &[BaseStep], number: usize) -> Result<(), N
 }
 
 // Goes on from each base to those above it.
-fn spread(homes: &mut Homes, by_below: &ByKey<BaseStep>) -> Result<(), NoMemory>
+fn spread(homes: &mut Homes, by_below: &ByKey<Key, BaseStep>) -> Result<(), NoMemory>
     ensures kept { OnOk result (AreKept homes.old.bases.keys homes.new.bases.keys) }
     ensures spread { OnOk result ((all : List AStep) → IsFiledBy below_key all by_below.now
         → AreSpread all (length homes.new.bases.keys) homes.new.bases.keys) }

@@ -6,8 +6,7 @@ ghost use Rattle.post_star.specs.Derivations.{Leads, step_of};
 ghost use Rattle.call_side.specs.Indexed.{AreFiled};
 
 use super::homes::{Homes, find_homes};
-use lists::NoMemory;
-use post_star::by_key::ByKey;
+use lists::{ByKey, NoMemory};
 use post_star::key::Key;
 use post_star::{BaseStep, Bases};
 use std::alloc::Global;
@@ -19,9 +18,9 @@ pub struct IndexedBases {
     steps: Vec<BaseStep>,
     last: u32,
     /// By their base.
-    by_base: ByKey<BaseStep>,
+    by_base: ByKey<Key, BaseStep>,
     /// By their base and their mark.
-    by_mark: ByKey<BaseStep>,
+    by_mark: ByKey<Key, BaseStep>,
     homes: Homes,
 }
 
@@ -37,8 +36,8 @@ impl Model for IndexedBases {
 
 // Indexes the steps by their base and by their mark.
 fn add_steps(
-    by_base: &mut ByKey<BaseStep>,
-    by_mark: &mut ByKey<BaseStep>,
+    by_base: &mut ByKey<Key, BaseStep>,
+    by_mark: &mut ByKey<Key, BaseStep>,
     steps: &[BaseStep],
 ) -> Result<(), NoMemory>
     requires { AreFiled [] by_base.old by_mark.old }

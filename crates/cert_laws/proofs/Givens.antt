@@ -3,6 +3,7 @@ use Rattle.std.proofs.Common.{◌≡◌, ℕ, zero, suc, ◌+◌, ◌<◌, ◌�
 use Rattle.std.proofs.Math.Seq.{take-append_seam, take-length}
 use Rattle.std.proofs.lemmas.List.{length-take, take-append-le, take-take}
 use Rattle.lists.proofs.Places.{slice_get-append_left, slice_get-below, slice_get-push, slice_get-pushed, take-next}
+use Rattle.lists.proofs.Joined.{slice_get-taken}
 use Rattle.link_rules.specs.Linked.{LinkedProgram}
 use Rattle.spds_rules.specs.declared.node.Node.{Node}
 use Rattle.cert_rules.specs.declared.fact.Fact.{Fact}
@@ -12,13 +13,6 @@ use Rattle.cert_rules.specs.Certified.{AreGiven, EndsWith}
 use Rattle.cert_rules.specs.Given.{Cites, Facts, Gives, IsHeld, about}
 
 module _ {X : Type 0} where
-  -- an element of a front stands in the list
-  pub slice_get-taken : (k : ℕ) (xs : List X) (i : ℕ) (x : X) → slice_get (take k xs) i ≡ Some x → slice_get xs i ≡ Some x
-  slice_get-taken zero xs i x e = cc
-  slice_get-taken (suc k) [] i x e = cc
-  slice_get-taken (suc k) (y ∷ xs) zero x e = e
-  slice_get-taken (suc k) (y ∷ xs) (suc i) x e = slice_get-taken k xs i x e
-
   -- and within the front
   pub taken_below : (k : ℕ) (xs : List X) (i : ℕ) (x : X) → slice_get (take k xs) i ≡ Some x → i < k
   taken_below zero xs i x e = cc

@@ -1,6 +1,7 @@
 -- What is certified is answered.
 use Rattle.std.proofs.Common.{◌≡◌, ℕ, zero, suc, ◌+◌, ◌<◌, ◌≤◌, List, [], ◌∷◌, Option, Some, take, slice_get, refl, sym, subst, ◌∙◌, arith}
 use Rattle.lists.proofs.Places.{slice_get-below, slice_get-there}
+use Rattle.lists.proofs.Joined.{slice_get-taken}
 use Rattle.link_rules.specs.Linked.{LinkedProgram}
 use Rattle.link_rules.specs.WellLinked.{IsWellLinked}
 use Rattle.link_sites.specs.declared.place.Place.{Place}
@@ -22,7 +23,7 @@ use Rattle.cert_rules.specs.declared.line.Line.TheVariants as line
 use Rattle.cert_rules.specs.declared.line.Side.TheVariants.{Field, Call}
 use Rattle.cert_rules.specs.Certified.{AreGiven, IsCertified}
 use Rattle.cert_rules.specs.Given.{Cites, Facts, Gives, Reads, ReadsOn, about}
-use Rattle.cert_laws.proofs.Givens.{cites_one, claim_held, slice_get-taken, taken_below}
+use Rattle.cert_laws.proofs.Givens.{cites_one, claim_held, taken_below}
 use Rattle.cert_laws.proofs.Means.{Means, MeansAt, Reaches, called_below, kept, popped, reaches_at, reaches_link, returned_base, some_string, stored_below}
 
 -- an element of an option is the one

@@ -1,23 +1,17 @@
 -- Lines with notes on them: what they give, and one line more.
-use Rattle.std.proofs.Common.{◌≡◌, ◌≢◌, ◌↔◌, ◌⊎◌, ◌∙◌, inl, inr, Bool, true, false, not, IsTrue, nat_eq, eqb-true, eq-eqb, ℕ, zero, suc, ◌+◌, ◌≤◌, ◌<◌, ◌^◌, List, [], ◌∷◌, ◌++◌, Option, Some, None, length, map, slice_get, slice_index_or, refl, sym, ap, subst, arith, length-append}
+use Rattle.std.proofs.Common.{length-set, ◌≡◌, ◌≢◌, ◌↔◌, ◌⊎◌, ◌∙◌, inl, inr, Bool, true, false, not, IsTrue, nat_eq, eqb-true, eq-eqb, ℕ, zero, suc, ◌+◌, ◌≤◌, ◌<◌, ◌^◌, List, [], ◌∷◌, ◌++◌, Option, Some, None, length, map, slice_get, slice_index_or, refl, sym, ap, subst, arith, length-append}
 use Rattle.std.specs.List.{slice_set}
 use Rattle.std.proofs.lemmas.Bool.{false≢true}
 use Rattle.std.proofs.lemmas.List.{map-append}
 use Rattle.lists.specs.Lists.{Has}
 use Rattle.lists.proofs.Places.{IsApart-push, slice_get-append_left, slice_get-below, slice_get-push, slice_get-pushed, slice_get-set_other, slice_get-set_same, slice_get-there}
+use Rattle.lists.proofs.Joined.{slice_get-mapped}
 use Rattle.cert_rules.specs.declared.fact.Fact.{Fact}
 use Rattle.cert_rules.specs.declared.line.Line.{Line}
 use Rattle.cert_lines.specs.declared.keys.Known.{Known}
 use Rattle.cert_lines.specs.declared.written.Note.{Note}
 use Rattle.cert_lines.specs.Spread.{known_of}
 use Rattle.cert_lines.specs.Noted.{AreNotes, GivesAt, IsBettered, IsShortestOf, IsThere, Noted, fact_of, length_at, noted_by, noted_fact, with_line}
-use Rattle.cert_lines.proofs.Groups.{length_set}
-
--- an element of a list that each element of another gave
-got_mapped : {X Y : Type 0} (f : X → Y) (xs : List X) (i : ℕ) (y : Y) → slice_get (map f xs) i ≡ Some y → (x : X) × (slice_get xs i ≡ Some x) × (f x ≡ y)
-got_mapped f [] i y h = cc
-got_mapped f (x ∷ xs) zero y h = (x, refl, cc)
-got_mapped f (x ∷ xs) (suc i) y h = got_mapped f xs i y h
 
 map_got : {X Y : Type 0} (f : X → Y) (xs : List X) (i : ℕ) (x : X) → slice_get xs i ≡ Some x → slice_get (map f xs) i ≡ Some (f x)
 map_got f [] i x h = cc
@@ -49,7 +43,7 @@ module _ (lines : List Line) (facts : List Known) (notes : List Note) where
   whole = noted_by lines facts notes
 
   pub gives_note : AreKnown facts → (i : ℕ) (fact : Fact) → GivesAt whole i fact → (n : Note) × (slice_get notes i ≡ Some n) × (slice_get facts n.fact ≡ Some (known_of fact))
-  gives_note are i fact h = let m = got_mapped (noted_fact facts) notes i (Some fact) h in (m.0, m.1, fact_of_some (slice_get facts m.0.fact) fact (are m.0.fact) m.2)
+  gives_note are i fact h = let m = slice_get-mapped (noted_fact facts) notes i (Some fact) h in (m.0, m.1, fact_of_some (slice_get facts m.0.fact) fact (are m.0.fact) m.2)
 
   pub note_gives : (i : ℕ) (n : Note) (fact : Fact) → slice_get notes i ≡ Some n → slice_get facts n.fact ≡ Some (known_of fact) → GivesAt whole i fact
   note_gives i n fact there named = map_got (noted_fact facts) notes i n there ∙ ap (λ k. Some (fact_of k)) named
@@ -120,7 +114,7 @@ module _ (lines : List Line) (facts : List Known) (notes : List Note) where
       pushed_same = record {
         as_many = omega (arith, length-append notes (note ∷ []), length-append lines (line ∷ []), are.as_many);
         few = omega (arith, length-append lines (line ∷ []), few);
-        rows = length_set best number (length lines) ∙ are.rows;
+        rows = length-set best number (length lines) ∙ are.rows;
         apart = are.apart;
         known = are.known;
         named = λ i n h. elim (slice_get-pushed notes note i n h) [

@@ -1,4 +1,3 @@
 pub mod Spread
 pub mod SameKeys
-pub mod Filed
 pub mod Noted

@@ -1,6 +1,6 @@
 //! What facts and lines are looked for by.
 ghost use Rattle.std.specs.Prelude.{◌≡◌};
-ghost use Rattle.cert_lines.specs.Spread.{entry_spread, fact_spread, known_of, mix, place_spread, site_spread, store_spread};
+ghost use Rattle.cert_lines.specs.Spread.{entry_spread, fact_spread, known_of, mix, place_spread, site_spread, spot_spread, store_spread, word_spread};
 
 use cert_rules::{Entry, Fact, Side};
 use link_sites::{Place, Site};
@@ -20,7 +20,7 @@ impl Known {
         ensures { result ≡ known_of fact }
     {
         Known {
-            spread: fact_spread(fact),
+            spread: fact_spread(&fact),
             fact,
         }
     }
@@ -62,36 +62,55 @@ fn place_spread(place: Place) -> u64
     place.method as u64 * 4_294_967_296 + place.index as u64
 }
 
-fn site_spread(site: Site) -> u64
-    ensures { result ≡ site_spread site }
+fn site_spread(site: &Site) -> u64
+    ensures { result ≡ site_spread site.now }
 {
     match site {
-        Site::New(place) => place_spread(place),
-        Site::Nested(place, level) => mix(place_spread(place), level as u64 + 1),
-        Site::Raised(place, kind) => mix(place_spread(place), kind as u64 + 512),
-        Site::Text(number) => mix(1, number as u64),
-        Site::Class(number) => mix(2, number as u64),
+        Site::New(place) => place_spread(*place),
+        Site::Nested(place, level) => mix(place_spread(*place), *level as u64 + 1),
+        Site::Raised(place, kind) => mix(place_spread(*place), *kind as u64 + 512),
+        Site::Text(number) => mix(1, *number as u64),
+        Site::Class(number) => mix(2, *number as u64),
     }
 }
 
-fn entry_spread(entry: Entry) -> u64
-    ensures { result ≡ entry_spread entry }
+fn entry_spread(entry: &Entry) -> u64
+    ensures { result ≡ entry_spread entry.now }
 {
     match entry {
         Entry::Base => 1,
-        Entry::Field { node, field } => mix(node.spread(), field as u64),
-        Entry::Call { node, call } => mix(node.spread(), place_spread(call)),
+        Entry::Field { node, field } => mix(node.spread(), *field as u64),
+        Entry::Call { node, call } => mix(node.spread(), place_spread(*call)),
     }
 }
 
-fn store_spread(store: StoreAt) -> u64
-    ensures { result ≡ store_spread store }
+// Of the words under which objects of the site are.
+fn words_spread(side: Side, site: &Site, entry: &Entry) -> u64
+    ensures { result ≡ word_spread (record { side = side; site = site.now; entry = entry.now }) }
+{
+    let words = mix(site_spread(site), entry_spread(entry));
+    match side {
+        Side::Field => words,
+        Side::Call => mix(words, 1),
+    }
+}
+
+// Of where they are.
+fn at_spread(site: &Site, node: &Node) -> u64
+    ensures { result ≡ spot_spread (record { site = site.now; node = node.now }) }
+{
+    mix(site_spread(site), node.spread())
+}
+
+fn store_spread(store: &StoreAt) -> u64
+    ensures { result ≡ store_spread store.now }
 {
     mix(store.base.spread(), store.arg.spread())
 }
 
-fn fact_spread(fact: Fact) -> u64
-    ensures { result ≡ fact_spread fact }
+// The parts are read where they stand: a fact is large.
+fn fact_spread(fact: &Fact) -> u64
+    ensures { result ≡ fact_spread fact.now }
 {
     match fact {
         Fact::At {
@@ -99,29 +118,19 @@ fn fact_spread(fact: Fact) -> u64
             site,
             entry,
             node,
-        } => mix(Word { side, site, entry }.spread(), node.spread()),
+        } => mix(words_spread(*side, site, entry), node.spread()),
         Fact::Link {
             side,
             site,
             entry,
             below,
-        } => mix(Word { side, site, entry }.spread(), entry_spread(below)),
+        } => mix(words_spread(*side, site, entry), entry_spread(below)),
         Fact::Shared {
             object,
             arg,
             base,
             at,
-        } => {
-            let arg = Spot {
-                site: object,
-                node: arg,
-            };
-            let base = Spot {
-                site: base,
-                node: at,
-            };
-            mix(arg.spread(), base.spread())
-        }
+        } => mix(at_spread(object, arg), at_spread(base, at)),
         Fact::Met {
             object,
             base,
@@ -140,11 +149,7 @@ impl Key for Word {
     ghost spread = { word_spread };
 
     fn spread(self) -> u64 {
-        let word = mix(site_spread(self.site), entry_spread(self.entry));
-        match self.side {
-            Side::Field => word,
-            Side::Call => mix(word, 1),
-        }
+        words_spread(self.side, &self.site, &self.entry)
     }
 
     ghost same = { same_word };
@@ -157,7 +162,7 @@ impl Key for Spot {
     ghost spread = { spot_spread };
 
     fn spread(self) -> u64 {
-        mix(site_spread(self.site), self.node.spread())
+        at_spread(&self.site, &self.node)
     }
 
     ghost same = { same_spot };
@@ -169,7 +174,7 @@ impl Key for Origin {
     ghost spread = { λ o. site_spread o.site };
 
     fn spread(self) -> u64 {
-        site_spread(self.site)
+        site_spread(&self.site)
     }
 
     ghost same = { same_origin };

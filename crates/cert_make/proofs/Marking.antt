@@ -8,7 +8,7 @@ use Rattle.std.proofs.lemmas.Map.Made.{is_member-Decides}
 use Rattle.std.proofs.lemmas.Option.{slice_get-get_or}
 use Rattle.lists.specs.Lists.{Has}
 use Rattle.lists.proofs.Places.{slice_get-below, slice_get-there, slice_get-extensional}
-use Rattle.link_program.proofs.Found.{from_map}
+use Rattle.lists.proofs.Joined.{slice_get-mapped}
 use Rattle.cert_rules.specs.declared.line.Line.{Line}
 use Rattle.cert_make.specs.Needs.{CiteBack, IsNeeded, renumbered}
 use Rattle.cert_make.specs.Numbers.{AreAnew, AreNumbers, up_to}
@@ -96,7 +96,7 @@ module _ (lines : List Line) (claim : Line) (numbers : List ℕ) (back : CiteBac
 
       at : (j : ℕ) (y : Line) → slice_get (map (renumbered (up_to numbers)) (selected marks_for lines)) j ≡ Some y → slice_get found j ≡ Some y
       at j y is =
-          let m = from_map (renumbered (up_to numbers)) (selected marks_for lines) j y is in
+          let m = slice_get-mapped (renumbered (up_to numbers)) (selected marks_for lines) j y is in
           let c = chosen marks_for lines j m.0 m.1 in
           let has = from_mark c.from c.at in
           let place : suc has.0 ≡ suc j = sym (up_to_at numbers are.ascending has.0 (suc c.from) has.1) ∙ is_anew c.from c.at ∙ ap suc (sym c.place) in

@@ -4,7 +4,8 @@ use Rattle.std.proofs.lemmas.List.{length-map, map-append}
 use Rattle.std.proofs.lemmas.List.Elements.{All-cons, All-head, All-map, All-nil, All-push, All-tail}
 use Rattle.lists.specs.Lists.{Has, IsApart}
 use Rattle.lists.proofs.Places.{IsApart-push, slice_get-append_left, slice_get-there}
-use Rattle.link_program.proofs.Found.{at_map, from_map}
+use Rattle.lists.proofs.Joined.{slice_get-mapped}
+use Rattle.link_program.proofs.Found.{at_map}
 use Rattle.link_rules.specs.Linked.{LinkedProgram}
 use Rattle.link_sites.specs.declared.site.Site.{Site}
 use Rattle.spds_rules.specs.declared.node.Node.{Node}
@@ -154,7 +155,7 @@ module _ (lines : List Line) (field call : ℕ) (marks : List Bool) (new : ℕ �
       as_many =
           length-selected marks given ∙ ap (rank marks) are.as_many ∙ sym (length-selected marks lines) ∙ sym (length-map (selected marks lines) (renumbered new));
       each = λ j k there.
-          let m = from_map (renumbered new) (selected marks lines) j k there in
+          let m = slice_get-mapped (renumbered new) (selected marks lines) j k there in
           let c = chosen marks lines j m.0 m.1 in
           let is = are.each c.from m.0 c.there in
           let gives = gives_anew p t (take c.from given) (selected marks (take c.from given)) new m.0 is.fact
@@ -205,7 +206,7 @@ module _ (lines : List Line) (field call : ℕ) (marks : List Bool) (new : ℕ �
     whole = refl;
     needed = λ i less.
         let l = slice_get-there front i less in
-        let m = from_map (renumbered new) (selected marks lines) i l.0 l.1 in
+        let m = slice_get-mapped (renumbered new) (selected marks lines) i l.0 l.1 in
         let c = chosen marks lines i m.0 m.1 in
         subst (λ (k : ℕ). IsNeeded front new_claim k) (anew c.from c.at ∙ ap suc (sym c.place)) (needed_anew (suc c.from) ((needed.exact (suc c.from)).0 c.at));
   }
@@ -221,8 +222,8 @@ module _ (lines : List Line) (field call : ℕ) (marks : List Bool) (new : ℕ �
 
   front_apart : IsApart lines → IsApart front
   front_apart apart i j x p q =
-      let a = from_map (renumbered new) (selected marks lines) i x p in
-      let b = from_map (renumbered new) (selected marks lines) j x q in
+      let a = slice_get-mapped (renumbered new) (selected marks lines) i x p in
+      let b = slice_get-mapped (renumbered new) (selected marks lines) j x q in
       let first = chosen marks lines i a.0 a.1 in
       let second = chosen marks lines j b.0 b.1 in
       let same : a.0 ≡ b.0 = sym (line_taken_back i a.0 first) ∙ ap (renumbered (old_number marks)) (a.2 ∙ sym b.2) ∙ line_taken_back j b.0 second in
@@ -237,7 +238,7 @@ module _ (lines : List Line) (field call : ℕ) (marks : List Bool) (new : ℕ �
 
   claim_alone : Has front new_claim → ⊥
   claim_alone has =
-      let m = from_map (renumbered new) (selected marks lines) has.0 new_claim has.1 in
+      let m = slice_get-mapped (renumbered new) (selected marks lines) has.0 new_claim has.1 in
       let c = chosen marks lines has.0 m.0 m.1 in
       let by_old = renumbered_back new (old_number marks) claim (λ number cites. taken_back number (claimed number cites)) in
       let same : m.0 ≡ claim = sym (line_taken_back has.0 m.0 c) ∙ ap (renumbered (old_number marks)) m.2 ∙ by_old in

@@ -2,7 +2,8 @@
 use Rattle.std.proofs.Common.{◌≡◌, ◌↔◌, ◌⊎◌, ℕ, ◌+◌, ◌≤◌, List, [], ◌∷◌, ◌++◌, Some, false, length, map, slice_get, take, refl, sym, ap, subst, ◌∙◌, inl, inr, arith}
 use Rattle.std.proofs.lemmas.List.{take_all}
 use Rattle.lists.specs.Lists.{Adds, Has, IsApart}
-use Rattle.lists.proofs.Places.{slice_get-append_left, slice_get-push, slice_get-pushed, take-next}
+use Rattle.lists.proofs.Places.{Has-push, slice_get-append_left, slice_get-push, slice_get-pushed, take-next}
+use Rattle.lists.proofs.Joined.{slice_get-taken}
 use Rattle.link_laws.proofs.Lists.{at_map, map_at}
 use Rattle.spds_rules.specs.declared.edge.Edge.{Edge}
 use Rattle.spds_rules.specs.declared.edge.EdgeKind.TheVariants.{Flow}
@@ -14,7 +15,7 @@ use Rattle.cert_replay.specs.declared.edges.Step.{Step}
 use Rattle.cert_replay.specs.declared.edges.Way.{Way}
 use Rattle.cert_replay.specs.declared.edges.Way.TheVariants.{Fields, Calls, Returns, Only}
 use Rattle.cert_replay.specs.Joins.{Goes, HasStep, IsStepAlong, IsStepOf, joined_by}
-use Rattle.cert_laws.proofs.Givens.{slice_get-taken, taken_below}
+use Rattle.cert_laws.proofs.Givens.{taken_below}
 
 -- what stands where no edge does, and where no store does
 abbrev pub no_node : Node
@@ -27,13 +28,6 @@ abbrev pub no_store : StoreAt
 no_store = record { place = record { method = 0; index = 0; raised = false }; field = 0; base = no_node; arg = no_node }
 
 module _ {X : Type 0} where
-  -- what a list has with one element more
-  has_pushed : (xs : List X) (x y : X) → Has (xs ++ x ∷ []) y ↔ (Has xs y ⊎ (y ≡ x))
-  has_pushed xs x y = (
-    λ h. elim (slice_get-pushed xs x h.0 y h.1) [ inl there ↦ inl (h.0, there) | inr last ↦ inr last.1 ],
-    λ h. elim h [ inl there ↦ (there.0, slice_get-append_left xs (x ∷ []) there.0 y there.1) | inr same ↦ (length xs, rw same (slice_get-push xs x)) ],
-  )
-
   -- what a list has, to which an element was added
   pub has_added : (old new : List X) (x : X) → Adds old x new → (y : X) → Has new y ↔ (Has old y ⊎ (y ≡ x))
   has_added old new x adds y = elim adds [
@@ -41,20 +35,20 @@ module _ {X : Type 0} where
       λ h. inl (subst (λ l. Has l y) there.1 h),
       λ h. rw there.1 (elim h [ inl is ↦ is | inr same ↦ rw same there.0 ]),
     )
-    | inr last ↦ subst (λ l. Has l y ↔ (Has old y ⊎ (y ≡ x))) (sym last.1) (has_pushed old x y)
+    | inr last ↦ subst (λ l. Has l y ↔ (Has old y ⊎ (y ≡ x))) (sym last.1) (Has-push old x y)
   ]
 
 -- one edge more
 pub steps_next : (edges : List Edge) (i : ℕ) (edge : Edge) → slice_get edges i ≡ Some edge → (s : Step) → HasStep (take (i + 1) edges) s ↔ (HasStep (take i edges) s ⊎ IsStepAlong edge s)
 steps_next edges i edge there s =
     subst (λ l. HasStep l s ↔ (HasStep (take i edges) s ⊎ IsStepAlong edge s)) (sym (take-next edges i edge there)) (
-      λ h. elim ((has_pushed (take i edges) edge h.0).0 h.1) [
+      λ h. elim ((Has-push (take i edges) edge h.0).0 h.1) [
         | inl before ↦ inl (h.0, before, h.2)
         | inr same ↦ inr (subst (λ e. IsStepAlong e s) same h.2)
       ],
       λ h. elim h [
-        | inl before ↦ (before.0, (has_pushed (take i edges) edge before.0).1 (inl before.1), before.2)
-        | inr along ↦ (edge, (has_pushed (take i edges) edge edge).1 (inr refl), along)
+        | inl before ↦ (before.0, (Has-push (take i edges) edge before.0).1 (inl before.1), before.2)
+        | inr along ↦ (edge, (Has-push (take i edges) edge edge).1 (inr refl), along)
       ],
     )
 

@@ -5,6 +5,8 @@ use Rattle.std.specs.List.{join_with_byte, slice_split}
 use Rattle.std.proofs.lemmas.List.{length-map, take_all}
 use Rattle.std.proofs.lemmas.List.Elements.{All-head, All-nil, All-push, All-tail}
 use Rattle.std.proofs.lemmas.List.Splits.{join_with_byte-slice_split, length-slice_split}
+use Rattle.lists.proofs.Places.{take-next}
+use Rattle.cert_text.proofs.TextLines.{word_at}
 use Rattle.link_laws.proofs.Lists.{at_all, at_map}
 use Rattle.link_sites.specs.declared.place.Place.{Place}
 use Rattle.cert_rules.specs.Spelled.{FitsCall, IsRoomy, call_text}
@@ -12,12 +14,6 @@ use Rattle.cert_text.specs.Words.{AreCalls, AreNumbers, texts, SpellsNumbers, Sp
 use Rattle.cert_text.proofs.LineWords.{calls_cut, numbers_cut}
 use Rattle.cert_text.proofs.NodeWords.{call_cut, none_iff, some_iff}
 use Rattle.cert_text.proofs.Numerals.{number_one}
-
-module _ {X : Type 0} where
-  pub take-next : (xs : List X) (i : ℕ) (x : X) → slice_get xs i ≡ Some x → take (i + 1) xs ≡ take i xs ++ x ∷ []
-  take-next [] i x e = cc
-  take-next (y ∷ xs) zero x e = let same : y ≡ x = cc in ap (λ z. z ∷ []) same
-  take-next (y ∷ xs) (suc i) x e = let count : suc i + 1 ≡ suc (i + 1) = omega arith in ap (λ n. take n (y ∷ xs)) count ∙ ap (λ l. y ∷ l) (take-next xs i x e)
 
 module _ {X : Type 0} (text : X → List ℕ) (Fits : X → Type 0) (one : (x y : X) → Fits x → Fits y → text x ≡ text y → x ≡ y) where
   abbrev AreTexts : List (List ℕ) → List X → Type 0
@@ -64,11 +60,6 @@ module _ {X : Type 0} (text : X → List ℕ) (Fits : X → Type 0) (one : (x y 
 
   abbrev Are : List (List ℕ) → List X → Type 0
   Are words xs = (words ≡ map text xs) × All Fits xs
-
-  word_at : (words : List (Bor (List ℕ))) (i : ℕ) (d : Bor (List ℕ)) → i < length words → slice_get (texts words) i ≡ Some (get_or words i d).now
-  word_at [] i d less = absurd (omega arith)
-  word_at (w ∷ words) zero d less = refl
-  word_at (w ∷ words) (suc i) d less = word_at words i d (omega arith)
 
   -- a word that is none of them
   pub words_none : (words : List (Bor (List ℕ))) (i : ℕ) (d : Bor (List ℕ)) → i < length words → ((x : X) → (None ≡ Some x) ↔ Spells (get_or words i d).now x)

@@ -4,7 +4,8 @@ use Rattle.std.specs.List.{join_with_byte, onto_first, slice_split}
 use Rattle.std.proofs.lemmas.List.{append-nil, length-map, take_rest}
 use Rattle.std.proofs.lemmas.List.Splits.{join_with_byte-slice_split, length-slice_split}
 use Rattle.lists.specs.Lists.{Has, Each}
-use Rattle.lists.proofs.Places.{slice_get-below, slice_get-push, slice_get-append_left, slice_get-pushed, slice_get-there}
+use Rattle.lists.proofs.Places.{slice_get-append_left, slice_get-below, slice_get-push, slice_get-pushed, slice_get-there, take-next}
+use Rattle.lists.proofs.Joined.{last_one}
 use Rattle.link_laws.proofs.Lists.{all_at, at_all, at_map, each_left, each_right, map_at}
 use Rattle.spds_rules.specs.declared.node.Node.{Node}
 use Rattle.cert_rules.specs.declared.certificate.Certificate.{Certificate}
@@ -13,7 +14,6 @@ use Rattle.cert_rules.specs.Spelled.{AreLines, FitsLine, FitsNode, HasLineForm, 
 use Rattle.cert_text.specs.Words.{IsFirstUnread, texts}
 use Rattle.cert_text.specs.Written.{written_lines}
 use Rattle.cert_text.proofs.LineWords.{line_above, target_above}
-use Rattle.cert_text.proofs.ListWords.{take-next}
 use Rattle.cert_text.proofs.NodeWords.{some_one}
 use Rattle.cert_text.proofs.Marks.{above_lacks, split_join, texts_push}
 
@@ -44,20 +44,6 @@ join_ended [] last = refl
 join_ended (x ∷ []) last = sym (append_assoc x (10 ∷ []) last)
 join_ended (x ∷ y ∷ front) last = ap (λ l. x ++ 10 ∷ l) (join_ended (y ∷ front) last) ∙ sym (append_assoc x (10 ∷ ended_lines (y ∷ front)) last)
 
-module _ {X : Type 0} where
-  -- a list has one last element
-  pub snoc_one : (xs ys : List X) (x y : X) → xs ++ x ∷ [] ≡ ys ++ y ∷ [] → (xs ≡ ys) × (x ≡ y)
-  snoc_one [] [] x y e = (refl, cc)
-  snoc_one [] (z ∷ []) x y e = cc
-  snoc_one [] (z ∷ w ∷ ys) x y e = cc
-  snoc_one (z ∷ []) [] x y e = cc
-  snoc_one (z ∷ w ∷ xs) [] x y e = cc
-  snoc_one (z ∷ xs) (w ∷ ys) x y e =
-      let first : z ≡ w = cc in
-      let rest : xs ++ x ∷ [] ≡ ys ++ y ∷ [] = cc in
-      let more = snoc_one xs ys x y rest in
-      (cc (first, more.0), more.1)
-
 -- these are the parts of the text
 split_ended : (front : List (List ℕ)) (last : List ℕ) → ((l : List ℕ) → Has (front ++ last ∷ []) l → Has l 10 → ⊥) → slice_split (λ b. b == 10) (ended_lines front ++ last) ≡ front ++ last ∷ []
 split_ended front last lacks =
@@ -85,13 +71,13 @@ lines_one bytes a b p q = by p.ended q.ended
     by : ((bytes ≡ ended_lines a) ⊎ ((front : List (List ℕ)) × (byte : ℕ) × (rest : List ℕ) × (a ≡ front ++ (byte ∷ rest) ∷ []) × (bytes ≡ ended_lines front ++ byte ∷ rest)))
         → ((bytes ≡ ended_lines b) ⊎ ((front : List (List ℕ)) × (byte : ℕ) × (rest : List ℕ) × (b ≡ front ++ (byte ∷ rest) ∷ []) × (bytes ≡ ended_lines front ++ byte ∷ rest)))
         → a ≡ b
-    by (inl e) (inl f) = (snoc_one a b [] [] (sym (whole a p e) ∙ whole b q f)).0
+    by (inl e) (inl f) = (last_one a b [] [] (sym (whole a p e) ∙ whole b q f)).0
     by (inl e) (inr f) =
-        let same = snoc_one a f.0 [] (f.1 ∷ f.2) (sym (whole a p e) ∙ open_ended b f.0 f.1 f.2 q f.3 f.4 ∙ f.3) in
+        let same = last_one a f.0 [] (f.1 ∷ f.2) (sym (whole a p e) ∙ open_ended b f.0 f.1 f.2 q f.3 f.4 ∙ f.3) in
         let never : [] ≡ f.1 ∷ f.2 = same.1 in
         cc
     by (inr e) (inl f) =
-        let same = snoc_one b e.0 [] (e.1 ∷ e.2) (sym (whole b q f) ∙ open_ended a e.0 e.1 e.2 p e.3 e.4 ∙ e.3) in
+        let same = last_one b e.0 [] (e.1 ∷ e.2) (sym (whole b q f) ∙ open_ended a e.0 e.1 e.2 p e.3 e.4 ∙ e.3) in
         let never : [] ≡ e.1 ∷ e.2 = same.1 in
         cc
     by (inr e) (inr f) = sym (open_ended a e.0 e.1 e.2 p e.3 e.4) ∙ open_ended b f.0 f.1 f.2 q f.3 f.4
@@ -209,7 +195,7 @@ written_spells bytes c is target lines = record {
         let at = at_map line_text c.lines i l e in
         λ h. above_lacks 31 10 (line_text at.0) (line_above at.0 (at_all FitsLine c.lines i at.0 lines at.1)) (omega arith) (subst (λ k. Has k 10) at.2 h)
 
-word_at : (words : List (Bor (List ℕ))) (i : ℕ) (d : Bor (List ℕ)) → i < length words → slice_get (texts words) i ≡ Some (get_or words i d).now
+pub word_at : (words : List (Bor (List ℕ))) (i : ℕ) (d : Bor (List ℕ)) → i < length words → slice_get (texts words) i ≡ Some (get_or words i d).now
 word_at [] i d less = absurd (omega arith)
 word_at (w ∷ words) zero d less = refl
 word_at (w ∷ words) (suc i) d less = word_at words i d (omega arith)

@@ -12,11 +12,11 @@ ghost use Rattle.cert_work.specs.Wants.{IsWider};
 ghost use Rattle.cert_trace.specs.Settled.{IsBackFiled, IsSettled, IsStoreFiled};
 
 use super::pairing::Pairing;
-use cert_lines::{Files, Origin};
+use cert_lines::Origin;
 use cert_work::Wants;
 use demand_set::Demand;
 use link_sites::Site;
-use lists::NoMemory;
+use lists::{ByKey, NoMemory};
 use spds_rules::{Edge, Node, StoreAt};
 use spds_solve::Met;
 use std::alloc::Global;
@@ -24,15 +24,15 @@ use std::alloc::Global;
 /// Where edges come from, by where they lead, and stores, by an object and one that it may be stored into.
 #[derive(Drop)]
 pub(crate) struct Grounds {
-    pub(crate) back: Files<Node, Node>,
-    pub(crate) stores: Files<Pairing, StoreAt>,
+    pub(crate) back: ByKey<Node, Node>,
+    pub(crate) stores: ByKey<Pairing, StoreAt>,
 }
 
 /// Where the edges come from, by where they lead.
-pub(crate) fn file_back(alloc: Global, edges: &[Edge]) -> Result<Files<Node, Node>, NoMemory>
+pub(crate) fn file_back(alloc: Global, edges: &[Edge]) -> Result<ByKey<Node, Node>, NoMemory>
     ensures { IfOk result (λ files. (e : AnyEdge) → Has edges.now e → IsBackFiled files e) }
 {
-    let mut files = Files::new(alloc);
+    let mut files = ByKey::new(alloc);
     for edge in edges {
         files.add(edge.to, edge.from)?;
     }
@@ -42,7 +42,7 @@ pub(crate) fn file_back(alloc: Global, edges: &[Edge]) -> Result<Files<Node, Nod
 // Where the object is followed everywhere, the other is followed at the store. Else the store is filed.
 fn file_met(
     wants: &mut Wants,
-    stores: &mut Files<Pairing, StoreAt>,
+    stores: &mut ByKey<Pairing, StoreAt>,
     pairing: Pairing,
     store: StoreAt,
 ) -> Result<(), NoMemory>
@@ -65,7 +65,7 @@ fn file_met(
 fn file_next(
     demand: &Demand,
     wants: &mut Wants,
-    stores: &mut Files<Pairing, StoreAt>,
+    stores: &mut ByKey<Pairing, StoreAt>,
     met: &Met,
 ) -> Result<(), NoMemory>
     requires { (o : AnySite) × (base : AnySite) × (s : AnyStore) × StandsForMeet demand.now met.now o base s }
@@ -88,12 +88,12 @@ pub(crate) fn file_mets(
     demand: &Demand,
     mets: &[Met],
     wants: &mut Wants,
-) -> Result<Files<Pairing, StoreAt>, NoMemory>
+) -> Result<ByKey<Pairing, StoreAt>, NoMemory>
     requires { (p : LinkedProgram) × (q : Asked) × AreMeets p q demand.now mets.now }
     ensures settled { IfOk result (λ stores. (o base : AnySite) (s : AnyStore) → IsListed demand.now mets.now o base s → IsSettled wants.new stores o base s) }
     ensures wider { OnOk result (IsWider wants.old wants.new) }
 {
-    let mut stores = Files::new(alloc);
+    let mut stores = ByKey::new(alloc);
     for met in mets {
         file_next(demand, wants, &mut stores, met)?;
     }

@@ -14,9 +14,10 @@ use Rattle.cert_lines.specs.declared.keys.Word.{Word}
 use Rattle.cert_lines.specs.Noted.{Noted}
 use Rattle.cert_work.specs.Added.{AreAdded}
 use Rattle.cert_work.specs.declared.wants.Wants.{Wants}
-use Rattle.cert_work.specs.Rules.{AreWorked, IsAlong, IsFollowed, IsPopped, IsPut}
+use Rattle.cert_work.specs.Rules.{AreWorked, AreWorkedIfBest, IsAlongIfBest, IsFollowed, IsPoppedIfBest, IsPutIfBest}
 use Rattle.cert_work.specs.Work.{IsAt, IsBelow, IsStored, IsTaker}
 use Rattle.cert_work.proofs.Growing.{along_more, cites_kept, popped_more, put_more}
+use Rattle.cert_work.proofs.Bettering.{along_best_more, popped_best_more, put_best_more}
 
 pub le_next : (i done num : ℕ) → num ≡ done + 1 → i ≤ num → (i ≤ done) ⊎ (i ≡ num)
 le_next zero done num e low = inl (omega arith)
@@ -84,27 +85,36 @@ module _ (w : Noted) (num : ℕ) (fact : Fact) (cites : Cites w.given num fact) 
   pub no_stored : tag fact ≢ 2 → (k : Spot) → IsStored w k num → ⊥
   no_stored other k is = other (other_kind w.given num fact cites _ is.3)
 
-  pub not_along : tag fact ≢ 0 → (e : Edge) → IsAlong w num e
+  pub not_along : tag fact ≢ 0 → (e : Edge) → IsAlongIfBest w num e
   not_along other e side o x at = absurd (other (other_kind w.given num fact cites _ at))
 
-  pub not_popped : tag fact ≢ 0 → (link : ℕ) (e : Edge) → IsPopped w num link e
+  pub not_popped : tag fact ≢ 0 → (link : ℕ) (e : Edge) → IsPoppedIfBest w num link e
   not_popped other link e side o x below at links takes = absurd (other (other_kind w.given num fact cites _ at))
 
-  pub not_linked : tag fact ≢ 1 → (i : ℕ) (e : Edge) → IsPopped w i num e
+  pub not_linked : tag fact ≢ 1 → (i : ℕ) (e : Edge) → IsPoppedIfBest w i num e
   not_linked other i e side o x below at links takes = absurd (other (other_kind w.given num fact cites _ links))
 
-  pub not_put : tag fact ≢ 0 → (met : ℕ) (base : Site) (n : Node) → IsPut w num met base n
+  pub not_put : tag fact ≢ 0 → (met : ℕ) (base : Site) (n : Node) → IsPutIfBest w num met base n
   not_put other met base n side o x s at meets = absurd (other (other_kind w.given num fact cites _ at))
 
-  pub not_met : tag fact ≢ 2 → (i : ℕ) (base : Site) (n : Node) → IsPut w i num base n
+  pub not_met : tag fact ≢ 2 → (i : ℕ) (base : Site) (n : Node) → IsPutIfBest w i num base n
   not_met other i base n side o x s at meets = absurd (other (other_kind w.given num fact cites _ meets))
 
 module _ (p : LinkedProgram) (t : Node) (wants : Wants) where
   followed_less : {old new : Noted} → AreAdded p t old new → (i : ℕ) → IsFollowed wants new i → IsFollowed wants old i
   followed_less added i is side o x n cites = is side o x n (cites_kept p t added i _ cites)
 
-  pub worked_more : {old new : Noted} → AreAdded p t old new → (done : ℕ) → done ≤ length old.given → AreWorked p t wants old done → AreWorked p t wants new done
+  pub worked_more : {old new : Noted} → AreAdded p t old new → (done : ℕ) → done ≤ length old.given → AreWorkedIfBest p t wants old done → AreWorkedIfBest p t wants new done
   worked_more added done within worked = record {
+    along = λ i e low is edge. along_best_more p t added i e (omega arith) (worked.along i e low (followed_less added i is) edge);
+    popped = λ i link e low under is edge.
+        popped_best_more p t added i link e (omega arith) (omega arith) (worked.popped i link e low under (followed_less added i is) edge);
+    put = λ i met base n low under is start.
+        put_best_more p t added i met base n (omega arith) (omega arith) (worked.put i met base n low under (followed_less added i is) start);
+  }
+
+  pub worked_kept : {old new : Noted} → AreAdded p t old new → (done : ℕ) → done ≤ length old.given → AreWorked p t wants old done → AreWorked p t wants new done
+  worked_kept added done within worked = record {
     along = λ i e low is edge. along_more p t added i e (omega arith) (worked.along i e low (followed_less added i is) edge);
     popped = λ i link e low under is edge.
         popped_more p t added i link e (omega arith) (omega arith) (worked.popped i link e low under (followed_less added i is) edge);
@@ -114,30 +124,30 @@ module _ (p : LinkedProgram) (t : Node) (wants : Wants) where
 
   -- what is to be known of one line more
   pub record IsWorkedOne (w : Noted) (done num : ℕ) : Type 0 where
-    pub along : IsFollowed wants w num → (e : Edge) → EdgeIn p (about t) e.from e.kind e.to → IsAlong w num e
-    pub popped : IsFollowed wants w num → (link : ℕ) (e : Edge) → link ≤ num → EdgeIn p (about t) e.from e.kind e.to → IsPopped w num link e
-    pub linked : (i : ℕ) (e : Edge) → i ≤ done → IsFollowed wants w i → EdgeIn p (about t) e.from e.kind e.to → IsPopped w i num e
-    pub put : IsFollowed wants w num → (met : ℕ) (base : Site) (n : Node) → met ≤ num → StartIn p (about t) base n → IsPut w num met base n
-    pub met : (i : ℕ) (base : Site) (n : Node) → i ≤ done → IsFollowed wants w i → StartIn p (about t) base n → IsPut w i num base n
+    pub along : IsFollowed wants w num → (e : Edge) → EdgeIn p (about t) e.from e.kind e.to → IsAlongIfBest w num e
+    pub popped : IsFollowed wants w num → (link : ℕ) (e : Edge) → link ≤ num → EdgeIn p (about t) e.from e.kind e.to → IsPoppedIfBest w num link e
+    pub linked : (i : ℕ) (e : Edge) → i ≤ done → IsFollowed wants w i → EdgeIn p (about t) e.from e.kind e.to → IsPoppedIfBest w i num e
+    pub put : IsFollowed wants w num → (met : ℕ) (base : Site) (n : Node) → met ≤ num → StartIn p (about t) base n → IsPutIfBest w num met base n
+    pub met : (i : ℕ) (base : Site) (n : Node) → i ≤ done → IsFollowed wants w i → StartIn p (about t) base n → IsPutIfBest w i num base n
 
-  pub worked_next : (w : Noted) (done num : ℕ) → num ≡ done + 1 → AreWorked p t wants w done → IsWorkedOne w done num → AreWorked p t wants w num
+  pub worked_next : (w : Noted) (done num : ℕ) → num ≡ done + 1 → AreWorkedIfBest p t wants w done → IsWorkedOne w done num → AreWorkedIfBest p t wants w num
   worked_next w done num next worked one = record {
     along = λ i e low is edge. elim (le_next i done num next low) [
       | inl before ↦ worked.along i e before is edge
-      | inr same ↦ subst (λ (k : ℕ). IsAlong w k e) (sym same) (one.along (subst (IsFollowed wants w) same is) e edge)
+      | inr same ↦ subst (λ (k : ℕ). IsAlongIfBest w k e) (sym same) (one.along (subst (IsFollowed wants w) same is) e edge)
     ];
     popped = λ i link e low under is edge. elim (le_next i done num next low) [
       | inl before ↦ elim (le_next link done num next under) [
         | inl behind ↦ worked.popped i link e before behind is edge
-        | inr same ↦ subst (λ (k : ℕ). IsPopped w i k e) (sym same) (one.linked i e before is edge)
+        | inr same ↦ subst (λ (k : ℕ). IsPoppedIfBest w i k e) (sym same) (one.linked i e before is edge)
       ]
-      | inr same ↦ subst (λ (k : ℕ). IsPopped w k link e) (sym same) (one.popped (subst (IsFollowed wants w) same is) link e under edge)
+      | inr same ↦ subst (λ (k : ℕ). IsPoppedIfBest w k link e) (sym same) (one.popped (subst (IsFollowed wants w) same is) link e under edge)
     ];
     put = λ i met base n low under is start. elim (le_next i done num next low) [
       | inl before ↦ elim (le_next met done num next under) [
         | inl behind ↦ worked.put i met base n before behind is start
-        | inr same ↦ subst (λ (k : ℕ). IsPut w i k base n) (sym same) (one.met i base n before is start)
+        | inr same ↦ subst (λ (k : ℕ). IsPutIfBest w i k base n) (sym same) (one.met i base n before is start)
       ]
-      | inr same ↦ subst (λ (k : ℕ). IsPut w k met base n) (sym same) (one.put (subst (IsFollowed wants w) same is) met base n under start)
+      | inr same ↦ subst (λ (k : ℕ). IsPutIfBest w k met base n) (sym same) (one.put (subst (IsFollowed wants w) same is) met base n under start)
     ];
   }

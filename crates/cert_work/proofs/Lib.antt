@@ -1,3 +1,4 @@
+mod Bettering
 mod Pushed
 pub mod Growing
 mod Giving

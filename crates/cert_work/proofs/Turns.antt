@@ -25,10 +25,10 @@ use Rattle.cert_work.specs.declared.work.Work.{Work}
 use Rattle.cert_work.specs.Added.{AreAdded}
 use Rattle.cert_work.specs.Held.{IsHeld}
 use Rattle.cert_work.specs.Roads.{IsEnd}
-use Rattle.cert_work.specs.Rules.{AreWorked, IsAlong, IsFollowed, IsPopped, IsPut}
+use Rattle.cert_work.specs.Rules.{AreWorked, AreWorkedIfBest, IsAlongIfBest, IsFollowed, IsPoppedIfBest, IsPutIfBest}
 use Rattle.cert_work.specs.Wants.{IsWanted}
-use Rattle.cert_work.specs.Work.{AreStored, HasWord, IsAt, IsAtEnd, IsBelow, IsStored, IsTaker, IsWork, spot_of, word_of}
-use Rattle.cert_work.proofs.Filing.{filed_if, filed_next, filed_same, le_next, no_at, no_below, no_stored, no_taker, not_along, not_linked, not_met, not_popped, not_put, worked_more, worked_next}
+use Rattle.cert_work.specs.Work.{AreStored, HasWord, IsAt, IsAtEnd, IsBelow, IsStored, IsTaker, IsWork, IsWorking, spot_of, word_of}
+use Rattle.cert_work.proofs.Filing.{filed_if, filed_next, filed_same, le_next, no_at, no_below, no_stored, no_taker, not_along, not_linked, not_met, not_popped, not_put, worked_kept, worked_more, worked_next}
 use Rattle.cert_work.proofs.Growing.{many_more, second}
 use Rattle.cert_work.proofs.Stored.{stored_end, stored_more, stored_none}
 use Rattle.cert_work.proofs.Working.{at_end_kept, at_end_less, at_less, below_kept, below_less, stored_kept, stored_less, taker_kept, taker_less}
@@ -47,9 +47,9 @@ abbrev pub SpotAddedIf : Type 0 → Grouped Spot ℕ → Spot → ℕ → Groupe
 SpotAddedIf E old key num new =
     (k : Spot) (i : ℕ) → Has (found_at spot.eq-value.it new k) i ↔ (Has (found_at spot.eq-value.it old k) i ⊎ (E × (k ≡ key) × (i ≡ num)))
 
-module _ (p : LinkedProgram) (t : Node) (wants : Wants) (old : Work) (is : IsWork p t wants old) (new : Noted) (added : AreAdded p t old.written new) (num : ℕ) (e : num ≡ old.done + 1)
+module _ (p : LinkedProgram) (t : Node) (wants : Wants) (old : Work) (is : IsWorking p t wants old) (new : Noted) (added : AreAdded p t old.written new) (num : ℕ) (e : num ≡ old.done + 1)
     (low : num ≤ length new.given) where
-  was : AreWorked p t wants new old.done
+  was : AreWorkedIfBest p t wants new old.done
   was = worked_more p t wants added old.done is.within is.worked
 
   stored_now : AreStored p t new
@@ -134,7 +134,7 @@ module _ (p : LinkedProgram) (t : Node) (wants : Wants) (old : Work) (is : IsWor
 
     -- so it goes on by no letter that is taken off
     pub popped_other : ((f : Edge) → EdgeIn p (about t) f.from f.kind f.to → f.from ≡ h.node → Takes h.side h.entry f.kind → ⊥) → (i : ℕ) (f : Edge)
-        → EdgeIn p (about t) f.from f.kind f.to → IsPopped new num i f
+        → EdgeIn p (about t) f.from f.kind f.to → IsPoppedIfBest new num i f
     popped_other none i f edge side o x below at links takes =
         let same = cites_one new.given num (At side o x f.from) (At h.side h.site h.entry h.node) at here in
         let s : side ≡ h.side = cc in
@@ -158,10 +158,10 @@ module _ (p : LinkedProgram) (t : Node) (wants : Wants) (old : Work) (is : IsWor
 
     pub turn_at : {E : Type 0} → (E ↔ IsEnd p t h.node) → (takers : Grouped Word ℕ) (spots : Grouped Spot ℕ) → AreTakers num takers
         → SpotAddedIf E old.spots place num spots
-        → (IsWanted wants h.site h.node → (f : Edge) → EdgeIn p (about t) f.from f.kind f.to → IsAlong new num f)
-        → (IsWanted wants h.site h.node → (i : ℕ) → Has (found_at word.eq-value.it old.links key) i → (f : Edge) → EdgeIn p (about t) f.from f.kind f.to → IsPopped new num i f)
-        → (IsWanted wants h.site h.node → (i : ℕ) → Has (found_at spot.eq-value.it old.mets place) i → (base : Site) (n : Node) → StartIn p (about t) base n → IsPut new num i base n)
-        → IsWork p t wants (record { written = new; done = num; takers = takers; links = old.links; spots = spots; mets = old.mets })
+        → (IsWanted wants h.site h.node → (f : Edge) → EdgeIn p (about t) f.from f.kind f.to → IsAlongIfBest new num f)
+        → (IsWanted wants h.site h.node → (i : ℕ) → Has (found_at word.eq-value.it old.links key) i → (f : Edge) → EdgeIn p (about t) f.from f.kind f.to → IsPoppedIfBest new num i f)
+        → (IsWanted wants h.site h.node → (i : ℕ) → Has (found_at spot.eq-value.it old.mets place) i → (base : Site) (n : Node) → StartIn p (about t) base n → IsPutIfBest new num i base n)
+        → IsWorking p t wants (record { written = new; done = num; takers = takers; links = old.links; spots = spots; mets = old.mets })
     turn_at end takers spots words places along popped put = record {
       within = low;
       filed = record {
@@ -197,8 +197,8 @@ module _ (p : LinkedProgram) (t : Node) (wants : Wants) (old : Work) (is : IsWor
     }
 
   pub turn_link : (key : Word) (below : Entry) → Cites new.given num (Link key.side key.site key.entry below) → (links : Grouped Word ℕ) → WordAdded old.links key num links
-      → ((i : ℕ) → Has (found_at word.eq-value.it old.takers key) i → (f : Edge) → EdgeIn p (about t) f.from f.kind f.to → IsPopped new i num f)
-      → IsWork p t wants (record { written = new; done = num; takers = old.takers; links = links; spots = old.spots; mets = old.mets })
+      → ((i : ℕ) → Has (found_at word.eq-value.it old.takers key) i → (f : Edge) → EdgeIn p (about t) f.from f.kind f.to → IsPoppedIfBest new i num f)
+      → IsWorking p t wants (record { written = new; done = num; takers = old.takers; links = links; spots = old.spots; mets = old.mets })
   turn_link key below here links words popped = record {
     within = low;
     takers = takers_same (no_taker new num _ here p t wants (λ g. omega (arith, g)));
@@ -234,8 +234,8 @@ module _ (p : LinkedProgram) (t : Node) (wants : Wants) (old : Work) (is : IsWor
 
   pub turn_met : (key : Spot) (base : Site) (store : StoreAt) → store.arg ≡ key.node → Cites new.given num (Met key.site base store) → (mets : Grouped Spot ℕ)
       → SpotAdded old.mets key num mets
-      → ((i : ℕ) → Has (found_at spot.eq-value.it old.spots key) i → (b : Site) (n : Node) → StartIn p (about t) b n → IsPut new i num b n)
-      → IsWork p t wants (record { written = new; done = num; takers = old.takers; links = old.links; spots = old.spots; mets = mets })
+      → ((i : ℕ) → Has (found_at spot.eq-value.it old.spots key) i → (b : Site) (n : Node) → StartIn p (about t) b n → IsPutIfBest new i num b n)
+      → IsWorking p t wants (record { written = new; done = num; takers = old.takers; links = old.links; spots = old.spots; mets = mets })
   turn_met key base store arg here mets places put = record {
     within = low;
     takers = takers_same (no_taker new num _ here p t wants (λ g. omega (arith, g)));
@@ -269,7 +269,7 @@ module _ (p : LinkedProgram) (t : Node) (wants : Wants) (old : Work) (is : IsWor
           let n : k.node ≡ key.node = sym has.2 ∙ ap (λ (y : StoreAt). y.arg) s ∙ arg in λ j. record { site = o j; node = n j }
 
   pub turn_shared : (o base : Site) (arg at : Node) → Cites new.given num (Shared o arg base at)
-      → IsWork p t wants (record { written = new; done = num; takers = old.takers; links = old.links; spots = old.spots; mets = old.mets })
+      → IsWorking p t wants (record { written = new; done = num; takers = old.takers; links = old.links; spots = old.spots; mets = old.mets })
   turn_shared o base arg at here = record {
     within = low;
     takers = takers_same (no_taker new num _ here p t wants (λ g. omega (arith, g)));
@@ -347,5 +347,5 @@ work_more p t wants k is new added = record {
     (λ has. let at = (is.takers x i).0 has in (at.0, taker_kept p t added wants x i (second at))),
     (λ at. (is.takers x i).1 (at.0, taker_less p t added wants x i (omega (arith, at.0, is.within)) (second at))),
   );
-  worked = worked_more p t wants added k.done is.within is.worked;
+  worked = worked_kept p t wants added k.done is.within is.worked;
 }

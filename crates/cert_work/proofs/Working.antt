@@ -1,5 +1,5 @@
 -- What the rules give of two lines, said of their numbers.
-use Rattle.std.proofs.Common.{◌≡◌, ℕ, zero, suc, ◌+◌, ◌-◌, ◌≤◌, Some, length, slice_get, sym, ap, subst, arith}
+use Rattle.std.proofs.Common.{◌≡◌, ℕ, zero, suc, ◌+◌, ◌-◌, ◌≤◌, Some, length, slice_get, sym, ap, subst, arith, ◌<◌}
 use Rattle.lists.proofs.Places.{slice_get-below}
 use Rattle.link_rules.specs.Linked.{LinkedProgram}
 use Rattle.link_sites.specs.declared.site.Site.{Site}
@@ -29,6 +29,10 @@ use Rattle.cert_work.specs.Rules.{GoesInto, GoesOn, IsAlong, IsPopped, IsPut, on
 pub cites_low : (given : Facts) (n : ℕ) (f : Fact) → Cites given n f → n ≤ length given
 cites_low given zero f cites = absurd cites
 cites_low given (suc n) f cites = omega (arith, slice_get-below given n (Some f) cites)
+
+pub cites_above : (given : Facts) (n : ℕ) (f : Fact) → Cites given n f → 0 < n
+cites_above given zero f cites = absurd cites
+cites_above given (suc n) f cites = omega arith
 
 -- the line before the number gives what is cited
 pub cites_from : (given : Facts) (n : ℕ) (f : Fact) → Cites given n f → slice_get given (n - 1) ≡ Some (Some f)

@@ -1,5 +1,5 @@
 -- What the rules give over facts that lines gave, rule by rule: it is there, and no longer than this.
-use Rattle.std.specs.Prelude.{◌≡◌, ◌≤◌, ◌+◌, ℕ}
+use Rattle.std.specs.Prelude.{◌≡◌, ◌≤◌, ◌+◌, ◌⊎◌, ℕ, zero, suc}
 use Rattle.link_rules.specs.Linked.{LinkedProgram}
 use Rattle.link_sites.specs.declared.site.Site.{Site}
 use Rattle.spds_rules.specs.declared.edge.Edge.{Edge}
@@ -16,7 +16,7 @@ use Rattle.cert_rules.specs.declared.line.Side.{Side}
 use Rattle.cert_rules.specs.declared.line.Side.TheVariants.{Field, Call}
 use Rattle.cert_rules.specs.Given.{Cites, Takes, about}
 use Rattle.cert_rules.specs.Lengths.{cited_length}
-use Rattle.cert_lines.specs.Noted.{IsThere, Noted}
+use Rattle.cert_lines.specs.Noted.{IsBettered, IsThere, Noted}
 use Rattle.cert_work.specs.declared.wants.Wants.{Wants}
 use Rattle.cert_work.specs.Wants.{IsWanted}
 
@@ -57,6 +57,24 @@ abbrev pub IsPut : Noted → ℕ → ℕ → Site → Node → Type 0
 IsPut w i met base n = (side : Side) (o : Site) (x : Entry) (s : StoreAt) → Cites w.given i (At side o x s.arg) → Cites w.given met (Met o base s)
     → GoesInto w (cited_length w.lengths i) side o x s.field n
 
+-- a line further on gives what the line with the number, from 1, gives, and is no longer
+abbrev pub IsBetteredAt : Noted → ℕ → Type 0
+IsBetteredAt w zero = ⊥
+IsBetteredAt w (suc k) = IsBettered w k
+
+-- the three, unless such a line is there
+abbrev pub IsAlongIfBest : Noted → ℕ → Edge → Type 0
+IsAlongIfBest w i e =
+    (side : Side) (o : Site) (x : Entry) → Cites w.given i (At side o x e.from) → GoesOn w (cited_length w.lengths i) side o x e.kind e.to ⊎ IsBetteredAt w i
+
+abbrev pub IsPoppedIfBest : Noted → ℕ → ℕ → Edge → Type 0
+IsPoppedIfBest w i link e = (side : Side) (o : Site) (x below : Entry) → Cites w.given i (At side o x e.from) → Cites w.given link (Link side o x below)
+    → Takes side x e.kind → IsThere w (At side o below e.to) (one_more side (cited_length w.lengths i + cited_length w.lengths link)) ⊎ IsBetteredAt w i
+
+abbrev pub IsPutIfBest : Noted → ℕ → ℕ → Site → Node → Type 0
+IsPutIfBest w i met base n = (side : Side) (o : Site) (x : Entry) (s : StoreAt) → Cites w.given i (At side o x s.arg) → Cites w.given met (Met o base s)
+    → GoesInto w (cited_length w.lengths i) side o x s.field n ⊎ IsBetteredAt w i
+
 -- if the line put an object somewhere, it is followed there
 abbrev pub IsFollowed : Wants → Noted → ℕ → Type 0
 IsFollowed wants w i = (side : Side) (o : Site) (x : Entry) (n : Node) → Cites w.given i (At side o x n) → IsWanted wants o n
@@ -66,3 +84,9 @@ pub record AreWorked (p : LinkedProgram) (t : Node) (wants : Wants) (w : Noted) 
   pub along : (i : ℕ) (e : Edge) → i ≤ done → IsFollowed wants w i → EdgeIn p (about t) e.from e.kind e.to → IsAlong w i e
   pub popped : (i link : ℕ) (e : Edge) → i ≤ done → link ≤ done → IsFollowed wants w i → EdgeIn p (about t) e.from e.kind e.to → IsPopped w i link e
   pub put : (i met : ℕ) (base : Site) (n : Node) → i ≤ done → met ≤ done → IsFollowed wants w i → StartIn p (about t) base n → IsPut w i met base n
+
+-- the same, unless better lines give what these give
+pub record AreWorkedIfBest (p : LinkedProgram) (t : Node) (wants : Wants) (w : Noted) (done : ℕ) : Type 0 where
+  pub along : (i : ℕ) (e : Edge) → i ≤ done → IsFollowed wants w i → EdgeIn p (about t) e.from e.kind e.to → IsAlongIfBest w i e
+  pub popped : (i link : ℕ) (e : Edge) → i ≤ done → link ≤ done → IsFollowed wants w i → EdgeIn p (about t) e.from e.kind e.to → IsPoppedIfBest w i link e
+  pub put : (i met : ℕ) (base : Site) (n : Node) → i ≤ done → met ≤ done → IsFollowed wants w i → StartIn p (about t) base n → IsPutIfBest w i met base n

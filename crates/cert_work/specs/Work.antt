@@ -22,7 +22,7 @@ use Rattle.cert_work.specs.declared.roads.View.{View}
 use Rattle.cert_work.specs.declared.wants.Wants.{Wants}
 use Rattle.cert_work.specs.declared.work.Work.{Work}
 use Rattle.cert_work.specs.Roads.{IsEnd}
-use Rattle.cert_work.specs.Rules.{AreWorked}
+use Rattle.cert_work.specs.Rules.{AreWorked, AreWorkedIfBest}
 use Rattle.cert_work.specs.Wants.{IsWanted}
 
 -- the words under which it is there
@@ -90,3 +90,15 @@ pub record IsWork (p : LinkedProgram) (t : Node) (wants : Wants) (k : Work) : Ty
 
 abbrev pub IsWorkOf : View → Work → Type 0
 IsWorkOf v k = IsWork v.linked.now v.target v.wants.now k
+
+-- While lines are gone through, what the rules give of one may come of a better line, which is still to be gone through.
+pub record IsWorking (p : LinkedProgram) (t : Node) (wants : Wants) (k : Work) : Type 0 where
+  pub within : k.done ≤ length k.written.given
+  pub filed : AreFiled k.written k
+  pub ends : AreEndsFiled p t k
+  pub stored : AreStored p t k.written
+  pub takers : (x : Word) (i : ℕ) → Has (found_at word.eq-value.it k.takers x) i ↔ ((i ≤ k.done) × IsTaker p t wants k.written x i)
+  pub worked : AreWorkedIfBest p t wants k.written k.done
+
+abbrev pub IsWorkingOf : View → Work → Type 0
+IsWorkingOf v k = IsWorking v.linked.now v.target v.wants.now k

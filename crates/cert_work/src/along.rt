@@ -22,13 +22,13 @@ use lists::NoMemory;
 use spds_rules::{Edge, EdgeKind};
 
 // Goes on under the same words.
-fn flow(view: &View<'_>, written: &mut Written, held: Held, edge: Edge) -> Result<(), NoMemory>
-    requires held { IsHeld written.old held }
-    requires edge { EdgeOf view.now edge }
-    requires from { edge.from ≡ held.node }
-    requires keeps { Keeps held.side edge.kind }
+fn flow(view: &View<'_>, written: &mut Written, held: &Held, edge: &Edge) -> Result<(), NoMemory>
+    requires held { IsHeld written.old held.now }
+    requires edge { EdgeOf view.now edge.now }
+    requires from { edge.now.from ≡ held.now.node }
+    requires keeps { Keeps held.now.side edge.now.kind }
     ensures added { OnOk result (AreAddedIn view.now written.old written.new) }
-    ensures there { OnOk result (IsThere written.new (At held.side held.site held.entry edge.to) (one_more held.side held.length)) }
+    ensures there { OnOk result (IsThere written.new (At held.now.side held.now.site held.now.entry edge.now.to) (one_more held.now.side held.now.length)) }
 {
     let line = Line::Flow {
         side: held.side,
@@ -46,14 +46,14 @@ fn flow(view: &View<'_>, written: &mut Written, held: Held, edge: Edge) -> Resul
 }
 
 // Goes through a static field: what comes through one may be there under each call string.
-fn jump(view: &View<'_>, written: &mut Written, held: Held, edge: Edge) -> Result<(), NoMemory>
-    requires held { IsHeld written.old held }
-    requires edge { EdgeOf view.now edge }
-    requires from { edge.from ≡ held.node }
-    requires side { held.side ≡ OfCalls }
-    requires kind { edge.kind ≡ edge_kind.Jump }
+fn jump(view: &View<'_>, written: &mut Written, held: &Held, edge: &Edge) -> Result<(), NoMemory>
+    requires held { IsHeld written.old held.now }
+    requires edge { EdgeOf view.now edge.now }
+    requires from { edge.now.from ≡ held.now.node }
+    requires side { held.now.side ≡ OfCalls }
+    requires kind { edge.now.kind ≡ edge_kind.Jump }
     ensures added { OnOk result (AreAddedIn view.now written.old written.new) }
-    ensures there { OnOk result (IsThere written.new (At OfCalls held.site Base edge.to) 0) }
+    ensures there { OnOk result (IsThere written.new (At OfCalls held.now.site Base edge.now.to) 0) }
 {
     let line = Line::Jump {
         from: held.number,
@@ -72,18 +72,18 @@ fn jump(view: &View<'_>, written: &mut Written, held: Held, edge: Edge) -> Resul
 fn return_base(
     view: &View<'_>,
     written: &mut Written,
-    held: Held,
-    edge: Edge,
+    held: &Held,
+    edge: &Edge,
     call: Place,
 ) -> Result<(), NoMemory>
-    requires held { IsHeld written.old held }
-    requires edge { EdgeOf view.now edge }
-    requires from { edge.from ≡ held.node }
-    requires side { held.side ≡ OfCalls }
-    requires entry { held.entry ≡ Base }
-    requires kind { edge.kind ≡ edge_kind.Return call }
+    requires held { IsHeld written.old held.now }
+    requires edge { EdgeOf view.now edge.now }
+    requires from { edge.now.from ≡ held.now.node }
+    requires side { held.now.side ≡ OfCalls }
+    requires entry { held.now.entry ≡ Base }
+    requires kind { edge.now.kind ≡ edge_kind.Return call }
     ensures added { OnOk result (AreAddedIn view.now written.old written.new) }
-    ensures there { OnOk result (IsThere written.new (At OfCalls held.site Base edge.to) 0) }
+    ensures there { OnOk result (IsThere written.new (At OfCalls held.now.site Base edge.now.to) 0) }
 {
     let line = Line::BasePop {
         from: held.number,
@@ -102,17 +102,17 @@ fn return_base(
 fn pass(
     view: &View<'_>,
     written: &mut Written,
-    held: Held,
-    edge: Edge,
+    held: &Held,
+    edge: &Edge,
     call: Place,
 ) -> Result<(), NoMemory>
-    requires held { IsHeld written.old held }
-    requires edge { EdgeOf view.now edge }
-    requires from { edge.from ≡ held.node }
-    requires side { held.side ≡ OfCalls }
-    requires kind { edge.kind ≡ edge_kind.Call call }
+    requires held { IsHeld written.old held.now }
+    requires edge { EdgeOf view.now edge.now }
+    requires from { edge.now.from ≡ held.now.node }
+    requires side { held.now.side ≡ OfCalls }
+    requires kind { edge.now.kind ≡ edge_kind.Call call }
     ensures added { OnOk result (AreAddedIn view.now written.old written.new) }
-    ensures there { OnOk result (IsThere written.new (At OfCalls held.site (entry.Call edge.to call) edge.to) 0) }
+    ensures there { OnOk result (IsThere written.new (At OfCalls held.now.site (entry.Call edge.now.to call) edge.now.to) 0) }
 {
     let line = Line::PushCall {
         from: held.number,
@@ -134,17 +134,17 @@ fn pass(
 fn link(
     view: &View<'_>,
     written: &mut Written,
-    held: Held,
-    edge: Edge,
+    held: &Held,
+    edge: &Edge,
     call: Place,
 ) -> Result<(), NoMemory>
-    requires held { IsHeld written.old held }
-    requires edge { EdgeOf view.now edge }
-    requires from { edge.from ≡ held.node }
-    requires side { held.side ≡ OfCalls }
-    requires kind { edge.kind ≡ edge_kind.Call call }
+    requires held { IsHeld written.old held.now }
+    requires edge { EdgeOf view.now edge.now }
+    requires from { edge.now.from ≡ held.now.node }
+    requires side { held.now.side ≡ OfCalls }
+    requires kind { edge.now.kind ≡ edge_kind.Call call }
     ensures added { OnOk result (AreAddedIn view.now written.old written.new) }
-    ensures there { OnOk result (IsThere written.new (Link OfCalls held.site (entry.Call edge.to call) held.entry) 0) }
+    ensures there { OnOk result (IsThere written.new (Link OfCalls held.now.site (entry.Call edge.now.to call) held.now.entry) 0) }
 {
     let line = Line::LinkCall {
         from: held.number,
@@ -166,18 +166,18 @@ fn link(
 fn enter(
     view: &View<'_>,
     written: &mut Written,
-    held: Held,
-    edge: Edge,
+    held: &Held,
+    edge: &Edge,
     call: Place,
 ) -> Result<(), NoMemory>
-    requires held { IsHeld written.old held }
-    requires edge { EdgeOf view.now edge }
-    requires from { edge.from ≡ held.node }
-    requires side { held.side ≡ OfCalls }
-    requires kind { edge.kind ≡ edge_kind.Call call }
+    requires held { IsHeld written.old held.now }
+    requires edge { EdgeOf view.now edge.now }
+    requires from { edge.now.from ≡ held.now.node }
+    requires side { held.now.side ≡ OfCalls }
+    requires kind { edge.now.kind ≡ edge_kind.Call call }
     ensures added { OnOk result (AreAddedIn view.now written.old written.new) }
-    ensures there { OnOk result (IsThere written.new (At OfCalls held.site (entry.Call edge.to call) edge.to) 0) }
-    ensures below { OnOk result (IsThere written.new (Link OfCalls held.site (entry.Call edge.to call) held.entry) 0) }
+    ensures there { OnOk result (IsThere written.new (At OfCalls held.now.site (entry.Call edge.now.to call) edge.now.to) 0) }
+    ensures below { OnOk result (IsThere written.new (Link OfCalls held.now.site (entry.Call edge.now.to call) held.now.entry) 0) }
 {
     pass(view, written, held, edge, call)?;
     link(view, written, held, edge, call)?;
@@ -188,15 +188,15 @@ fn enter(
 fn along_calls(
     view: &View<'_>,
     written: &mut Written,
-    held: Held,
-    edge: Edge,
+    held: &Held,
+    edge: &Edge,
 ) -> Result<(), NoMemory>
-    requires held { IsHeld written.old held }
-    requires edge { EdgeOf view.now edge }
-    requires from { edge.from ≡ held.node }
-    requires side { held.side ≡ OfCalls }
+    requires held { IsHeld written.old held.now }
+    requires edge { EdgeOf view.now edge.now }
+    requires from { edge.now.from ≡ held.now.node }
+    requires side { held.now.side ≡ OfCalls }
     ensures added { OnOk result (AreAddedIn view.now written.old written.new) }
-    ensures there { OnOk result (GoesOn written.new held.length OfCalls held.site held.entry edge.kind edge.to) }
+    ensures there { OnOk result (GoesOn written.new held.now.length OfCalls held.now.site held.now.entry edge.now.kind edge.now.to) }
 {
     match edge.kind {
         EdgeKind::Flow => flow(view, written, held, edge),
@@ -217,15 +217,15 @@ fn along_calls(
 fn along_fields(
     view: &View<'_>,
     written: &mut Written,
-    held: Held,
-    edge: Edge,
+    held: &Held,
+    edge: &Edge,
 ) -> Result<(), NoMemory>
-    requires held { IsHeld written.old held }
-    requires edge { EdgeOf view.now edge }
-    requires from { edge.from ≡ held.node }
-    requires side { held.side ≡ OfFields }
+    requires held { IsHeld written.old held.now }
+    requires edge { EdgeOf view.now edge.now }
+    requires from { edge.now.from ≡ held.now.node }
+    requires side { held.now.side ≡ OfFields }
     ensures added { OnOk result (AreAddedIn view.now written.old written.new) }
-    ensures there { OnOk result (GoesOn written.new held.length OfFields held.site held.entry edge.kind edge.to) }
+    ensures there { OnOk result (GoesOn written.new held.now.length OfFields held.now.site held.now.entry edge.now.kind edge.now.to) }
 {
     match edge.kind {
         EdgeKind::Load(_field) => Ok(()),
@@ -240,14 +240,14 @@ fn along_fields(
 pub(crate) fn along(
     view: &View<'_>,
     written: &mut Written,
-    held: Held,
-    edge: Edge,
+    held: &Held,
+    edge: &Edge,
 ) -> Result<(), NoMemory>
-    requires held { IsHeld written.old held }
-    requires edge { EdgeOf view.now edge }
-    requires from { edge.from ≡ held.node }
+    requires held { IsHeld written.old held.now }
+    requires edge { EdgeOf view.now edge.now }
+    requires from { edge.now.from ≡ held.now.node }
     ensures added { OnOk result (AreAddedIn view.now written.old written.new) }
-    ensures there { OnOk result (GoesOn written.new held.length held.side held.site held.entry edge.kind edge.to) }
+    ensures there { OnOk result (GoesOn written.new held.now.length held.now.side held.now.site held.now.entry edge.now.kind edge.now.to) }
 {
     match held.side {
         Side::Field => along_fields(view, written, held, edge),
@@ -259,16 +259,16 @@ pub(crate) fn along(
 pub(crate) fn along_all(
     view: &View<'_>,
     written: &mut Written,
-    held: Held,
+    held: &Held,
     edges: &[Edge],
 ) -> Result<(), NoMemory>
-    requires edges { AreEdgesAt view.now held.node edges.now }
-    requires held { IsHeld written.old held }
+    requires edges { AreEdgesAt view.now held.now.node edges.now }
+    requires held { IsHeld written.old held.now }
     ensures added { OnOk result (AreAddedIn view.now written.old written.new) }
-    ensures there { OnOk result ((e : AnyEdge) → EdgeOf view.now e → IsAlong written.new held.number e) }
+    ensures there { OnOk result ((e : AnyEdge) → EdgeOf view.now e → IsAlong written.new held.now.number e) }
 {
     for edge in edges {
-        along(view, written, held, *edge)?;
+        along(view, written, held, edge)?;
     }
     Ok(())
 }

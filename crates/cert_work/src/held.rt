@@ -56,8 +56,8 @@ impl Held {
     }
 
     /// The words under which the object is there.
-    pub(crate) fn word(self) -> Word
-        ensures { result ≡ word_of self }
+    pub(crate) fn word(&self) -> Word
+        ensures { result ≡ word_of self.now }
     {
         Word {
             side: self.side,
@@ -67,8 +67,8 @@ impl Held {
     }
 
     /// Where it is.
-    pub(crate) fn spot(self) -> Spot
-        ensures { result ≡ spot_of self }
+    pub(crate) fn spot(&self) -> Spot
+        ensures { result ≡ spot_of self.now }
     {
         Spot {
             site: self.site,

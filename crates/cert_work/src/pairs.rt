@@ -24,18 +24,18 @@ use spds_rules::Edge;
 fn pop_link(
     view: &View<'_>,
     written: &mut Written,
-    held: Held,
+    held: &Held,
     edges: &[Edge],
     link: u32,
 ) -> Result<(), NoMemory>
-    requires edges { AreEdgesAt view.now held.node edges.now }
-    requires held { IsHeld written.old held }
-    requires link { IsBelow written.old (word_of held) link }
+    requires edges { AreEdgesAt view.now held.now.node edges.now }
+    requires held { IsHeld written.old held.now }
+    requires link { IsBelow written.old (word_of held.now) link }
     ensures added { OnOk result (AreAddedIn view.now written.old written.new) }
-    ensures there { OnOk result ((e : AnyEdge) → EdgeOf view.now e → IsPopped written.new held.number link e) }
+    ensures there { OnOk result ((e : AnyEdge) → EdgeOf view.now e → IsPopped written.new held.now.number link e) }
 {
     let below = below_under(written, link, held.word());
-    pop_all(view, written, held, below, edges)?;
+    pop_all(view, written, held, &below, edges)?;
     Ok(())
 }
 
@@ -43,15 +43,15 @@ fn pop_link(
 pub(crate) fn pop_links(
     view: &View<'_>,
     written: &mut Written,
-    held: Held,
+    held: &Held,
     edges: &[Edge],
     links: &[u32],
 ) -> Result<(), NoMemory>
-    requires edges { AreEdgesAt view.now held.node edges.now }
-    requires held { IsHeld written.old held }
-    requires links { (i : ℕ) → Has links.now i → IsBelow written.old (word_of held) i }
+    requires edges { AreEdgesAt view.now held.now.node edges.now }
+    requires held { IsHeld written.old held.now }
+    requires links { (i : ℕ) → Has links.now i → IsBelow written.old (word_of held.now) i }
     ensures added { OnOk result (AreAddedIn view.now written.old written.new) }
-    ensures there { OnOk result ((i : ℕ) → Has links.now i → (e : AnyEdge) → EdgeOf view.now e → IsPopped written.new held.number i e) }
+    ensures there { OnOk result ((i : ℕ) → Has links.now i → (e : AnyEdge) → EdgeOf view.now e → IsPopped written.new held.now.number i e) }
 {
     for link in links {
         pop_link(view, written, held, edges, *link)?;
@@ -64,19 +64,19 @@ fn pop_taker(
     view: &View<'_>,
     written: &mut Written,
     word: Word,
-    below: Below,
+    below: &Below,
     taker: u32,
 ) -> Result<(), NoMemory>
     requires view { IsView view.now }
-    requires below { Cites written.old.given below.number (Link word.side word.site word.entry below.entry) }
-    requires long { cited_length written.old.lengths below.number ≡ below.length }
+    requires below { Cites written.old.given below.now.number (Link word.side word.site word.entry below.now.entry) }
+    requires long { cited_length written.old.lengths below.now.number ≡ below.now.length }
     requires taker { HasWord written.old word taker }
     ensures added { OnOk result (AreAddedIn view.now written.old written.new) }
-    ensures there { OnOk result ((e : AnyEdge) → EdgeOf view.now e → IsPopped written.new taker below.number e) }
+    ensures there { OnOk result ((e : AnyEdge) → EdgeOf view.now e → IsPopped written.new taker below.now.number e) }
 {
     let held = held_under(written, taker, word);
     let edges = view.edges(held.node);
-    pop_all(view, written, held, below, edges)?;
+    pop_all(view, written, &held, below, edges)?;
     Ok(())
 }
 
@@ -85,15 +85,15 @@ pub(crate) fn pop_takers(
     view: &View<'_>,
     written: &mut Written,
     word: Word,
-    below: Below,
+    below: &Below,
     takers: &[u32],
 ) -> Result<(), NoMemory>
     requires view { IsView view.now }
-    requires below { Cites written.old.given below.number (Link word.side word.site word.entry below.entry) }
-    requires long { cited_length written.old.lengths below.number ≡ below.length }
+    requires below { Cites written.old.given below.now.number (Link word.side word.site word.entry below.now.entry) }
+    requires long { cited_length written.old.lengths below.now.number ≡ below.now.length }
     requires takers { (i : ℕ) → Has takers.now i → HasWord written.old word i }
     ensures added { OnOk result (AreAddedIn view.now written.old written.new) }
-    ensures there { OnOk result ((i : ℕ) → Has takers.now i → (e : AnyEdge) → EdgeOf view.now e → IsPopped written.new i below.number e) }
+    ensures there { OnOk result ((i : ℕ) → Has takers.now i → (e : AnyEdge) → EdgeOf view.now e → IsPopped written.new i below.now.number e) }
 {
     for taker in takers {
         pop_taker(view, written, word, below, *taker)?;
@@ -102,15 +102,15 @@ pub(crate) fn pop_takers(
 }
 
 // With a line by which an object that is there may be stored.
-fn put_met(view: &View<'_>, written: &mut Written, held: Held, met: u32) -> Result<(), NoMemory>
+fn put_met(view: &View<'_>, written: &mut Written, held: &Held, met: u32) -> Result<(), NoMemory>
     requires view { IsView view.now }
-    requires held { IsHeld written.old held }
-    requires met { IsStored written.old (spot_of held) met }
+    requires held { IsHeld written.old held.now }
+    requires met { IsStored written.old (spot_of held.now) met }
     ensures added { OnOk result (AreAddedIn view.now written.old written.new) }
-    ensures there { OnOk result ((base : AnySite) (n : AnyNode) → StartOf view.now base n → IsPut written.new held.number met base n) }
+    ensures there { OnOk result ((base : AnySite) (n : AnyNode) → StartOf view.now base n → IsPut written.new held.now.number met base n) }
 {
     let meeting = meeting_at(written, met, held.spot());
-    put_all(view, written, held, meeting)?;
+    put_all(view, written, held, &meeting)?;
     Ok(())
 }
 
@@ -118,14 +118,14 @@ fn put_met(view: &View<'_>, written: &mut Written, held: Held, met: u32) -> Resu
 pub(crate) fn put_mets(
     view: &View<'_>,
     written: &mut Written,
-    held: Held,
+    held: &Held,
     mets: &[u32],
 ) -> Result<(), NoMemory>
     requires view { IsView view.now }
-    requires held { IsHeld written.old held }
-    requires mets { (i : ℕ) → Has mets.now i → IsStored written.old (spot_of held) i }
+    requires held { IsHeld written.old held.now }
+    requires mets { (i : ℕ) → Has mets.now i → IsStored written.old (spot_of held.now) i }
     ensures added { OnOk result (AreAddedIn view.now written.old written.new) }
-    ensures there { OnOk result ((i : ℕ) → Has mets.now i → (base : AnySite) (n : AnyNode) → StartOf view.now base n → IsPut written.new held.number i base n) }
+    ensures there { OnOk result ((i : ℕ) → Has mets.now i → (base : AnySite) (n : AnyNode) → StartOf view.now base n → IsPut written.new held.now.number i base n) }
 {
     for met in mets {
         put_met(view, written, held, *met)?;
@@ -138,18 +138,18 @@ fn put_object(
     view: &View<'_>,
     written: &mut Written,
     spot: Spot,
-    meeting: Meeting,
+    meeting: &Meeting,
     object: u32,
 ) -> Result<(), NoMemory>
     requires view { IsView view.now }
-    requires meets { Cites written.old.given meeting.number (Met spot.site meeting.base meeting.store) }
-    requires arg { meeting.store.arg ≡ spot.node }
+    requires meets { Cites written.old.given meeting.now.number (Met spot.site meeting.now.base meeting.now.store) }
+    requires arg { meeting.now.store.arg ≡ spot.node }
     requires object { IsAt written.old spot object }
     ensures added { OnOk result (AreAddedIn view.now written.old written.new) }
-    ensures there { OnOk result ((base : AnySite) (n : AnyNode) → StartOf view.now base n → IsPut written.new object meeting.number base n) }
+    ensures there { OnOk result ((base : AnySite) (n : AnyNode) → StartOf view.now base n → IsPut written.new object meeting.now.number base n) }
 {
     let held = held_at(written, object, spot);
-    put_all(view, written, held, meeting)?;
+    put_all(view, written, &held, meeting)?;
     Ok(())
 }
 
@@ -158,15 +158,15 @@ pub(crate) fn put_objects(
     view: &View<'_>,
     written: &mut Written,
     spot: Spot,
-    meeting: Meeting,
+    meeting: &Meeting,
     objects: &[u32],
 ) -> Result<(), NoMemory>
     requires view { IsView view.now }
-    requires meets { Cites written.old.given meeting.number (Met spot.site meeting.base meeting.store) }
-    requires arg { meeting.store.arg ≡ spot.node }
+    requires meets { Cites written.old.given meeting.now.number (Met spot.site meeting.now.base meeting.now.store) }
+    requires arg { meeting.now.store.arg ≡ spot.node }
     requires objects { (i : ℕ) → Has objects.now i → IsAt written.old spot i }
     ensures added { OnOk result (AreAddedIn view.now written.old written.new) }
-    ensures there { OnOk result ((i : ℕ) → Has objects.now i → (base : AnySite) (n : AnyNode) → StartOf view.now base n → IsPut written.new i meeting.number base n) }
+    ensures there { OnOk result ((i : ℕ) → Has objects.now i → (base : AnySite) (n : AnyNode) → StartOf view.now base n → IsPut written.new i meeting.now.number base n) }
 {
     for object in objects {
         put_object(view, written, spot, meeting, *object)?;

@@ -18,12 +18,12 @@ use lists::NoMemory;
 use spds_rules::{Edge, EdgeKind};
 
 // Whether an edge of the kind takes the first letter of the entry off.
-fn takes(side: Side, entry: Entry, kind: EdgeKind) -> bool
-    ensures { IsTrue result ↔ Takes side entry kind }
+fn takes(side: Side, entry: &Entry, kind: &EdgeKind) -> bool
+    ensures { IsTrue result ↔ Takes side entry.now kind.now }
 {
     match (side, entry, kind) {
-        (Side::Field, Entry::Field { field, .. }, EdgeKind::Load(loaded)) => field == loaded,
-        (Side::Call, Entry::Call { call, .. }, EdgeKind::Return(returned)) => call == returned,
+        (Side::Field, Entry::Field { field, .. }, EdgeKind::Load(loaded)) => *field == *loaded,
+        (Side::Call, Entry::Call { call, .. }, EdgeKind::Return(returned)) => *call == *returned,
         _ => false,
     }
 }
@@ -32,17 +32,17 @@ fn takes(side: Side, entry: Entry, kind: EdgeKind) -> bool
 fn pop(
     view: &View<'_>,
     written: &mut Written,
-    held: Held,
-    below: Below,
-    edge: Edge,
+    held: &Held,
+    below: &Below,
+    edge: &Edge,
 ) -> Result<(), NoMemory>
-    requires held { IsHeld written.old held }
-    requires below { IsBelowHeld written.old held below }
-    requires edge { EdgeOf view.now edge }
-    requires from { edge.from ≡ held.node }
-    requires takes { Takes held.side held.entry edge.kind }
+    requires held { IsHeld written.old held.now }
+    requires below { IsBelowHeld written.old held.now below.now }
+    requires edge { EdgeOf view.now edge.now }
+    requires from { edge.now.from ≡ held.now.node }
+    requires takes { Takes held.now.side held.now.entry edge.now.kind }
     ensures added { OnOk result (AreAddedIn view.now written.old written.new) }
-    ensures there { OnOk result (IsThere written.new (At held.side held.site below.entry edge.to) (one_more held.side (held.length + below.length))) }
+    ensures there { OnOk result (IsThere written.new (At held.now.side held.now.site below.now.entry edge.now.to) (one_more held.now.side (held.now.length + below.now.length))) }
 {
     let line = Line::Pop {
         side: held.side,
@@ -65,19 +65,19 @@ fn pop(
 fn pop_if(
     view: &View<'_>,
     written: &mut Written,
-    held: Held,
-    below: Below,
-    edge: Edge,
+    held: &Held,
+    below: &Below,
+    edge: &Edge,
 ) -> Result<(), NoMemory>
-    requires held { IsHeld written.old held }
-    requires below { IsBelowHeld written.old held below }
-    requires edge { EdgeOf view.now edge }
-    requires from { edge.from ≡ held.node }
+    requires held { IsHeld written.old held.now }
+    requires below { IsBelowHeld written.old held.now below.now }
+    requires edge { EdgeOf view.now edge.now }
+    requires from { edge.now.from ≡ held.now.node }
     ensures added { OnOk result (AreAddedIn view.now written.old written.new) }
-    ensures there { OnOk result (Takes held.side held.entry edge.kind
-        → IsThere written.new (At held.side held.site below.entry edge.to) (one_more held.side (held.length + below.length))) }
+    ensures there { OnOk result (Takes held.now.side held.now.entry edge.now.kind
+        → IsThere written.new (At held.now.side held.now.site below.now.entry edge.now.to) (one_more held.now.side (held.now.length + below.now.length))) }
 {
-    if takes(held.side, held.entry, edge.kind) {
+    if takes(held.side, &held.entry, &edge.kind) {
         pop(view, written, held, below, edge)?;
         return Ok(());
     }
@@ -85,12 +85,12 @@ fn pop_if(
 }
 
 /// Whether one of the edges takes the first letter off.
-pub(crate) fn is_taken(held: Held, edges: &[Edge]) -> bool
-    ensures yes { IsTrue result → (e : AnyEdge) × Has edges.now e × Takes held.side held.entry e.kind }
-    ensures no { (e : AnyEdge) → Has edges.now e → Takes held.side held.entry e.kind → IsTrue result }
+pub(crate) fn is_taken(held: &Held, edges: &[Edge]) -> bool
+    ensures yes { IsTrue result → (e : AnyEdge) × Has edges.now e × Takes held.now.side held.now.entry e.kind }
+    ensures no { (e : AnyEdge) → Has edges.now e → Takes held.now.side held.now.entry e.kind → IsTrue result }
 {
     for edge in edges {
-        if takes(held.side, held.entry, edge.kind) {
+        if takes(held.side, &held.entry, &edge.kind) {
             return true;
         }
     }
@@ -101,18 +101,18 @@ pub(crate) fn is_taken(held: Held, edges: &[Edge]) -> bool
 pub(crate) fn pop_all(
     view: &View<'_>,
     written: &mut Written,
-    held: Held,
-    below: Below,
+    held: &Held,
+    below: &Below,
     edges: &[Edge],
 ) -> Result<(), NoMemory>
-    requires edges { AreEdgesAt view.now held.node edges.now }
-    requires held { IsHeld written.old held }
-    requires below { IsBelowHeld written.old held below }
+    requires edges { AreEdgesAt view.now held.now.node edges.now }
+    requires held { IsHeld written.old held.now }
+    requires below { IsBelowHeld written.old held.now below.now }
     ensures added { OnOk result (AreAddedIn view.now written.old written.new) }
-    ensures there { OnOk result ((e : AnyEdge) → EdgeOf view.now e → IsPopped written.new held.number below.number e) }
+    ensures there { OnOk result ((e : AnyEdge) → EdgeOf view.now e → IsPopped written.new held.now.number below.now.number e) }
 {
     for edge in edges {
-        pop_if(view, written, held, below, *edge)?;
+        pop_if(view, written, held, below, edge)?;
     }
     Ok(())
 }

@@ -23,16 +23,16 @@ use spds_rules::Node;
 fn push(
     view: &View<'_>,
     written: &mut Written,
-    held: Held,
-    meeting: Meeting,
+    held: &Held,
+    meeting: &Meeting,
     start: Node,
 ) -> Result<(), NoMemory>
-    requires held { IsHeld written.old held }
-    requires meeting { IsMeeting written.old held meeting }
-    requires start { StartOf view.now meeting.base start }
-    requires side { held.side ≡ OfFields }
+    requires held { IsHeld written.old held.now }
+    requires meeting { IsMeeting written.old held.now meeting.now }
+    requires start { StartOf view.now meeting.now.base start }
+    requires side { held.now.side ≡ OfFields }
     ensures added { OnOk result (AreAddedIn view.now written.old written.new) }
-    ensures there { OnOk result (IsThere written.new (At OfFields held.site (entry.Field start meeting.store.field) start) 0) }
+    ensures there { OnOk result (IsThere written.new (At OfFields held.now.site (entry.Field start meeting.now.store.field) start) 0) }
 {
     let line = Line::PushField {
         from: held.number,
@@ -55,16 +55,16 @@ fn push(
 fn link(
     view: &View<'_>,
     written: &mut Written,
-    held: Held,
-    meeting: Meeting,
+    held: &Held,
+    meeting: &Meeting,
     start: Node,
 ) -> Result<(), NoMemory>
-    requires held { IsHeld written.old held }
-    requires meeting { IsMeeting written.old held meeting }
-    requires start { StartOf view.now meeting.base start }
-    requires side { held.side ≡ OfFields }
+    requires held { IsHeld written.old held.now }
+    requires meeting { IsMeeting written.old held.now meeting.now }
+    requires start { StartOf view.now meeting.now.base start }
+    requires side { held.now.side ≡ OfFields }
     ensures added { OnOk result (AreAddedIn view.now written.old written.new) }
-    ensures there { OnOk result (IsThere written.new (Link OfFields held.site (entry.Field start meeting.store.field) held.entry) (held.length + 1)) }
+    ensures there { OnOk result (IsThere written.new (Link OfFields held.now.site (entry.Field start meeting.now.store.field) held.now.entry) (held.now.length + 1)) }
 {
     let line = Line::LinkField {
         from: held.number,
@@ -94,16 +94,16 @@ fn link(
 fn put_calls(
     view: &View<'_>,
     written: &mut Written,
-    held: Held,
-    meeting: Meeting,
+    held: &Held,
+    meeting: &Meeting,
     start: Node,
 ) -> Result<(), NoMemory>
-    requires held { IsHeld written.old held }
-    requires meeting { IsMeeting written.old held meeting }
-    requires start { StartOf view.now meeting.base start }
-    requires side { held.side ≡ OfCalls }
+    requires held { IsHeld written.old held.now }
+    requires meeting { IsMeeting written.old held.now meeting.now }
+    requires start { StartOf view.now meeting.now.base start }
+    requires side { held.now.side ≡ OfCalls }
     ensures added { OnOk result (AreAddedIn view.now written.old written.new) }
-    ensures there { OnOk result (IsThere written.new (At OfCalls held.site Base start) 0) }
+    ensures there { OnOk result (IsThere written.new (At OfCalls held.now.site Base start) 0) }
 {
     let line = Line::Put {
         from: held.number,
@@ -123,16 +123,16 @@ fn put_calls(
 fn put_fields(
     view: &View<'_>,
     written: &mut Written,
-    held: Held,
-    meeting: Meeting,
+    held: &Held,
+    meeting: &Meeting,
     start: Node,
 ) -> Result<(), NoMemory>
-    requires held { IsHeld written.old held }
-    requires meeting { IsMeeting written.old held meeting }
-    requires start { StartOf view.now meeting.base start }
-    requires side { held.side ≡ OfFields }
+    requires held { IsHeld written.old held.now }
+    requires meeting { IsMeeting written.old held.now meeting.now }
+    requires start { StartOf view.now meeting.now.base start }
+    requires side { held.now.side ≡ OfFields }
     ensures added { OnOk result (AreAddedIn view.now written.old written.new) }
-    ensures there { OnOk result (GoesInto written.new held.length OfFields held.site held.entry meeting.store.field start) }
+    ensures there { OnOk result (GoesInto written.new held.now.length OfFields held.now.site held.now.entry meeting.now.store.field start) }
 {
     push(view, written, held, meeting, start)?;
     link(view, written, held, meeting, start)?;
@@ -143,15 +143,15 @@ fn put_fields(
 fn put(
     view: &View<'_>,
     written: &mut Written,
-    held: Held,
-    meeting: Meeting,
+    held: &Held,
+    meeting: &Meeting,
     start: Node,
 ) -> Result<(), NoMemory>
-    requires held { IsHeld written.old held }
-    requires meeting { IsMeeting written.old held meeting }
-    requires start { StartOf view.now meeting.base start }
+    requires held { IsHeld written.old held.now }
+    requires meeting { IsMeeting written.old held.now meeting.now }
+    requires start { StartOf view.now meeting.now.base start }
     ensures added { OnOk result (AreAddedIn view.now written.old written.new) }
-    ensures there { OnOk result (GoesInto written.new held.length held.side held.site held.entry meeting.store.field start) }
+    ensures there { OnOk result (GoesInto written.new held.now.length held.now.side held.now.site held.now.entry meeting.now.store.field start) }
 {
     match held.side {
         Side::Field => put_fields(view, written, held, meeting, start),
@@ -163,14 +163,14 @@ fn put(
 pub(crate) fn put_all(
     view: &View<'_>,
     written: &mut Written,
-    held: Held,
-    meeting: Meeting,
+    held: &Held,
+    meeting: &Meeting,
 ) -> Result<(), NoMemory>
     requires view { IsView view.now }
-    requires held { IsHeld written.old held }
-    requires meeting { IsMeeting written.old held meeting }
+    requires held { IsHeld written.old held.now }
+    requires meeting { IsMeeting written.old held.now meeting.now }
     ensures added { OnOk result (AreAddedIn view.now written.old written.new) }
-    ensures there { OnOk result ((base : AnySite) (n : AnyNode) → StartOf view.now base n → IsPut written.new held.number meeting.number base n) }
+    ensures there { OnOk result ((base : AnySite) (n : AnyNode) → StartOf view.now base n → IsPut written.new held.now.number meeting.now.number base n) }
 {
     let starts = view.starts(meeting.base);
     for start in starts {

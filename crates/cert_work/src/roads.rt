@@ -17,11 +17,11 @@ ghost use Rattle.cert_work.specs.Roads.{AreEdgesAt, AreRoads, EndOf, IsEndOf, Is
 ghost use Rattle.cert_work.specs.Wants.{IsWanted};
 
 use super::wants::Wants;
-use cert_lines::{Files, Origin};
+use cert_lines::Origin;
 use demand_set::Demand;
 use link_program::Linked;
 use link_sites::Site;
-use lists::{NoMemory, Numbered};
+use lists::{ByKey, NoMemory, Numbered};
 use spds_nodes::is_node;
 use spds_rules::{Edge, Node, StoreAt, site_of};
 use std::alloc::Global;
@@ -30,16 +30,16 @@ use std::alloc::Global;
 /// put them into.
 #[derive(Drop)]
 pub struct Roads {
-    pub(crate) edges: Files<Node, Edge>,
-    pub(crate) starts: Files<Origin, Node>,
+    pub(crate) edges: ByKey<Node, Edge>,
+    pub(crate) starts: ByKey<Origin, Node>,
     pub(crate) ends: Numbered<Node>,
 }
 
 // The edges by their sources.
-fn file_edges(alloc: Global, edges: &[Edge]) -> Result<Files<Node, Edge>, NoMemory>
+fn file_edges(alloc: Global, edges: &[Edge]) -> Result<ByKey<Node, Edge>, NoMemory>
     ensures { IfOk result (λ files. (n : AnyNode) (e : AnyEdge) → Has (found_at of_node.eq-value.it files n) e ↔ ((e.from ≡ n) × Has edges.now e)) }
 {
-    let mut files = Files::new(alloc);
+    let mut files = ByKey::new(alloc);
     for edge in edges {
         files.add(edge.from, *edge)?;
     }
@@ -47,7 +47,7 @@ fn file_edges(alloc: Global, edges: &[Edge]) -> Result<Files<Node, Edge>, NoMemo
 }
 
 // One node more, if it is a start node.
-fn file_start(linked: &Linked, files: &mut Files<Origin, Node>, node: Node) -> Result<(), NoMemory>
+fn file_start(linked: &Linked, files: &mut ByKey<Origin, Node>, node: Node) -> Result<(), NoMemory>
     ensures { OnOk result ((k : AnyOrigin) (n : AnyNode) → Has (found_at of_origin.eq-value.it files.new k) n
         ↔ (Has (found_at of_origin.eq-value.it files.old k) n ⊎ ((n ≡ node) × IsStart linked.now k.site n))) }
 {
@@ -66,10 +66,10 @@ fn file_starts(
     alloc: Global,
     linked: &Linked,
     nodes: &[Node],
-) -> Result<Files<Origin, Node>, NoMemory>
+) -> Result<ByKey<Origin, Node>, NoMemory>
     ensures { IfOk result (λ files. (k : AnyOrigin) (n : AnyNode) → Has (found_at of_origin.eq-value.it files k) n ↔ (Has nodes.now n × IsStart linked.now k.site n)) }
 {
-    let mut files = Files::new(alloc);
+    let mut files = ByKey::new(alloc);
     for node in nodes {
         file_start(linked, &mut files, *node)?;
     }

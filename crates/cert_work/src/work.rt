@@ -12,18 +12,18 @@ ghost use Rattle.cert_rules.specs.Given.{Cites, Takes};
 ghost use Rattle.cert_rules.specs.Lengths.{cited_length};
 ghost use Rattle.cert_work.specs.Held.{IsHeld};
 ghost use Rattle.cert_work.specs.Roads.{AreAddedIn, AreEdgesAt, EdgeOf, EndOf, IsView, StartOf};
-ghost use Rattle.cert_work.specs.Rules.{IsAlong, IsPopped, IsPut};
+ghost use Rattle.cert_work.specs.Rules.{IsAlongIfBest, IsPoppedIfBest, IsPutIfBest};
 ghost use Rattle.cert_work.specs.Wants.{IsWanted};
-ghost use Rattle.cert_work.specs.Work.{AreFiled, IsAt, IsBelow, IsStored, IsWorkOf, TellsAt, spot_of, word_of};
+ghost use Rattle.cert_work.specs.Work.{AreFiled, IsAt, IsBelow, IsStored, IsWorkOf, IsWorkingOf, TellsAt, spot_of, word_of};
 
 use super::along::along_all;
 use super::held::{Below, Held, Meeting, below_under, held_at};
 use super::pairs::{pop_links, pop_takers, put_mets, put_objects};
 use super::popping::is_taken;
 use super::roads::View;
-use cert_lines::{Files, Spot, Word, Written};
+use cert_lines::{Spot, Word, Written};
 use cert_rules::{Entry, Fact};
-use lists::NoMemory;
+use lists::{ByKey, NoMemory};
 use spds_rules::Edge;
 use std::alloc::Global;
 
@@ -33,10 +33,10 @@ use std::alloc::Global;
 pub struct Work {
     pub written: Written,
     pub done: u32,
-    pub(crate) takers: Files<Word, u32>,
-    pub(crate) links: Files<Word, u32>,
-    pub(crate) spots: Files<Spot, u32>,
-    pub(crate) mets: Files<Spot, u32>,
+    pub(crate) takers: ByKey<Word, u32>,
+    pub(crate) links: ByKey<Word, u32>,
+    pub(crate) spots: ByKey<Spot, u32>,
+    pub(crate) mets: ByKey<Spot, u32>,
 }
 
 impl Work {
@@ -74,25 +74,30 @@ impl Work {
     }
 }
 
-// What the rules give of an object that a line put somewhere, alone and with these lines.
+// What the rules give of an object that a line put somewhere, alone and with these lines: nothing, where a better line is still to be gone through.
 fn follow(
     view: &View<'_>,
     written: &mut Written,
-    held: Held,
+    held: &Held,
     edges: &[Edge],
     links: &[u32],
     mets: &[u32],
 ) -> Result<(), NoMemory>
     requires view { IsView view.now }
-    requires held { IsHeld written.old held }
-    requires edges { AreEdgesAt view.now held.node edges.now }
-    requires links { (i : ℕ) → Has links.now i → IsBelow written.old (word_of held) i }
-    requires mets { (i : ℕ) → Has mets.now i → IsStored written.old (spot_of held) i }
+    requires held { IsHeld written.old held.now }
+    requires edges { AreEdgesAt view.now held.now.node edges.now }
+    requires links { (i : ℕ) → Has links.now i → IsBelow written.old (word_of held.now) i }
+    requires mets { (i : ℕ) → Has mets.now i → IsStored written.old (spot_of held.now) i }
     ensures added { OnOk result (AreAddedIn view.now written.old written.new) }
-    ensures along { OnOk result ((e : AnyEdge) → EdgeOf view.now e → IsAlong written.new held.number e) }
-    ensures popped { OnOk result ((i : ℕ) → Has links.now i → (e : AnyEdge) → EdgeOf view.now e → IsPopped written.new held.number i e) }
-    ensures put { OnOk result ((i : ℕ) → Has mets.now i → (base : AnySite) (n : AnyNode) → StartOf view.now base n → IsPut written.new held.number i base n) }
+    ensures along { OnOk result ((e : AnyEdge) → EdgeOf view.now e → IsAlongIfBest written.new held.now.number e) }
+    ensures popped { OnOk result ((i : ℕ) → Has links.now i → (e : AnyEdge) → EdgeOf view.now e → IsPoppedIfBest written.new held.now.number i e) }
+    ensures put { OnOk result ((i : ℕ) → Has mets.now i → (base : AnySite) (n : AnyNode) → StartOf view.now base n → IsPutIfBest written.new held.now.number i base n) }
 {
+    // Each line has a length.
+    let _count = written.len();
+    if written.is_bettered(held.number - 1) {
+        return Ok(());
+    }
     along_all(view, written, held, edges)?;
     pop_links(view, written, held, edges, links)?;
     put_mets(view, written, held, mets)?;
@@ -100,7 +105,7 @@ fn follow(
 }
 
 // The numbers of the lines by which an object that is there may be stored. At an end alone there are some.
-fn mets_at(mets: &Files<Spot, u32>, spot: Spot, at_end: bool) -> &[u32]
+fn mets_at(mets: &ByKey<Spot, u32>, spot: Spot, at_end: bool) -> &[u32]
     requires { (i : ℕ) → Has (found_at of_spot.eq-value.it mets.now spot) i → IsTrue at_end }
     ensures { (i : ℕ) → Has result.now i ↔ Has (found_at of_spot.eq-value.it mets.now spot) i }
 {
@@ -109,7 +114,7 @@ fn mets_at(mets: &Files<Spot, u32>, spot: Spot, at_end: bool) -> &[u32]
 
 // At an end the line that put an object there is filed.
 fn file_object(
-    spots: &mut Files<Spot, u32>,
+    spots: &mut ByKey<Spot, u32>,
     spot: Spot,
     number: u32,
     at_end: bool,
@@ -127,20 +132,20 @@ fn file_object(
 fn work_taker(
     view: &View<'_>,
     work: &mut Work,
-    held: Held,
+    held: &Held,
     edges: &[Edge],
     at_end: bool,
 ) -> Result<(), NoMemory>
     requires view { IsView view.now }
-    requires work { IsWorkOf view.now work.old }
-    requires held { IsHeld work.old.written held }
-    requires number { held.number ≡ work.old.done + 1 }
-    requires edges { AreEdgesAt view.now held.node edges.now }
-    requires wanted { IsWanted view.now.wants.now held.site held.node }
-    requires taken { (e : AnyEdge) × Has edges.now e × Takes held.side held.entry e.kind }
-    requires end { IsTrue at_end ↔ EndOf view.now held.node }
+    requires work { IsWorkingOf view.now work.old }
+    requires held { IsHeld work.old.written held.now }
+    requires number { held.now.number ≡ work.old.done + 1 }
+    requires edges { AreEdgesAt view.now held.now.node edges.now }
+    requires wanted { IsWanted view.now.wants.now held.now.site held.now.node }
+    requires taken { (e : AnyEdge) × Has edges.now e × Takes held.now.side held.now.entry e.kind }
+    requires end { IsTrue at_end ↔ EndOf view.now held.now.node }
     ensures added { OnOk result (AreAddedIn view.now work.old.written work.new.written) }
-    ensures work { OnOk result (IsWorkOf view.now work.new) }
+    ensures work { OnOk result (IsWorkingOf view.now work.new) }
     ensures done { OnOk result (work.new.done ≡ work.old.done + 1) }
 {
     let word = held.word();
@@ -158,19 +163,19 @@ fn work_taker(
 fn work_other(
     view: &View<'_>,
     work: &mut Work,
-    held: Held,
+    held: &Held,
     edges: &[Edge],
     at_end: bool,
 ) -> Result<(), NoMemory>
     requires view { IsView view.now }
-    requires work { IsWorkOf view.now work.old }
-    requires held { IsHeld work.old.written held }
-    requires number { held.number ≡ work.old.done + 1 }
-    requires edges { AreEdgesAt view.now held.node edges.now }
-    requires untaken { (e : AnyEdge) → Has edges.now e → Takes held.side held.entry e.kind → ⊥ }
-    requires end { IsTrue at_end ↔ EndOf view.now held.node }
+    requires work { IsWorkingOf view.now work.old }
+    requires held { IsHeld work.old.written held.now }
+    requires number { held.now.number ≡ work.old.done + 1 }
+    requires edges { AreEdgesAt view.now held.now.node edges.now }
+    requires untaken { (e : AnyEdge) → Has edges.now e → Takes held.now.side held.now.entry e.kind → ⊥ }
+    requires end { IsTrue at_end ↔ EndOf view.now held.now.node }
     ensures added { OnOk result (AreAddedIn view.now work.old.written work.new.written) }
-    ensures work { OnOk result (IsWorkOf view.now work.new) }
+    ensures work { OnOk result (IsWorkingOf view.now work.new) }
     ensures done { OnOk result (work.new.done ≡ work.old.done + 1) }
 {
     let spot = held.spot();
@@ -182,14 +187,14 @@ fn work_other(
 }
 
 // Goes past one that put it where it isn't followed.
-fn work_past(view: &View<'_>, work: &mut Work, held: Held, at_end: bool) -> Result<(), NoMemory>
-    requires work { IsWorkOf view.now work.old }
-    requires held { IsHeld work.old.written held }
-    requires number { held.number ≡ work.old.done + 1 }
-    requires unwanted { IsWanted view.now.wants.now held.site held.node → ⊥ }
-    requires end { IsTrue at_end ↔ EndOf view.now held.node }
+fn work_past(view: &View<'_>, work: &mut Work, held: &Held, at_end: bool) -> Result<(), NoMemory>
+    requires work { IsWorkingOf view.now work.old }
+    requires held { IsHeld work.old.written held.now }
+    requires number { held.now.number ≡ work.old.done + 1 }
+    requires unwanted { IsWanted view.now.wants.now held.now.site held.now.node → ⊥ }
+    requires end { IsTrue at_end ↔ EndOf view.now held.now.node }
     ensures added { OnOk result (AreAddedIn view.now work.old.written work.new.written) }
-    ensures work { OnOk result (IsWorkOf view.now work.new) }
+    ensures work { OnOk result (IsWorkingOf view.now work.new) }
     ensures done { OnOk result (work.new.done ≡ work.old.done + 1) }
 {
     file_object(&mut work.spots, held.spot(), held.number, at_end)?;
@@ -198,13 +203,13 @@ fn work_past(view: &View<'_>, work: &mut Work, held: Held, at_end: bool) -> Resu
 }
 
 // Goes through a line that put an object somewhere.
-fn work_at(view: &View<'_>, work: &mut Work, held: Held) -> Result<(), NoMemory>
+fn work_at(view: &View<'_>, work: &mut Work, held: &Held) -> Result<(), NoMemory>
     requires view { IsView view.now }
-    requires work { IsWorkOf view.now work.old }
-    requires held { IsHeld work.old.written held }
-    requires number { held.number ≡ work.old.done + 1 }
+    requires work { IsWorkingOf view.now work.old }
+    requires held { IsHeld work.old.written held.now }
+    requires number { held.now.number ≡ work.old.done + 1 }
     ensures added { OnOk result (AreAddedIn view.now work.old.written work.new.written) }
-    ensures work { OnOk result (IsWorkOf view.now work.new) }
+    ensures work { OnOk result (IsWorkingOf view.now work.new) }
     ensures done { OnOk result (work.new.done ≡ work.old.done + 1) }
 {
     let at_end = view.is_end(held.node);
@@ -220,14 +225,14 @@ fn work_at(view: &View<'_>, work: &mut Work, held: Held) -> Result<(), NoMemory>
 }
 
 // Goes through a line that gave what stands below the first letter of a word.
-fn work_link(view: &View<'_>, work: &mut Work, word: Word, below: Below) -> Result<(), NoMemory>
+fn work_link(view: &View<'_>, work: &mut Work, word: Word, below: &Below) -> Result<(), NoMemory>
     requires view { IsView view.now }
-    requires work { IsWorkOf view.now work.old }
-    requires below { Cites work.old.written.given below.number (Link word.side word.site word.entry below.entry) }
-    requires long { cited_length work.old.written.lengths below.number ≡ below.length }
-    requires number { below.number ≡ work.old.done + 1 }
+    requires work { IsWorkingOf view.now work.old }
+    requires below { Cites work.old.written.given below.now.number (Link word.side word.site word.entry below.now.entry) }
+    requires long { cited_length work.old.written.lengths below.now.number ≡ below.now.length }
+    requires number { below.now.number ≡ work.old.done + 1 }
     ensures added { OnOk result (AreAddedIn view.now work.old.written work.new.written) }
-    ensures work { OnOk result (IsWorkOf view.now work.new) }
+    ensures work { OnOk result (IsWorkingOf view.now work.new) }
     ensures done { OnOk result (work.new.done ≡ work.old.done + 1) }
 {
     let takers = work.takers.at(word);
@@ -238,14 +243,14 @@ fn work_link(view: &View<'_>, work: &mut Work, word: Word, below: Below) -> Resu
 }
 
 // Goes through a line by which an object that is there may be stored.
-fn work_met(view: &View<'_>, work: &mut Work, spot: Spot, meeting: Meeting) -> Result<(), NoMemory>
+fn work_met(view: &View<'_>, work: &mut Work, spot: Spot, meeting: &Meeting) -> Result<(), NoMemory>
     requires view { IsView view.now }
-    requires work { IsWorkOf view.now work.old }
-    requires meets { Cites work.old.written.given meeting.number (Met spot.site meeting.base meeting.store) }
-    requires arg { meeting.store.arg ≡ spot.node }
-    requires number { meeting.number ≡ work.old.done + 1 }
+    requires work { IsWorkingOf view.now work.old }
+    requires meets { Cites work.old.written.given meeting.now.number (Met spot.site meeting.now.base meeting.now.store) }
+    requires arg { meeting.now.store.arg ≡ spot.node }
+    requires number { meeting.now.number ≡ work.old.done + 1 }
     ensures added { OnOk result (AreAddedIn view.now work.old.written work.new.written) }
-    ensures work { OnOk result (IsWorkOf view.now work.new) }
+    ensures work { OnOk result (IsWorkingOf view.now work.new) }
     ensures done { OnOk result (work.new.done ≡ work.old.done + 1) }
 {
     let objects = work.spots.at(spot);
@@ -258,10 +263,10 @@ fn work_met(view: &View<'_>, work: &mut Work, spot: Spot, meeting: Meeting) -> R
 // Goes through the next line.
 fn work_next(view: &View<'_>, work: &mut Work) -> Result<(), NoMemory>
     requires view { IsView view.now }
-    requires work { IsWorkOf view.now work.old }
+    requires work { IsWorkingOf view.now work.old }
     requires more { work.old.done < length work.old.written.given }
     ensures added { OnOk result (AreAddedIn view.now work.old.written work.new.written) }
-    ensures work { OnOk result (IsWorkOf view.now work.new) }
+    ensures work { OnOk result (IsWorkingOf view.now work.new) }
     ensures done { OnOk result (work.new.done ≡ work.old.done + 1) }
 {
     let _count = work.written.len();
@@ -275,7 +280,7 @@ fn work_next(view: &View<'_>, work: &mut Work) -> Result<(), NoMemory>
             node,
         } => {
             let word = Word { side, site, entry };
-            work_at(view, work, Held::new(number, word, node, length))
+            work_at(view, work, &Held::new(number, word, node, length))
         }
         Fact::Link {
             side,
@@ -284,7 +289,7 @@ fn work_next(view: &View<'_>, work: &mut Work) -> Result<(), NoMemory>
             below,
         } => {
             let word = Word { side, site, entry };
-            work_link(view, work, word, Below::new(number, below, length))
+            work_link(view, work, word, &Below::new(number, below, length))
         }
         Fact::Met {
             object,
@@ -292,7 +297,7 @@ fn work_next(view: &View<'_>, work: &mut Work) -> Result<(), NoMemory>
             store,
         } => {
             let meeting = Meeting::new(number, base, store);
-            work_met(view, work, meeting.spot(object), meeting)
+            work_met(view, work, meeting.spot(object), &meeting)
         }
         Fact::Shared { .. } => {
             work.done = number;
@@ -325,9 +330,9 @@ pub fn nothing(alloc: Global, view: &View<'_>) -> Work
     Work {
         written: Written::new(alloc),
         done: 0,
-        takers: Files::new(alloc),
-        links: Files::new(alloc),
-        spots: Files::new(alloc),
-        mets: Files::new(alloc),
+        takers: ByKey::new(alloc),
+        links: ByKey::new(alloc),
+        spots: ByKey::new(alloc),
+        mets: ByKey::new(alloc),
     }
 }

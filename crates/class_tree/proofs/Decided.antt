@@ -261,7 +261,7 @@ true_decided : (b : Bool) → IsDecided (b ≡ true)
 true_decided true = inl refl
 true_decided false = inr (λ e. true≢false (sym e))
 
-not_decided : {P : Type 0} → IsDecided P → IsDecided (P → ⊥)
+pub not_decided : {P : Type 0} → IsDecided P → IsDecided (P → ⊥)
 not_decided (inl p) = inr (λ n. n p)
 not_decided (inr n) = inl n
 

@@ -14,7 +14,9 @@ pub mod TreeFacts
 pub mod Building
 pub mod LookedAt
 pub mod LawFacts
-pub mod KeptPaths
+pub mod Turning
+pub mod Walking
+pub mod Slots
 pub mod Selected
 pub mod Held
 pub mod Lowest

@@ -1,5 +1,5 @@
 -- Default methods, one interface after the other.
-use Rattle.std.proofs.Common.{◌≡◌, ◌≢◌, ℕ, ◌+◌, ◌<◌, ◌≤◌, ◌⊎◌, ◌↔◌, Bool, true, true≢false, Option, Some, None, List, slice_get, get_or, length, refl, sym, ap, subst, ◌∙◌, inl, inr, arith}
+use Rattle.std.proofs.Common.{◌≡◌, ◌≢◌, ℕ, zero, suc, ◌+◌, ◌<◌, ◌≤◌, ◌⊎◌, ◌↔◌, Bool, true, true≢false, Option, Some, None, List, [], ◌∷◌, slice_get, get_or, drop, length, refl, sym, ap, subst, ◌∙◌, inl, inr, arith}
 use Rattle.std.specs.List.{Contains}
 use Rattle.std.specs.Option.{is_some}
 use Rattle.std.proofs.lemmas.Bool.{cases_eq}
@@ -12,13 +12,25 @@ use Rattle.class_tree.specs.declared.tree.Defaults.{Defaults}
 use Rattle.class_tree.specs.declared.tree.Defaults.TheVariants.{Nothing, One, Several}
 use Rattle.class_tree.specs.Defaults.{AreDefaults, HasTwo, IsDefaultFrom}
 use Rattle.class_tree.specs.Holders.{holders_of}
-use Rattle.class_tree.specs.Indexed.{HoldsMethod}
+use Rattle.class_tree.specs.Indexed.{AreReached, HoldsMethod}
 use Rattle.class_tree.specs.Lookups.{IsAmbiguous, IsDefault, IsHolder, IsLowestHolder, OnPath, Resolve, ambiguous, by_default, nowhere, own_row}
 use Rattle.class_tree.specs.Rows.{Rows, Sub}
 use Rattle.class_tree.proofs.LawFacts.{path_one}
 use Rattle.class_tree.proofs.Selected.{owned_row}
 
 -- ---- holders
+
+-- what is left of a list when the first are dropped
+Contains-dropped : (n : ℕ) (xs : List ℕ) (x : ℕ) → Contains (drop n xs) x → Contains xs x
+Contains-dropped zero xs x c = c
+Contains-dropped (suc n) [] x c = c
+Contains-dropped (suc n) (y ∷ xs) x c = let m = Contains-dropped n xs x c in (suc m.0, omega (arith, m.1), m.2)
+
+Contains-drop_from : (n : ℕ) (xs : List ℕ) (i x : ℕ) → n ≤ i → i < length xs → get_or xs i x ≡ x → Contains (drop n xs) x
+Contains-drop_from zero xs i x le h e = (i, h, e)
+Contains-drop_from (suc n) [] i x le h e = absurd (omega arith)
+Contains-drop_from (suc n) (y ∷ xs) zero x le h e = absurd (omega arith)
+Contains-drop_from (suc n) (y ∷ xs) (suc i) x le h e = Contains-drop_from n xs i x (omega arith) (omega arith) e
 
 pub holder_from : (rows : Rows) (class key b : ℕ) → Sub rows class b → HoldsMethod rows b key → IsHolder rows class key b
 holder_from rows class key b s h = record {
@@ -48,6 +60,25 @@ listed rows h key interfaces e all b = subst (λ xs. Contains xs b ↔ HoldsMeth
 pub listed_held : (rows : Rows) (key : ℕ) (interfaces : List ℕ) → ((b : ℕ) → Contains interfaces b ↔ HoldsMethod rows b key) → (i : ℕ) → i < length interfaces → HoldsMethod rows (get_or interfaces i 0) key
 listed_held rows key interfaces all i h = (all (get_or interfaces i 0)).0 (Contains-get_or interfaces i 0 h)
 
+-- those from the first on that the class reaches are all that it reaches
+pub reached_from : (rows : Rows) (class key from : ℕ) (interfaces : List ℕ) → ((b : ℕ) → Contains interfaces b ↔ HoldsMethod rows b key)
+    → ((k b : ℕ) → k < from → slice_get interfaces k ≡ Some b → Sub rows class b → ⊥) → AreReached rows class key (drop from interfaces)
+reached_from rows class key from interfaces all before = record {
+  held = λ b m. (all b).0 (Contains-dropped from interfaces b m);
+  all = λ b h.
+      let m = (all b).1 (held_by rows class key b h) in
+      elim (below_or m.0 from) [
+        | inl less ↦ absurd (before m.0 b less (slice_get-get_or interfaces m.0 b m.1 ∙ ap Some m.2) h.reached)
+        | inr more ↦ Contains-drop_from from interfaces m.0 b more m.1 m.2
+      ];
+}
+  where
+    below_or : (a b : ℕ) → (a < b) ⊎ (b ≤ a)
+    below_or a b = grind arith
+
+pub reached_at : (rows : Rows) (class key : ℕ) (interfaces : List ℕ) → AreReached rows class key interfaces → (i : ℕ) → i < length interfaces → HoldsMethod rows (get_or interfaces i 0) key
+reached_at rows class key interfaces r i h = r.held (get_or interfaces i 0) (Contains-get_or interfaces i 0 h)
+
 -- ---- no default method, one, or more
 
 pub same_defaults : (P Q : ℕ → Type 0) → ((row : ℕ) → P row → Q row) → ((row : ℕ) → Q row → P row) → (d : Defaults) → AreDefaults P d → AreDefaults Q d
@@ -71,10 +102,10 @@ module _ (rows : Rows) (class key : ℕ) (interfaces : List ℕ) where
   default_of count row d =
       record { interface = d.interface; lowest = d.default.lowest; first = d.default.first; method = d.default.method; there = d.default.there; bodied = d.default.bodied }
 
-  module _ (all : (b : ℕ) → Contains interfaces b ↔ HoldsMethod rows b key) where
+  module _ (reached : AreReached rows class key interfaces) where
     of_default : (count row : ℕ) → length interfaces ≤ count → IsDefault rows class key row → IsDefaultOf rows class key interfaces count row
     of_default count row past d =
-        let m = (all d.interface).1 (held_by rows class key d.interface d.lowest.holder) in
+        let m = reached.all d.interface d.lowest.holder in
         record {
           index = m.0;
           interface = d.interface;
@@ -137,12 +168,12 @@ two_are_several P Several are two = refl
 -- ---- the lowest
 
 -- no other of the holders is below the interface
-pub is_lowest_of : (rows : Rows) (class key interface : ℕ) (interfaces : List ℕ) → ((b : ℕ) → Contains interfaces b ↔ HoldsMethod rows b key) → IsHolder rows class key interface
+pub is_lowest_of : (rows : Rows) (class key interface : ℕ) (interfaces : List ℕ) → AreReached rows class key interfaces → IsHolder rows class key interface
     → ((k b : ℕ) → k < length interfaces → slice_get interfaces k ≡ Some b → Sub rows class b → Sub rows b interface → b ≡ interface) → IsLowestHolder rows class key interface
-is_lowest_of rows class key interface interfaces all holder none = record {
+is_lowest_of rows class key interface interfaces reached holder none = record {
   holder = holder;
   lowest = λ other h s.
-      let m = (all other).1 (held_by rows class key other h) in
+      let m = reached.all other h in
       none m.0 other m.1 (slice_get-get_or interfaces m.0 other m.1 ∙ ap Some m.2) h.reached s;
 }
 

@@ -16,7 +16,7 @@ use Rattle.class_tree.specs.declared.finish.Stage.TheVariants.{New, Open, Done}
 use Rattle.class_tree.specs.declared.finish.Visit.{Visit}
 use Rattle.class_tree.specs.Groups.{group}
 use Rattle.class_tree.specs.Paths.{Path, here, step, ProperPath}
-use Rattle.class_tree.specs.Tables.{Under, IsDepthFirst, IsSettled, IsSearch, IsStraight, HasBegun}
+use Rattle.class_tree.specs.Tables.{IsFinishing, Under, IsDepthFirst, IsSettled, IsSearch, IsStraight, HasBegun}
 use Rattle.class_tree.proofs.Listed.{Contains-nil, slice_get-kept, slice_get-push, slice_get-push_cases, slice_get-set_same, slice_get-set_other, slice_get-take_push, same_read}
 
 -- ---- how many classes are new
@@ -78,6 +78,12 @@ bent P C false e m = m
 pub unbent : (P C : Type 0) (straight : Bool) → straight ≡ true → MatchBool straight P C → P
 unbent P C true e m = m
 unbent P C false e m = absurd (true≢false (sym e))
+
+-- where no class is below itself, the order is straight
+pub finishing_by : (below : List (List ℕ)) (order : List ℕ) (straight : Bool) → MatchBool straight (IsFinishing below order) ((a : ℕ) × ProperPath (Under below) a a)
+    → ((a : ℕ) → ProperPath (Under below) a a → ⊥) → IsFinishing below order
+finishing_by below order true m acyclic = m
+finishing_by below order false m acyclic = absurd (acyclic m.0 m.1)
 
 -- no more classes stand in the order than there are
 pub settled_bound : (below : List (List ℕ)) (order : List ℕ) → IsSettled below order → length order ≤ length below

@@ -3,6 +3,7 @@ use Rattle.std.specs.Prelude.{◌≡◌, ℕ, ◌<◌, ◌^◌, ◌↔◌, List,
 use Rattle.class_tree.specs.declared.key_spans.KeySpans.{KeySpans}
 use Rattle.class_tree.specs.declared.kept.KeptRows.{KeptRows}
 use Rattle.class_tree.specs.declared.members.Members.{Members}
+use Rattle.class_tree.specs.declared.inherited.Inherited.{Inherited}
 use Rattle.class_tree.specs.declared.rows.ClassRow.{ClassRow}
 use Rattle.class_tree.specs.declared.rows.MethodRow.{MethodRow}
 use Rattle.class_tree.specs.declared.rows.FieldRow.{FieldRow}
@@ -11,11 +12,12 @@ use Rattle.class_tree.specs.FirstRows.{row_at}
 use Rattle.class_tree.specs.Groups.{group}
 use Rattle.class_tree.specs.Holders.{AreHolders, IsInterface, holders_of}
 use Rattle.class_tree.specs.KeySpans.{IsKeyed, member_of_field, member_of_method, spans_of}
-use Rattle.class_tree.specs.Lookups.{own_body, own_field, own_row, Declared}
+use Rattle.class_tree.specs.Lookups.{own_body, own_field, own_row, Declared, IsHolder}
 use Rattle.class_tree.specs.Paths.{Path}
 use Rattle.class_tree.specs.Rows.{Rows, rows_of, NameClasses, NamesUnknown, IsOwnAncestor, Step, HasInterface, interfaces_of}
 use Rattle.class_tree.specs.Spans.{AreApart, Holds}
 use Rattle.class_tree.specs.Tables.{IsReach, Under}
+use Rattle.class_tree.specs.Inherited.{AreInherited}
 
 -- every parent and interface is a class, and no class is its own ancestor
 pub record IsHierarchy (rows : Rows) : Type 0 where
@@ -50,6 +52,11 @@ pub record HoldsMethod (rows : Rows) (interface key : ℕ) : Type 0 where
   pub row : ℕ
   pub own : own_row rows.methods interface key ≡ Some row
 
+-- interfaces with a method of this key, among them all that the class reaches
+pub record AreReached (rows : Rows) (class key : ℕ) (interfaces : List ℕ) : Type 0 where
+  pub held : (b : ℕ) → Contains interfaces b → HoldsMethod rows b key
+  pub all : (b : ℕ) → IsHolder rows class key b → Contains interfaces b
+
 -- what is kept of methods and fields, over the tables of all steps and of the interfaces alone
 pub record AreMembers (classes : List ClassRow) (methods : List MethodRow) (fields : List FieldRow) (reach near : List (List Span)) (m : Members) : Type 0 where
   pub declares : IsKeyed (map member_of_method methods) reach m.declared
@@ -60,7 +67,7 @@ pub record AreMembers (classes : List ClassRow) (methods : List MethodRow) (fiel
   pub own_fields : (c k : ℕ) → row_at m.own_fields c k ≡ own_field fields c k
 
 -- the tables say what the rows say
-pub record IsIndexed (rows : Rows) (below interfaces : List (List ℕ)) (places : List ℕ) (reach : List (List Span)) (members : Members) : Type 0 where
+pub record IsIndexed (rows : Rows) (below interfaces : List (List ℕ)) (places : List ℕ) (reach : List (List Span)) (members : Members) (inherited : Inherited) : Type 0 where
   pub named : NameClasses rows
   pub hierarchy : IsHierarchy rows
   pub placed : ArePlaced rows places
@@ -77,6 +84,7 @@ pub record IsIndexed (rows : Rows) (below interfaces : List (List ℕ)) (places 
   pub holders_len : length members.holders.interfaces ≡ length members.holders.keys.keys
   pub holders : (b k : ℕ) → Contains (holders_of members.holders k) b ↔ HoldsMethod rows b k
   pub fields : (c k : ℕ) → row_at members.own_fields c k ≡ own_field rows.fields c k
+  pub along : AreInherited rows inherited
 
 -- the class is the first of those for which there is such a field
 pub record IsFirstNear (rows : Rows) (classes : List ℕ) (key class : ℕ) : Type 0 where

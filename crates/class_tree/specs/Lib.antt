@@ -2,7 +2,6 @@ pub mod Bodies
 pub mod FirstRows
 pub mod Groups
 pub mod Lookups
-pub mod PathRows
 pub mod Orders
 pub mod Paths
 pub mod Rows
@@ -11,5 +10,7 @@ pub mod Spans
 pub mod KeySpans
 pub mod Holders
 pub mod Indexed
+pub mod Inherited
 pub mod Defaults
+pub mod Turns
 pub mod Laws

@@ -1,11 +1,14 @@
-ghost use Rattle.std.specs.Prelude.{◌≡◌, ◌<◌, ◌↔◌, length, All, Contains, IfOk};
+ghost use Rattle.std.specs.Prelude.{◌≡◌, ◌<◌, ◌↔◌, length, All, Contains, IfOk, slice_get, Some};
 ghost use Rattle.class_tree.specs.declared.first_rows.Member.{Member};
+ghost use Rattle.class_tree.specs.declared.spans.Span.{Span as ASpan};
+ghost use Rattle.class_tree.specs.Groups.{group};
 ghost use Rattle.class_tree.specs.Holders.{AreHolders, IsInterface, holders_of};
 
 use super::first_rows::Member;
 use super::groups::Groups;
 use super::key_spans::{classes_by_key, keys_of};
 use super::rows::ClassRow;
+use super::spans::Span;
 use indexmap::IndexSet;
 use std::alloc::{AllocError, Global};
 
@@ -34,13 +37,34 @@ fn in_interfaces(
     Ok(found)
 }
 
+// Where the spans of the class begin: at its own place, since those below it have later ones.
+fn start_of(reach: &Groups<Span>, class: u32) -> u32
+    ensures { (s : ASpan) → slice_get (group reach.now class) 0 ≡ Some s → result ≡ s.start }
+{
+    if class as usize >= reach.len() {
+        return 0;
+    }
+    match reach.get(class as usize).first() {
+        Some(span) => span.start,
+        None => 0,
+    }
+}
+
 impl Holders {
-    /// The interfaces of each key of the members.
-    pub fn new(alloc: Global, classes: &[ClassRow], members: &[Member]) -> Result<Self, AllocError>
+    /// The interfaces of each key of the members. `reach` has for each class the places of those from
+    /// which it is reached.
+    pub fn new(
+        alloc: Global,
+        classes: &[ClassRow],
+        members: &[Member],
+        reach: &Groups<Span>,
+    ) -> Result<Self, AllocError>
         requires { All (λ m. m.class < length classes.now) members.now }
         ensures { IfOk result (AreHolders classes.now members.now) }
     {
-        let found = in_interfaces(alloc, classes, members)?;
+        let mut found = in_interfaces(alloc, classes, members)?;
+        // Those below come first, so that a look-up soon meets what hides the others.
+        found.sort_unstable_by_key(|member| u32::MAX - start_of(reach, member.class));
         let keys = keys_of(alloc, found.as_slice())?;
         let interfaces = classes_by_key(alloc, found.as_slice(), &keys)?;
         Ok(Holders { keys, interfaces })

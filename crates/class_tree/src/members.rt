@@ -49,7 +49,7 @@ impl Members {
             near_fields: KeySpans::new(alloc, of_fields.as_slice(), near)?,
             bodies: FirstRows::of_bodies(alloc, methods)?,
             interface_rows: FirstRows::of_interfaces(alloc, classes, methods)?,
-            holders: Holders::new(alloc, classes, of_methods.as_slice())?,
+            holders: Holders::new(alloc, classes, of_methods.as_slice(), reach)?,
             own_fields: FirstRows::of_fields(alloc, fields)?,
         })
     }

@@ -1,4 +1,4 @@
-ghost use Rattle.std.specs.Prelude.{ℕ, ◌^◌, ◌<◌, length, IfOk};
+ghost use Rattle.std.specs.Prelude.{◌≡◌, ℕ, ◌+◌, ◌^◌, ◌<◌, length, IfOk, Some, slice_get, slice_index};
 ghost use Rattle.class_tree.specs.Tables.{ArePlaces, IsFinishing, Under};
 
 use super::groups::Groups;
@@ -9,7 +9,8 @@ pub fn places_of(alloc: Global, below: &Groups<u32>, order: &[u32]) -> Result<Ve
     requires few { length below.now < 2 ^ 32 }
     requires known { (a b : ℕ) → Under below.now a b → a < length below.now }
     requires order { IsFinishing below.now order.now }
-    ensures { IfOk result (λ places. ArePlaces below.now places.items) }
+    ensures places { IfOk result (λ places. ArePlaces below.now places.items) }
+    ensures each { IfOk result (λ places. (i c : ℕ) → slice_get order.now i ≡ Some c → slice_index places.items c + 1 + i ≡ length order.now) }
 {
     let mut places = vec![in alloc; 0; below.len()]?;
     for (at, class) in order.iter().enumerate() {

@@ -7,8 +7,8 @@ use super::groups::Groups;
 use super::rows::ClassRow;
 use std::alloc::{AllocError, Global};
 
-// For each class those that name it as their parent.
-fn children(alloc: Global, classes: &[ClassRow]) -> Result<Groups<u32>, AllocError>
+/// For each class those that name it as their parent.
+pub fn children(alloc: Global, classes: &[ClassRow]) -> Result<Groups<u32>, AllocError>
     requires few { length classes.now < 2 ^ 32 }
     requires known { (a b : ℕ) → HasParent classes.now a b → b < length classes.now }
     ensures len { IfOk result (λ below. length below ≡ length classes.now) }

@@ -1,7 +1,6 @@
-ghost use Rattle.std.specs.Prelude.{◌≡◌, ℕ, ◌^◌, ◌<◌, ◌↔◌, length, All, AllPairs, Contains, IsTrue, IfOk, IfNone, IfSome, OnOk, Some, Err};
+ghost use Rattle.std.specs.Prelude.{◌≡◌, ℕ, ◌^◌, ◌<◌, ◌↔◌, length, All, AllPairs, Contains, IsTrue, IfOk, IfNone, IfSome, Some, Err};
 ghost use Rattle.class_tree.specs.Defaults.{AreDefaults, IsDefaultFrom};
-ghost use Rattle.class_tree.specs.Indexed.{HasFieldNear, HoldsMethod, IsFirstNear};
-ghost use Rattle.class_tree.specs.PathRows.{ArePathRows};
+ghost use Rattle.class_tree.specs.Indexed.{AreReached, HasFieldNear, HoldsMethod, IsFirstNear};
 ghost use Rattle.lists.specs.Lists.{IsLeast};
 ghost use Rattle.class_tree.specs.Rows.{rows_of, NameClasses, NamesUnknown, IsOwnAncestor, Step, Sub, HasParent, interfaces_of};
 ghost use Rattle.class_tree.specs.Tables.{IsFinishing, Under};
@@ -10,9 +9,9 @@ ghost use Rattle.class_tree.specs.Lookups.{own_body, Declared, FieldHere, FieldO
 use super::cycles::least_cyclic;
 use super::finish::{finish_order, tops_first};
 use super::groups::Groups;
+use super::inherited::Inherited;
 use super::kept::KeptRows;
 use super::members::Members;
-use super::path_rows::PathRows;
 use super::places::places_of;
 use super::reach::{near_spans, reach_spans};
 use super::rows::{ClassRow, FieldRow, MethodRow, TreeError};
@@ -24,10 +23,10 @@ use std::alloc::{AllocError, Global};
 use std::marker::Model;
 
 /// The hierarchy of the classes of some rows. Contracts see it as these rows. Its look-ups take no
-/// memory, `below` and `on_kept_path` apart. `sub` and `declared` take a search in a short sorted
-/// list, `own_body` a hashed look-up, `on_path` and `field` one for each parent on the way, and
-/// `on_kept_path` one for each that no look-up before it has passed. `resolve` and `ambiguous` go on
-/// from there to the interfaces that have a method with the key, where there are any.
+/// memory, `below` apart. `sub` takes a search in a sorted list, `own_body` a hashed look-up, and
+/// `declared` and `on_path` one of both. So does `field`, but where an interface has a field with the
+/// key: then it takes hashed look-ups for each parent on the way. `resolve` and `ambiguous` go on from
+/// `on_path` to the interfaces that have a method with the key, where there are any.
 #[derive(Drop)]
 pub struct Tree {
     rows: KeptRows,
@@ -36,6 +35,7 @@ pub struct Tree {
     places: Vec<u32>,
     reach: Groups<Span>,
     members: Members,
+    inherited: Inherited,
 }
 
 impl Model for Tree {
@@ -46,7 +46,7 @@ impl Model for Tree {
 
     ghost view = { λ t. rows_in t.rows };
 
-    ghost invariant = { λ t. IsIndexed (rows_in t.rows) t.below t.interfaces t.places.items t.reach t.members };
+    ghost invariant = { λ t. IsIndexed (rows_in t.rows) t.below t.interfaces t.places.items t.reach t.members t.inherited };
 }
 
 /// The default methods that a class reaches for a key, by their rows.
@@ -56,16 +56,6 @@ pub enum Defaults {
     One(u32),
     Several,
 }
-
-// What a walk along the parents has come to.
-#[derive(Clone, Copy)]
-struct Climb {
-    row: Option<u32>,
-    long: bool,
-}
-
-// Along so many parents a walk is taken anew each time.
-const SHORT: u32 = 8;
 
 /// The tree of the rows. A class is named by its index in `classes`, and `implements` has pairs of a
 /// class and one of its interfaces, in the order in which fields are looked for.
@@ -135,6 +125,7 @@ fn indexed(
     let reach = reach_spans(alloc, &below, order, places.as_slice())?;
     let near = near_spans(alloc, implements, &below, order, places.as_slice())?;
     let members = Members::new(alloc, classes, methods, fields, &reach, &near)?;
+    let inherited = Inherited::new(alloc, classes, implements, methods, fields, &members)?;
     let interfaces = interface_lists(alloc, classes.len(), implements)?;
     let rows = KeptRows::copy_of(alloc, classes, implements, methods, fields)?;
     Ok(Tree {
@@ -144,6 +135,7 @@ fn indexed(
         places,
         reach,
         members,
+        inherited,
     })
 }
 
@@ -177,96 +169,31 @@ impl Tree {
         requires { class < length self.now.classes }
         ensures { OnPath self.now class key result }
     {
-        let mut at = class;
-        loop {
-            if let Some(row) = self.members.bodies.get(at, key) {
-                return Some(row);
-            }
-            match self.rows.classes[at as usize].parent {
-                Some(parent) => at = parent,
-                None => return None,
-            }
-        }
+        self.inherited.methods.find(class, key)
     }
 
-    // What a look-up from the class gives: the walk ends where more is kept.
-    fn climb(&self, kept: &PathRows, class: u32, key: u32) -> Climb
-        requires class { class < length self.now.classes }
-        requires kept { ArePathRows self.now key kept.now }
-        ensures { OnPath self.now class key result.row }
+    // The interfaces that have a method of this key, from the first on that the class reaches.
+    fn reached(&self, class: u32, key: u32) -> &[u32]
+        requires { class < length self.now.classes }
+        ensures { AreReached self.now class key result.now }
     {
-        let mut at = class;
-        let mut short = SHORT;
-        loop {
-            let long = short == 0;
-            let row = self.members.bodies.get(at, key);
-            if row.is_some() {
-                return Climb { row, long };
-            }
-            if let Some(row) = kept.get(at) {
-                return Climb { row, long };
-            }
-            match self.rows.classes[at as usize].parent {
-                Some(parent) => at = parent,
-                None => return Climb { row: None, long },
-            }
-            short = short.saturating_sub(1);
+        let holders = self.members.holders.of(key);
+        let mut from = 0;
+        while from < holders.len() && !self.sub(class, holders[from]) {
+            from += 1;
         }
+        &holders[from..]
     }
 
-    // Keeps what a look-up from the class gives, for all classes on its way.
-    fn keep_on_way(
-        &self,
-        kept: &mut PathRows,
-        class: u32,
-        key: u32,
-        row: Option<u32>,
-    ) -> Result<(), AllocError>
+    // Whether none of the others is below this interface, among which are all with a method of this
+    // key that the class reaches.
+    fn is_lowest(&self, class: u32, key: u32, reached: &[u32], interface: u32) -> bool
         requires class { class < length self.now.classes }
-        requires kept { ArePathRows self.now key kept.old }
-        requires row { OnPath self.now class key row }
-        ensures { OnOk result (ArePathRows self.now key kept.new) }
-    {
-        let mut at = class;
-        while self.members.bodies.get(at, key).is_none() && kept.get(at).is_none() {
-            kept.keep(at, row)?;
-            match self.rows.classes[at as usize].parent {
-                Some(parent) => at = parent,
-                None => return Ok(()),
-            }
-        }
-        Ok(())
-    }
-
-    /// What `on_path` gives. Where the way is long, it is kept for each class on it, so that look-ups
-    /// of one key from many classes pass no class of a long way twice. `NoMemory` comes where it
-    /// can't be kept.
-    pub fn on_kept_path(
-        &self,
-        kept: &mut PathRows,
-        class: u32,
-        key: u32,
-    ) -> Result<Option<u32>, AllocError>
-        requires class { class < length self.now.classes }
-        requires kept { ArePathRows self.now key kept.old }
-        ensures found { IfOk result (OnPath self.now class key) }
-        ensures kept { OnOk result (ArePathRows self.now key kept.new) }
-    {
-        let climb = self.climb(kept, class, key);
-        if climb.long {
-            self.keep_on_way(kept, class, key, climb.row)?;
-        }
-        Ok(climb.row)
-    }
-
-    // Whether no other interface that the class reaches and that has a method of this key is below
-    // this one.
-    fn is_lowest(&self, class: u32, key: u32, interface: u32) -> bool
-        requires class { class < length self.now.classes }
+        requires reached { AreReached self.now class key reached.now }
         requires holder { IsHolder self.now class key interface }
         ensures { IsTrue result ↔ IsLowestHolder self.now class key interface }
     {
-        for other in self.members.holders.of(key) {
+        for other in reached {
             if *other != interface && self.sub(class, *other) && self.sub(*other, interface) {
                 return false;
             }
@@ -274,9 +201,10 @@ impl Tree {
         true
     }
 
-    // The row of the default method that comes from this interface.
-    fn default_from(&self, class: u32, key: u32, interface: u32) -> Option<u32>
+    // The row of the default method that comes from this interface, one of those reached.
+    fn default_from(&self, class: u32, key: u32, reached: &[u32], interface: u32) -> Option<u32>
         requires class { class < length self.now.classes }
+        requires reached { AreReached self.now class key reached.now }
         requires holder { HoldsMethod self.now interface key }
         ensures { (row : ℕ) → (result ≡ Some row) ↔ IsDefaultFrom self.now class key interface row }
     {
@@ -285,7 +213,7 @@ impl Tree {
         }
         let row = self.members.interface_rows.get(interface, key)?;
         if self.rows.methods[row as usize].body.has_body()
-            && self.is_lowest(class, key, interface)
+            && self.is_lowest(class, key, reached, interface)
         {
             Some(row)
         } else {
@@ -299,8 +227,9 @@ impl Tree {
         ensures { AreDefaults (IsDefault self.now class key) result }
     {
         let mut found = Defaults::Nothing;
-        for interface in self.members.holders.of(key) {
-            if let Some(row) = self.default_from(class, key, *interface) {
+        let reached = self.reached(class, key);
+        for interface in reached {
+            if let Some(row) = self.default_from(class, key, reached, *interface) {
                 match found {
                     Defaults::Nothing => found = Defaults::One(row),
                     Defaults::One(first) if first == row => {}
@@ -412,10 +341,8 @@ impl Tree {
         }
     }
 
-    /// The row of the field with this key that the class has or inherits: its own first row, or
-    /// else that of its interfaces in order, each with its own interfaces, or else its parent's. A
-    /// row is an index in the list of fields.
-    pub fn field(&self, class: u32, key: u32) -> Option<u32>
+    // What `field` gives, class by class.
+    fn field_by_classes(&self, class: u32, key: u32) -> Option<u32>
         requires { class < length self.now.classes }
         ensures { FieldOf self.now class key result }
     {
@@ -429,5 +356,18 @@ impl Tree {
                 None => return None,
             }
         }
+    }
+
+    /// The row of the field with this key that the class has or inherits: its own first row, or
+    /// else that of its interfaces in order, each with its own interfaces, or else its parent's. A
+    /// row is an index in the list of fields.
+    pub fn field(&self, class: u32, key: u32) -> Option<u32>
+        requires { class < length self.now.classes }
+        ensures { FieldOf self.now class key result }
+    {
+        if self.inherited.of_interfaces.contains(&key) {
+            return self.field_by_classes(class, key);
+        }
+        self.inherited.fields.find(class, key)
     }
 }

@@ -1,32 +1,10 @@
 -- A list behind another one.
-use Rattle.std.proofs.Common.{◌≡◌, ℕ, zero, suc, ◌+◌, ◌⊎◌, List, [], ◌∷◌, ◌++◌, length, slice_get, Some, refl, sym, ap, ◌∙◌, inl, inr, arith, ◌<◌, take, get_or}
+use Rattle.std.proofs.Common.{◌≡◌, ℕ, zero, suc, ◌+◌, ◌⊎◌, List, [], ◌∷◌, ◌++◌, length, slice_get, refl, sym, ap, ◌∙◌, inl, inr, ◌<◌, take, get_or}
 use Rattle.std.proofs.lemmas.List.{take_more}
 use Rattle.lists.specs.Lists.{Has, IsApart, AreAll}
-use Rattle.lists.proofs.Places.{slice_get-append_left}
+use Rattle.lists.proofs.Joined.{Has-either, Has-left, Has-right, slice_get-appended, slice_get-taken}
 
 module _ {X : Type 0} where
-  -- the second list stands behind the first
-  pub slice_get-append_right : (xs ys : List X) (i : ℕ) → slice_get (xs ++ ys) (length xs + i) ≡ slice_get ys i
-  slice_get-append_right [] ys i = let e : 0 + i ≡ i = omega arith in ap (slice_get ys) e
-  slice_get-append_right (x ∷ xs) ys i =
-      let e : suc (length xs) + i ≡ suc (length xs + i) = omega arith in
-      ap (slice_get (x ∷ xs ++ ys)) e ∙ slice_get-append_right xs ys i
-
-  -- what stands in both lists together stands in one of them
-  pub slice_get-appended : (xs ys : List X) (i : ℕ) (x : X) → slice_get (xs ++ ys) i ≡ Some x → (slice_get xs i ≡ Some x) ⊎ ((j : ℕ) × (i ≡ length xs + j) × (slice_get ys j ≡ Some x))
-  slice_get-appended [] ys i x h = inr (i, omega arith, h)
-  slice_get-appended (y ∷ xs) ys zero x h = inl h
-  slice_get-appended (y ∷ xs) ys (suc i) x h = elim (slice_get-appended xs ys i x h) [ inl a ↦ inl a | inr b ↦ inr (b.0, omega (arith, b.1), b.2) ]
-
-  pub Has-append_left : (xs ys : List X) (x : X) → Has xs x → Has (xs ++ ys) x
-  Has-append_left xs ys x h = (h.0, slice_get-append_left xs ys h.0 x h.1)
-
-  pub Has-append_right : (xs ys : List X) (x : X) → Has ys x → Has (xs ++ ys) x
-  Has-append_right xs ys x h = (length xs + h.0, slice_get-append_right xs ys h.0 ∙ h.1)
-
-  pub Has-appended : (xs ys : List X) (x : X) → Has (xs ++ ys) x → Has xs x ⊎ Has ys x
-  Has-appended xs ys x h = elim (slice_get-appended xs ys h.0 x h.1) [ inl a ↦ inl (h.0, a) | inr b ↦ inr (b.0, b.2) ]
-
   -- one element
   pub Has-one : (x y : X) → Has (x ∷ []) y → y ≡ x
   Has-one x y (zero, h) = cc
@@ -55,27 +33,20 @@ module _ {X : Type 0} where
   -- those of either fact, which have no element in common
   pub AreAll-append : {P Q : X → Type 0} (xs ys : List X) → AreAll P xs → AreAll Q ys → ((x : X) → P x → Q x → ⊥) → AreAll (λ x. P x ⊎ Q x) (xs ++ ys)
   AreAll-append xs ys first second none = record {
-    each = λ x h. elim (Has-appended xs ys x h) [ inl a ↦ inl (first.each x a) | inr b ↦ inr (second.each x b) ];
-    all = λ x h. elim h [ inl a ↦ Has-append_left xs ys x (first.all x a) | inr b ↦ Has-append_right xs ys x (second.all x b) ];
+    each = λ x h. elim (Has-either xs ys x h) [ inl a ↦ inl (first.each x a) | inr b ↦ inr (second.each x b) ];
+    all = λ x h. elim h [ inl a ↦ Has-left xs ys x (first.all x a) | inr b ↦ Has-right xs ys x (second.all x b) ];
     apart = IsApart-append xs ys first.apart second.apart (λ x a b. none x (first.each x a) (second.each x b));
   }
 
   -- in one more element
   pub Has-take_more : (xs : List X) (i : ℕ) (d x : X) → i < length xs → Has (take (i + 1) xs) x → Has (take i xs) x ⊎ (x ≡ get_or xs i d)
-  Has-take_more xs i d x h has = elim (Has-appended (take i xs) (get_or xs i d ∷ []) x (rw (take_more xs i d h) at has)) [ inl a ↦ inl a | inr b ↦ inr (Has-one (get_or xs i d) x b) ]
+  Has-take_more xs i d x h has = elim (Has-either (take i xs) (get_or xs i d ∷ []) x (rw (take_more xs i d h) at has)) [ inl a ↦ inl a | inr b ↦ inr (Has-one (get_or xs i d) x b) ]
 
   pub Has-take_kept : (xs : List X) (i : ℕ) (d x : X) → i < length xs → Has (take i xs) x → Has (take (i + 1) xs) x
-  Has-take_kept xs i d x h has = rw (take_more xs i d h) (Has-append_left (take i xs) (get_or xs i d ∷ []) x has)
+  Has-take_kept xs i d x h has = rw (take_more xs i d h) (Has-left (take i xs) (get_or xs i d ∷ []) x has)
 
   pub Has-take_last : (xs : List X) (i : ℕ) (d : X) → i < length xs → Has (take (i + 1) xs) (get_or xs i d)
-  Has-take_last xs i d h = rw (take_more xs i d h) (Has-append_right (take i xs) (get_or xs i d ∷ []) (get_or xs i d) (0, refl))
-
-  -- what stands among the first elements
-  pub slice_get-take : (k : ℕ) (xs : List X) (i : ℕ) (x : X) → slice_get (take k xs) i ≡ Some x → slice_get xs i ≡ Some x
-  slice_get-take zero xs i x h = cc
-  slice_get-take (suc k) [] i x h = cc
-  slice_get-take (suc k) (y ∷ xs) zero x h = h
-  slice_get-take (suc k) (y ∷ xs) (suc i) x h = slice_get-take k xs i x h
+  Has-take_last xs i d h = rw (take_more xs i d h) (Has-right (take i xs) (get_or xs i d ∷ []) (get_or xs i d) (0, refl))
 
   pub Has-take : (k : ℕ) (xs : List X) (x : X) → Has (take k xs) x → Has xs x
-  Has-take k xs x h = (h.0, slice_get-take k xs h.0 x h.1)
+  Has-take k xs x h = (h.0, slice_get-taken k xs h.0 x h.1)

@@ -3,10 +3,11 @@ use Rattle.std.proofs.Common.{◌≡◌, ◌∙◌, ℕ, ◌≤◌, ◌<◌, ◌
 use Rattle.std.proofs.lemmas.List.{append-nil, take_more}
 use Rattle.std.specs.declared.option.Option.{Option}
 use Rattle.lists.specs.Lists.{Has, IsApart}
+use Rattle.lists.proofs.Joined.{slice_get-taken}
 use Rattle.spds_rules.specs.declared.node.Node.{Node}
 use Rattle.demand_set.specs.Graphs.{Asks}
 use Rattle.demand_set.specs.Walks.{AsksFew}
-use Rattle.demand_set.proofs.Appended.{Has-take, slice_get-take}
+use Rattle.demand_set.proofs.Appended.{Has-take}
 
 -- nothing was asked for
 pub Asks-none : (before : Option (List Node)) → Asks before [] before
@@ -32,7 +33,7 @@ AsksFew-take Fact most k nodes before now each apart few asked = record {
   nodes = take k nodes;
   asked = asked;
   each = λ n h. each n (Has-take k nodes n h);
-  apart = λ i j n a b. apart i j n (slice_get-take k nodes i n a) (slice_get-take k nodes j n b);
+  apart = λ i j n a b. apart i j n (slice_get-taken k nodes i n a) (slice_get-taken k nodes j n b);
   few = omega (arith, length-take k nodes, few);
 }
 

@@ -3,6 +3,7 @@ use Rattle.std.proofs.Common.{◌≡◌, ℕ, ◌⊎◌, List, [], ◌∷◌, �
 use Rattle.std.proofs.lemmas.List.{take_more}
 use Rattle.std.proofs.lemmas.Option.{slice_get-get_or}
 use Rattle.lists.specs.Lists.{Has, AreAll}
+use Rattle.lists.proofs.Joined.{Has-either, Has-left, Has-right}
 use Rattle.spds_rules.specs.declared.edge.Edge.{Edge}
 use Rattle.spds_rules.specs.declared.edge.EdgeKind.{EdgeKind}
 use Rattle.spds_rules.specs.declared.edge.EdgeKind.TheVariants.{Load}
@@ -10,7 +11,7 @@ use Rattle.spds_rules.specs.declared.node.Node.{Node}
 use Rattle.spds_rules.specs.declared.store.StoreAt.{StoreAt}
 use Rattle.demand_set.specs.Graphs.{AreSameStores, EdgeInto, StoreOf}
 use Rattle.demand_set.specs.Searches.{ComesFrom, ComesFromOne, Grows, IsEndOf, IsFollowed, IsStored}
-use Rattle.demand_set.proofs.Appended.{AreAll-append, AreAll-same, Has-append_left, Has-append_right, Has-appended, Has-one, Has-take_kept, Has-take_last}
+use Rattle.demand_set.proofs.Appended.{AreAll-append, AreAll-same, Has-one, Has-take_kept, Has-take_last}
 use Rattle.demand_set.proofs.Grown.{Grows-twice, Has-grows}
 
 module _ (Stores : StoreAt → Type 0) where
@@ -26,11 +27,11 @@ module _ (Stores : StoreAt → Type 0) where
   IsStored-more old new fields field stores found fresh s are grows ends = record {
     are = AreAll-same (stores ++ found) (AreAll-append stores found s.are are (λ x a b. fresh (subst (Has fields) b.1 a.1)))
         (λ x h. elim h [
-          | inl a ↦ (a.0, Has-append_left fields (field ∷ []) x.field a.1)
-          | inr b ↦ (b.0, Has-append_right fields (field ∷ []) x.field (0, ap Some (sym b.1)))
+          | inl a ↦ (a.0, Has-left fields (field ∷ []) x.field a.1)
+          | inr b ↦ (b.0, Has-right fields (field ∷ []) x.field (0, ap Some (sym b.1)))
         ])
-        (λ x h. elim (Has-appended fields (field ∷ []) x.field h.1) [ inl a ↦ inl (h.0, a) | inr b ↦ inr (h.0, Has-one field x.field b) ]);
-    ends = λ x n h e. elim (Has-appended stores found x h) [ inl a ↦ Has-grows old new n grows (s.ends x n a e) | inr b ↦ ends n (x, b, e) ];
+        (λ x h. elim (Has-either fields (field ∷ []) x.field h.1) [ inl a ↦ inl (h.0, a) | inr b ↦ inr (h.0, Has-one field x.field b) ]);
+    ends = λ x n h e. elim (Has-either stores found x h) [ inl a ↦ Has-grows old new n grows (s.ends x n a e) | inr b ↦ ends n (x, b, e) ];
   }
 
   -- one more edge, its field and the stores of this
@@ -39,14 +40,14 @@ module _ (Stores : StoreAt → Type 0) where
       → ((f : ℕ) → Has fields f → Has before f ⊎ (e.kind ≡ Load f)) → ((f : ℕ) → e.kind ≡ Load f → Has fields f) → IsStored Stores new fields stores
       → IsFollowed Stores new (edges ++ e ∷ []) fields stores
   IsFollowed-more old new edges e before fields earlier stores s grows source kept only loaded stored = record {
-    sources = λ x h. elim (Has-appended edges (e ∷ []) x h) [ inl a ↦ Has-grows old new x.from grows (s.sources x a) | inr b ↦ rw (Has-one e x b) source ];
-    loaded = λ x f h k. elim (Has-appended edges (e ∷ []) x h) [
+    sources = λ x h. elim (Has-either edges (e ∷ []) x h) [ inl a ↦ Has-grows old new x.from grows (s.sources x a) | inr b ↦ rw (Has-one e x b) source ];
+    loaded = λ x f h k. elim (Has-either edges (e ∷ []) x h) [
       | inl a ↦ kept f (s.loaded x f a k)
       | inr b ↦ loaded f (subst (λ (y : Edge). y.kind ≡ Load f) (Has-one e x b) k)
     ];
     are_loaded = λ f h. elim (only f h) [
-      | inl a ↦ let p = s.are_loaded f a in (p.0, Has-append_left edges (e ∷ []) p.0 p.1, p.2)
-      | inr b ↦ (e, Has-append_right edges (e ∷ []) e (0, refl), b)
+      | inl a ↦ let p = s.are_loaded f a in (p.0, Has-left edges (e ∷ []) p.0 p.1, p.2)
+      | inr b ↦ (e, Has-right edges (e ∷ []) e (0, refl), b)
     ];
     stored = stored;
   }
@@ -76,9 +77,9 @@ module _ (Stores : StoreAt → Type 0) where
   IsFollowed-new old new edges e before fields field earlier stores s grows source is put stored =
       rw put (
       IsFollowed-more old new edges e before (before ++ field ∷ []) earlier stores s grows source
-      (λ f h. Has-append_left before (field ∷ []) f h)
-      (λ f h. elim (Has-appended before (field ∷ []) f h) [ inl a ↦ inl a | inr b ↦ inr (is ∙ ap Load (sym (Has-one field f b))) ])
-      (λ f k. let one : field ≡ f = cc in subst (Has (before ++ field ∷ [])) one (Has-append_right before (field ∷ []) field (0, refl)))
+      (λ f h. Has-left before (field ∷ []) f h)
+      (λ f h. elim (Has-either before (field ∷ []) f h) [ inl a ↦ inl a | inr b ↦ inr (is ∙ ap Load (sym (Has-one field f b))) ])
+      (λ f k. let one : field ≡ f = cc in subst (Has (before ++ field ∷ [])) one (Has-right before (field ∷ []) field (0, refl)))
       stored
       )
 

@@ -1,5 +1,5 @@
 -- The order of sites, by the numbers and bytes that are compared.
-use Rattle.std.proofs.Common.{◌≡◌, ◌≢◌, ◌∙◌, ℕ, ◌<◌, ◌⊎◌, false, List, [], length, get_or, Some, refl, sym, ap, inl, inr, arith, AllPairs, sym}
+use Rattle.std.proofs.Common.{◌≡◌, ◌≢◌, ◌∙◌, ℕ, ◌<◌, ◌⊎◌, false, List, [], length, get_or, Some, refl, sym, ap, inl, inr, arith, AllPairs}
 use Rattle.std.proofs.lemmas.Bool.{false≢true}
 use Rattle.std.proofs.lemmas.Cmp.{ranked, then_total, on_total, nat_list_cmp_total}
 use Rattle.std.proofs.lemmas.List.Sorted.{ranks_by, sorted_far}

@@ -15,13 +15,6 @@ use Rattle.demand_set.specs.Walks.{IsWalk}
 use Rattle.demand_set.specs.Demands.{DemandParts, IsDemandOf}
 use Rattle.demand_set.specs.Starts.{HasStart}
 
--- what a list has after one element was added
-pub Has-adds : {X : Type 0} (old new : List X) (x : X) → Adds old x new → (y : X) → Has new y ↔ (Has old y ⊎ (y ≡ x))
-Has-adds old new x adds y = (
-  λ h. elim (slice_get-added old new x adds h.0 y h.1) [ inl a ↦ inl (h.0, a) | inr b ↦ inr b ],
-  λ h. elim h [ inl a ↦ (a.0, slice_get-adds old new x adds a.0 y a.1) | inr b ↦ rw b (Has-adds_itself old new x adds) ],
-)
-
 -- the sites of the demanded nodes are those of the demand
 pub AreSites-demanded : (p : LinkedProgram) (q : Asked) (nodes : List Node) (sites : List Site) → AreAll (Demand p q) nodes → ((n : Node) → Demand p q n → IsNode p n)
     → AreSites p (HasStart nodes) sites → AreSites p (SiteIn p q) sites

@@ -2,6 +2,7 @@
 ghost use Rattle.std.specs.Prelude.{◌≡◌, ◌≢◌, ◌+◌, ◌<◌, ◌^◌, ◌↔◌, ℕ, IfSome, IsTrue, None, Some, length, map, slice_get, slice_index, string_bytes};
 ghost use Rattle.jim_ast.specs.Notes.{IsNoted, hash, looks, slot_of};
 
+use lists::same_bytes;
 use std::alloc::{AllocError, Global};
 use std::hash::{FoldHasher, Hasher};
 
@@ -34,7 +35,7 @@ fn has_number(texts: &[String], number: u32, text: &[u8]) -> bool
     ensures { IsTrue result ↔ (slice_get (map string_bytes texts.now) number ≡ Some text.now) }
 {
     if (number as usize) < texts.len() {
-        texts[number as usize].as_bytes() == text
+        same_bytes(texts[number as usize].as_bytes(), text)
     } else {
         false
     }

@@ -13,6 +13,7 @@ use Rattle.jim_grammar.specs.Expressions.{Tok, Opt, Tree, spell, spell_each}
 use Rattle.jim_grammar.specs.Grammar.{names, comma_more, pair, ty, types, imm, by_imm, imms, fsig, outcome, by_result, msig, invoke, by_invoke, own, first_own, expr, by_expr, case_line, stmt, by_stmt}
 use Rattle.jim_stmts.specs.Leads.{lead_at, second_at, third_at}
 use Rattle.jim_build.proofs.Apart.{Apart, apart_end, apart_tok, apart_one, apart_seq, free_then, tok_then, apart_any, free_star, apart_star, apart_opt, apart_up_to, apart_shared}
+use Rattle.jim_stmts.proofs.Choices.{invoke_form-plain}
 
 -- what stands behind: no comma, no bracket, a closed parenthesis, a semicolon
 
@@ -150,11 +151,6 @@ abbrev invoke_form : Lead → InvokeForm
 invoke_form lead.StaticInvoke = OnClass
 invoke_form lead.DynamicInvoke = Dynamic
 invoke_form _ = OnReceiver
-
-invoke_form-plain : (l : Lead) → is_plain_invoke l ≡ true → invoke_form l ≡ OnReceiver
-invoke_form-plain lead.StaticInvoke h = absurd (false≢true h)
-invoke_form-plain lead.DynamicInvoke h = absurd (false≢true h)
-invoke_form-plain l h = refl
 
 invoke_picks : (i : InvokeForm) (x : Tree (by_invoke i)) (r : List Sign) → invoke_form (lead_at (spell (by_invoke i) x r)) ≡ i
 invoke_picks OnReceiver x r = invoke_form-plain x.0.lead x.0.is_in_set

@@ -124,11 +124,6 @@ begins_member-class_word l h = refl
 
 -- where something begins, a token is left
 
--- a token of a class other than `Other`
-pub lead_at-some : (w : List Sign) → lead_at w ≢ lead.Other → 0 < length w
-lead_at-some [] h = absurd (h refl)
-lead_at-some (s ∷ w) h = omega arith
-
 -- what a declaration begins with
 pub begins_decl-some : (w : List Sign) → begins_decl w ≡ true → 0 < length w
 begins_decl-some [] h = absurd (false≢true h)

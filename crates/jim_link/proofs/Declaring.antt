@@ -3,10 +3,11 @@ use Rattle.std.proofs.Common.{◌≡◌, ℕ, zero, suc, ◌<◌, true, List, []
 use Rattle.std.specs.Prelude.{◌↔◌, IsTrue, flat_map}
 use Rattle.std.proofs.lemmas.Option.{get_or_from_slice_get, slice_get-get_or}
 use Rattle.lists.proofs.Places.{slice_get-below}
+use Rattle.lists.proofs.Joined.{slice_get-mapped}
 use Rattle.jim_ast.specs.declared.syntax.Class.{Class}
 use Rattle.jim_ast.specs.declared.syntax.Program.{Program}
 use Rattle.link_classes.proofs.Within.{part_within}
-use Rattle.link_program.proofs.Found.{at_map, from_map}
+use Rattle.link_program.proofs.Found.{at_map}
 use Rattle.link_rules.specs.Classes.{IsNamed, class_name, classes_of}
 use Rattle.link_rules.specs.Conditions.{AreWithin, class_names}
 
@@ -56,5 +57,5 @@ other_name program i c text name there is named =
 -- a class that is named is one of those that were looked at
 pub named_below : (program : Program) (n : ℕ) (name : List ℕ) → IsNamed (classes_of program) name n → n < length program.classes
 named_below program n name named =
-    let found = from_map (λ (d : Class). record { names = program.names; class = d }) program.classes n named.class named.there in
+    let found = slice_get-mapped (λ (d : Class). record { names = program.names; class = d }) program.classes n named.class named.there in
     slice_get-below program.classes n found.0 found.1

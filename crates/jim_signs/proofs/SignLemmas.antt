@@ -1,5 +1,5 @@
 -- The signs as the list of names grows.
-use Rattle.std.proofs.Common.{◌≡◌, ◌≢◌, ℕ, zero, suc, ◌+◌, ◌<◌, ◌≤◌, Bool, true, false, List, [], ◌∷◌, ◌++◌, length, take, get_or, map, slice_get, Option, Some, None, All, IfSome, refl, sym, ap, ap₂, ◌∙◌, subst, arith, if◌then◌else◌, length-append, append-nil}
+use Rattle.std.proofs.Common.{if◌then◌else◌, ◌≡◌, ◌≢◌, ℕ, zero, suc, ◌+◌, ◌<◌, ◌≤◌, Bool, true, false, List, [], ◌∷◌, ◌++◌, length, take, get_or, map, slice_get, Option, Some, None, All, IfSome, refl, sym, ap, ap₂, ◌∙◌, subst, arith, length-append, append-nil}
 use Rattle.std.specs.List.{list_any, AllZip}
 use Rattle.std.specs.Str.{bytes_eq}
 use Rattle.std.proofs.lemmas.List.Elements.{All-push, All-weaker, All-head, All-tail, All-nil}
@@ -42,7 +42,7 @@ known_more : (names more : List (List ℕ)) (said : Option (List ℕ)) → IsKno
 known_more names more None h = h
 known_more names more (Some text) h = list_any-more names more text h
 
-known_with : (names : List (List ℕ)) (said : Option (List ℕ)) → IsKnown (with_contents names said) said
+pub known_with : (names : List (List ℕ)) (said : Option (List ℕ)) → IsKnown (with_contents names said) said
 known_with names None = tt
 known_with names (Some text) = list_any-with_text names text
 

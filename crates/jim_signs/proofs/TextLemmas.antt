@@ -13,6 +13,7 @@ use Rattle.jim_text.specs.Spelling.Joined.{last, more}
 use Rattle.jim_text.specs.Spelling.IsName.{init, clinit, joined}
 use Rattle.jim_text.specs.Spelling.Item.{plain as plain_item, escape}
 use Rattle.jim_text.specs.Spelling.Items.{ends as no_items, goes as more_items}
+use Rattle.jim_text.proofs.CharLemmas.{byte_before}
 
 -- a text in UTF-8 stands from one place to another
 pub record TextAt (bytes : List ℕ) (from to : ℕ) : Type 0 where
@@ -20,12 +21,6 @@ pub record TextAt (bytes : List ℕ) (from to : ℕ) : Type 0 where
   pub text : IsUtf8 part
   pub ends : to ≡ from + length part
   pub spelled : drop from bytes ≡ part ++ drop to bytes
-
--- a byte other than 0 stands before the end
-byte_before : (bytes : List ℕ) (at b : ℕ) → get_or bytes at 0 ≡ b → 0 < b → at < length bytes
-byte_before [] at b e some = absurd (omega (arith, e))
-byte_before (x ∷ bytes) zero b e some = omega arith
-byte_before (x ∷ bytes) (suc at) b e some = omega (arith, byte_before bytes at b e some)
 
 has_text : (bytes : List ℕ) (from to : ℕ) (text : List ℕ) → IsUtf8 text → Has bytes from text → to ≡ from + length text → IsUtf8 (slice_range bytes from to)
 has_text bytes from to text utf8 has e = subst IsUtf8 (sym (ap (λ n. slice_range bytes from n) e ∙ has)) utf8

@@ -1,6 +1,5 @@
 pub mod Catching
 pub mod Constants
-mod Declared
 pub mod Founds
 pub mod Listed
 pub mod Moving

@@ -41,12 +41,3 @@ module _ (p : LinkedProgram) (f : Frame) where
   pub set_at : (xs : List Arg) (i : ℕ) (d : Arg) (vs : List Value) (v : Value) → i < length xs → operand_of p f (get_or xs i d) ≡ Some v
       → operands_of p f (take i xs) ≡ Some vs → operands_of p f (take (i + 1) xs) ≡ Some (vs ++ v ∷ [])
   set_at xs i d vs v h set before = rw (add-one, take-suc xs i d h) (operands_more (take i xs) vs (get_or xs i d) v before set)
-
--- what is set has a value
-pub some_of : {X : Type 0} (o : Option X) → is_some o ≡ true → (x : X) × (o ≡ Some x)
-some_of (Some x) e = (x, refl)
-some_of None e = cc
-
-pub none_of : {X : Type 0} (o : Option X) → is_some o ≡ false → o ≡ None
-none_of (Some x) e = cc
-none_of None e = refl

@@ -1,34 +1,16 @@
 //! The reserved words, and their classes.
 ghost use Rattle.std.specs.Prelude.{◌≡◌};
-ghost use Rattle.std.specs.Str.{bytes_eq};
 ghost use Rattle.jim_text.specs.Words as table;
 
 use super::lead::Lead;
-
-// Whether a text is a word. Words are short, and most differ in their first bytes.
-#[inline]
-fn is_same(text: &[u8], word: &[u8]) -> bool
-    ensures { result ≡ bytes_eq text.now word.now }
-{
-    if text.len() != word.len() {
-        return false;
-    }
-    let mut at = 0;
-    while at < text.len() {
-        if text[at] != word[at] {
-            return false;
-        }
-        at += 1;
-    }
-    true
-}
+use lists::same_bytes;
 
 fn lead_of_two(text: &[u8]) -> Lead
     ensures { result ≡ table.look_up table.two_words text.now }
 {
-    if is_same(text, b"if") {
+    if same_bytes(text, b"if") {
         Lead::If
-    } else if is_same(text, b"to") {
+    } else if same_bytes(text, b"to") {
         Lead::To
     } else {
         Lead::Other
@@ -38,17 +20,17 @@ fn lead_of_two(text: &[u8]) -> Lead
 fn lead_of_three(text: &[u8]) -> Lead
     ensures { result ≡ table.look_up table.three_words text.now }
 {
-    if is_same(text, b"int") {
+    if same_bytes(text, b"int") {
         Lead::Int
-    } else if is_same(text, b"new") {
+    } else if same_bytes(text, b"new") {
         Lead::New
-    } else if is_same(text, b"neg") {
+    } else if same_bytes(text, b"neg") {
         Lead::Neg
-    } else if is_same(text, b"cmp") {
+    } else if same_bytes(text, b"cmp") {
         Lead::Cmp
-    } else if is_same(text, b"ret") {
+    } else if same_bytes(text, b"ret") {
         Lead::Ret
-    } else if is_same(text, b"nop") {
+    } else if same_bytes(text, b"nop") {
         Lead::Nop
     } else {
         Lead::Other
@@ -58,29 +40,29 @@ fn lead_of_three(text: &[u8]) -> Lead
 fn lead_of_four(text: &[u8]) -> Lead
     ensures { result ≡ table.look_up table.four_words text.now }
 {
-    if is_same(text, b"enum") {
+    if same_bytes(text, b"enum") {
         Lead::Enum
-    } else if is_same(text, b"void") {
+    } else if same_bytes(text, b"void") {
         Lead::Void
-    } else if is_same(text, b"byte") {
+    } else if same_bytes(text, b"byte") {
         Lead::Byte
-    } else if is_same(text, b"char") {
+    } else if same_bytes(text, b"char") {
         Lead::Char
-    } else if is_same(text, b"long") {
+    } else if same_bytes(text, b"long") {
         Lead::Long
-    } else if is_same(text, b"null") {
+    } else if same_bytes(text, b"null") {
         Lead::Null
-    } else if is_same(text, b"cmpg") {
+    } else if same_bytes(text, b"cmpg") {
         Lead::Cmpg
-    } else if is_same(text, b"cmpl") {
+    } else if same_bytes(text, b"cmpl") {
         Lead::Cmpl
-    } else if is_same(text, b"goto") {
+    } else if same_bytes(text, b"goto") {
         Lead::Goto
-    } else if is_same(text, b"case") {
+    } else if same_bytes(text, b"case") {
         Lead::Case
-    } else if is_same(text, b"from") {
+    } else if same_bytes(text, b"from") {
         Lead::From
-    } else if is_same(text, b"with") {
+    } else if same_bytes(text, b"with") {
         Lead::With
     } else {
         Lead::Other
@@ -90,17 +72,17 @@ fn lead_of_four(text: &[u8]) -> Lead
 fn lead_of_five(text: &[u8]) -> Lead
     ensures { result ≡ table.look_up table.five_words text.now }
 {
-    if is_same(text, b"final") {
+    if same_bytes(text, b"final") {
         Lead::Final
-    } else if is_same(text, b"class") {
+    } else if same_bytes(text, b"class") {
         Lead::Class
-    } else if is_same(text, b"short") {
+    } else if same_bytes(text, b"short") {
         Lead::Short
-    } else if is_same(text, b"float") {
+    } else if same_bytes(text, b"float") {
         Lead::Float
-    } else if is_same(text, b"throw") {
+    } else if same_bytes(text, b"throw") {
         Lead::Throw
-    } else if is_same(text, b"catch") {
+    } else if same_bytes(text, b"catch") {
         Lead::Catch
     } else {
         Lead::Other
@@ -110,17 +92,17 @@ fn lead_of_five(text: &[u8]) -> Lead
 fn lead_of_six(text: &[u8]) -> Lead
     ensures { result ≡ table.look_up table.six_words text.now }
 {
-    if is_same(text, b"native") {
+    if same_bytes(text, b"native") {
         Lead::Native
-    } else if is_same(text, b"public") {
+    } else if same_bytes(text, b"public") {
         Lead::Public
-    } else if is_same(text, b"static") {
+    } else if same_bytes(text, b"static") {
         Lead::Static
-    } else if is_same(text, b"throws") {
+    } else if same_bytes(text, b"throws") {
         Lead::Throws
-    } else if is_same(text, b"double") {
+    } else if same_bytes(text, b"double") {
         Lead::Double
-    } else if is_same(text, b"return") {
+    } else if same_bytes(text, b"return") {
         Lead::Return
     } else {
         Lead::Other
@@ -130,15 +112,15 @@ fn lead_of_six(text: &[u8]) -> Lead
 fn lead_of_seven(text: &[u8]) -> Lead
     ensures { result ≡ table.look_up table.seven_words text.now }
 {
-    if is_same(text, b"private") {
+    if same_bytes(text, b"private") {
         Lead::Private
-    } else if is_same(text, b"extends") {
+    } else if same_bytes(text, b"extends") {
         Lead::Extends
-    } else if is_same(text, b"boolean") {
+    } else if same_bytes(text, b"boolean") {
         Lead::Boolean
-    } else if is_same(text, b"unknown") {
+    } else if same_bytes(text, b"unknown") {
         Lead::Unknown
-    } else if is_same(text, b"default") {
+    } else if same_bytes(text, b"default") {
         Lead::Default
     } else {
         Lead::Other
@@ -148,15 +130,15 @@ fn lead_of_seven(text: &[u8]) -> Lead
 fn lead_of_eight(text: &[u8]) -> Lead
     ensures { result ≡ table.look_up table.eight_words text.now }
 {
-    if is_same(text, b"abstract") {
+    if same_bytes(text, b"abstract") {
         Lead::Abstract
-    } else if is_same(text, b"volatile") {
+    } else if same_bytes(text, b"volatile") {
         Lead::Volatile
-    } else if is_same(text, b"strictfp") {
+    } else if same_bytes(text, b"strictfp") {
         Lead::Strictfp
-    } else if is_same(text, b"newarray") {
+    } else if same_bytes(text, b"newarray") {
         Lead::NewArray
-    } else if is_same(text, b"lengthof") {
+    } else if same_bytes(text, b"lengthof") {
         Lead::LengthOf
     } else {
         Lead::Other
@@ -166,13 +148,13 @@ fn lead_of_eight(text: &[u8]) -> Lead
 fn lead_of_nine(text: &[u8]) -> Lead
     ensures { result ≡ table.look_up table.nine_words text.now }
 {
-    if is_same(text, b"protected") {
+    if same_bytes(text, b"protected") {
         Lead::Protected
-    } else if is_same(text, b"transient") {
+    } else if same_bytes(text, b"transient") {
         Lead::Transient
-    } else if is_same(text, b"interface") {
+    } else if same_bytes(text, b"interface") {
         Lead::Interface
-    } else if is_same(text, b"null_type") {
+    } else if same_bytes(text, b"null_type") {
         Lead::NullType
     } else {
         Lead::Other
@@ -182,13 +164,13 @@ fn lead_of_nine(text: &[u8]) -> Lead
 fn lead_of_ten(text: &[u8]) -> Lead
     ensures { result ≡ table.look_up table.ten_words text.now }
 {
-    if is_same(text, b"annotation") {
+    if same_bytes(text, b"annotation") {
         Lead::Annotation
-    } else if is_same(text, b"implements") {
+    } else if same_bytes(text, b"implements") {
         Lead::Implements
-    } else if is_same(text, b"instanceof") {
+    } else if same_bytes(text, b"instanceof") {
         Lead::InstanceOf
-    } else if is_same(text, b"breakpoint") {
+    } else if same_bytes(text, b"breakpoint") {
         Lead::Breakpoint
     } else {
         Lead::Other
@@ -198,9 +180,9 @@ fn lead_of_ten(text: &[u8]) -> Lead
 fn lead_of_eleven(text: &[u8]) -> Lead
     ensures { result ≡ table.look_up table.eleven_words text.now }
 {
-    if is_same(text, b"tableswitch") {
+    if same_bytes(text, b"tableswitch") {
         Lead::TableSwitch
-    } else if is_same(text, b"exitmonitor") {
+    } else if same_bytes(text, b"exitmonitor") {
         Lead::ExitMonitor
     } else {
         Lead::Other
@@ -210,13 +192,13 @@ fn lead_of_eleven(text: &[u8]) -> Lead
 fn lead_of_twelve(text: &[u8]) -> Lead
     ensures { result ≡ table.look_up table.twelve_words text.now }
 {
-    if is_same(text, b"synchronized") {
+    if same_bytes(text, b"synchronized") {
         Lead::Synchronized
-    } else if is_same(text, b"lookupswitch") {
+    } else if same_bytes(text, b"lookupswitch") {
         Lead::LookupSwitch
-    } else if is_same(text, b"entermonitor") {
+    } else if same_bytes(text, b"entermonitor") {
         Lead::EnterMonitor
-    } else if is_same(text, b"staticinvoke") {
+    } else if same_bytes(text, b"staticinvoke") {
         Lead::StaticInvoke
     } else {
         Lead::Other
@@ -226,13 +208,13 @@ fn lead_of_twelve(text: &[u8]) -> Lead
 fn lead_of_thirteen(text: &[u8]) -> Lead
     ensures { result ≡ table.look_up table.thirteen_words text.now }
 {
-    if is_same(text, b"newmultiarray") {
+    if same_bytes(text, b"newmultiarray") {
         Lead::NewMultiArray
-    } else if is_same(text, b"specialinvoke") {
+    } else if same_bytes(text, b"specialinvoke") {
         Lead::SpecialInvoke
-    } else if is_same(text, b"virtualinvoke") {
+    } else if same_bytes(text, b"virtualinvoke") {
         Lead::VirtualInvoke
-    } else if is_same(text, b"dynamicinvoke") {
+    } else if same_bytes(text, b"dynamicinvoke") {
         Lead::DynamicInvoke
     } else {
         Lead::Other
@@ -242,7 +224,7 @@ fn lead_of_thirteen(text: &[u8]) -> Lead
 fn lead_of_fifteen(text: &[u8]) -> Lead
     ensures { result ≡ table.look_up table.fifteen_words text.now }
 {
-    if is_same(text, b"interfaceinvoke") {
+    if same_bytes(text, b"interfaceinvoke") {
         Lead::InterfaceInvoke
     } else {
         Lead::Other

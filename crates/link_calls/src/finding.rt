@@ -6,7 +6,6 @@ ghost use Rattle.link_rules.specs.World.{World as AWorld};
 ghost use Rattle.link_calls.specs.Known.{HasAtMost, IsFound};
 
 use super::selection::{Selection, select, selected};
-use class_tree::PathRows;
 use indexmap::IndexSet;
 use link_classes::Classes;
 use lists::NoMemory;
@@ -85,12 +84,10 @@ pub(crate) fn by_objects(
     ensures { IfOk result (IsFound classes.now.world Virtual class key) }
 {
     let below = classes.tree().below(alloc, class)?;
-    let mut kept = PathRows::new(alloc);
     let mut rows = IndexSet::new(alloc);
     let mut several = false;
     for receiver in below.as_slice() {
-        let selection = selected(classes, &mut kept, key, *receiver)?;
-        match selection {
+        match selected(classes, key, *receiver) {
             Selection::Method(row) => {
                 rows.insert(row)?;
             }

@@ -12,23 +12,11 @@ use Rattle.jim_ast.specs.declared.syntax.Body.{Body}
 use Rattle.link_rules.specs.Classes.{DeclaredMethod, methods_of}
 use Rattle.link_rules.specs.Keys.{IsMethodKeyNumber, MethodKey}
 use Rattle.lists.specs.Lists.{IsFirstOr}
+use Rattle.lists.proofs.Joined.{first_one}
 use Rattle.link_rules.specs.Reach.{DeclaresBody}
 use Rattle.link_rules.specs.World.{World, kind_of_body}
 use Rattle.link_classes.specs.declared.seen.MethodIn.{MethodIn}
 use Rattle.link_classes.specs.Seen.{seen_method, seen_methods}
-
--- the first number with a fact, or the end, is one
-pub first_one : (end : ℕ) (P : ℕ → Type 0) (a b : ℕ) → IsFirstOr end P a → IsFirstOr end P b → a ≡ b
-first_one end P a b p q = elim p [
-  | inl least ↦ elim q [
-    | inl other ↦ elim (cases_order a b) [
-      | inl same ↦ same
-      | inr apart ↦ elim apart [ inl below ↦ absurd (other.first a below least.holds) | inr above ↦ absurd (least.first b above other.holds) ]
-    ]
-    | inr none ↦ absurd (none.1 a least.holds)
-  ]
-  | inr none ↦ elim q [ inl other ↦ absurd (none.1 b other.holds) | inr also ↦ none.0 ∙ sym also.0 ]
-]
 
 -- a place that is found is there
 position_from-below : {X : Type 0} (t : X → Bool) (n : ℕ) (xs : List X) (i : ℕ) → position_from t n xs ≡ Some i → i < n + length xs

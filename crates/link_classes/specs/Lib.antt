@@ -7,3 +7,4 @@ pub mod MemberTables
 pub mod RowTables
 pub mod RootParts
 pub mod Held
+pub mod FoundParts

@@ -14,8 +14,10 @@ ghost use Rattle.link_rules.specs.Root.{initializer_key, root_names, root_of};
 ghost use Rattle.link_rules.specs.Targets.{IsInstantiableAt};
 ghost use Rattle.link_rules.specs.World.{AreRows, IsWorld, World};
 ghost use Rattle.link_classes.specs.Classes.{IsKnown, IsRoot, texts_at};
+ghost use Rattle.link_classes.specs.FoundParts.{IsFound};
 ghost use Rattle.link_classes.specs.Numbered.{AreNumbers, fixed_names};
-ghost use Rattle.link_classes.specs.Seen.{IsFieldSeen, seen_class, seen_field, seen_method};
+ghost use Rattle.link_classes.specs.RowTables.{AreRowTables, world_in};
+ghost use Rattle.link_classes.specs.Seen.{IsFieldSeen, IsOrder, seen_class, seen_field, seen_method};
 
 use super::bodies::{declared_body, field_number, initializer_number, main_number, method_number};
 use super::checks::checked_tree;
@@ -89,6 +91,87 @@ impl<'a> Model for Classes<'a> {
     ghost invariant = { λ c. IsHeld c.order c.methods.items c.method_keys c.fields.items c.field_keys c.tree c.entry.now c.main c.initializer c.root.items };
 }
 
+/// What is found of classes by their rows: the hierarchy, the numbers of the keys of `main` and of initializers, and the names of a root.
+#[derive(Drop)]
+struct Found {
+    tree: Tree,
+    main: u32,
+    initializer: u32,
+    root: Vec<NameId>,
+}
+
+// What is found of the classes in this order, with these rows.
+fn found_in(alloc: Global, order: &ClassOrder, tables: &RowTables) -> Result<Found, NoClasses>
+    requires order { IsOrder order.now }
+    requires tables { AreRowTables order.now tables.now }
+    requires root { length order.now.all.now.root.items ≡ 6 }
+    ensures found { IfOk result (IsFound order.now tables.now) }
+    ensures refused { (kind : AKind) (place : List ℕ) → result ≡ Err (NoClasses.Refused kind place)
+        → (number : ℕ) × ((entry : List ℕ) → IsFirst (world_in order.now tables.now entry) (whole kind number) × IsPlaceOf (world_in order.now tables.now entry) kind number place) }
+{
+    let count = tables.methods.methods.len() as u32;
+    let fixed = order.all.root.as_slice();
+    let main = main_number(alloc, fixed, &tables.methods.keys, count)?;
+    let initializer = initializer_number(alloc, fixed, &tables.methods.keys, count)?;
+    let root = root_ids(alloc, order)?;
+    let tree = checked_tree(alloc, order, tables)?;
+    Ok(Found {
+        tree,
+        main,
+        initializer,
+        root,
+    })
+}
+
+// The classes in this order, with their members and what was found. Their rows are no longer needed.
+fn joined<'a>(
+    order: ClassOrder<'a>,
+    tables: RowTables<'a>,
+    found: Found,
+    entry: &'a str,
+) -> Classes<'a>
+    requires order { IsOrder order }
+    requires tables { AreRowTables order tables }
+    requires found { IsFound order tables found }
+    requires root { AreNumbers order.all.now.texts (fixed_names entry.now) order.all.now.root.items }
+    ensures world { result.world ≡ world_in order.entry tables.entry entry.now }
+    ensures texts { result.texts ≡ order.entry.all.now.texts }
+{
+    let RowTables {
+        methods,
+        fields,
+        ..
+    } = tables;
+    let MethodTable {
+        methods,
+        keys: method_keys,
+        ..
+    } = methods;
+    let FieldTable {
+        fields,
+        keys: field_keys,
+        ..
+    } = fields;
+    let Found {
+        tree,
+        main,
+        initializer,
+        root,
+    } = found;
+    Classes {
+        order,
+        methods,
+        method_keys,
+        fields,
+        field_keys,
+        tree,
+        entry,
+        main,
+        initializer,
+        root,
+    }
+}
+
 impl<'a> Classes<'a> {
     /// The classes of an input and a prelude, with the class that the program begins with.
     ///
@@ -113,39 +196,8 @@ impl<'a> Classes<'a> {
     {
         let order = ClassOrder::of_programs(alloc, all, input, prelude)?;
         let tables = RowTables::new(alloc, &order)?;
-        let tree = checked_tree(alloc, &order, &tables)?;
-        let RowTables {
-            methods,
-            fields,
-            ..
-        } = tables;
-        let count = methods.methods.len() as u32;
-        let root = all.root.as_slice();
-        let main = main_number(alloc, root, &methods.keys, count)?;
-        let initializer = initializer_number(alloc, root, &methods.keys, count)?;
-        let root_names = root_ids(alloc, &order)?;
-        let MethodTable {
-            methods,
-            keys: method_keys,
-            ..
-        } = methods;
-        let FieldTable {
-            fields,
-            keys: field_keys,
-            ..
-        } = fields;
-        Ok(Classes {
-            order,
-            methods,
-            method_keys,
-            fields,
-            field_keys,
-            tree,
-            entry,
-            main,
-            initializer,
-            root: root_names,
-        })
+        let found = found_in(alloc, &order, &tables)?;
+        Ok(joined(order, tables, found, entry))
     }
 
     /// Whether there is a method to begin with, as the last rule of the program asks.

@@ -4,6 +4,7 @@ use Rattle.std.specs.List.{filter_map}
 use Rattle.std.specs.Option.{option_to_list}
 use Rattle.std.proofs.lemmas.Option.{slice_get-get_or}
 use Rattle.lists.specs.Lists.{Has}
+use Rattle.lists.proofs.Joined.{Has-left, Has-right}
 use Rattle.jim_ast.specs.declared.names.NameId.{NameId}
 use Rattle.jim_ast.specs.declared.syntax.Body.{Body}
 use Rattle.jim_ast.specs.declared.syntax.Expr.{Expr}
@@ -28,7 +29,7 @@ use Rattle.link_rules.specs.Statements.{HasBody, IsCallOf, PlainCall, StmtAt, ac
 use Rattle.link_rules.specs.World.{World}
 use Rattle.link_codes.specs.Contexts.{Context, context_in}
 use Rattle.link_codes.specs.Needs.{HasCall, HasClass, HasExpr, HasField, HasJump, HasLocal, HasOperand, HasParts, HasTargets, HasText, HasTrap}
-use Rattle.link_codes.proofs.Contained.{Has-filter_map, Has-flat_map, Has-left, Has-operand, Has-right, within_part}
+use Rattle.link_codes.proofs.Contained.{Has-filter_map, Has-flat_map, Has-operand, within_part}
 use Rattle.link_codes.proofs.Decided.{declared_or_not, has_or_not, label_or_not}
 
 module _ (w : World) (method_rows : List ℕ) (m : DeclaredMethod) (body : Body) (is : HasBody m body)

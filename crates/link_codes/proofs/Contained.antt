@@ -4,20 +4,11 @@ use Rattle.std.specs.List.{cons_option, filter_map}
 use Rattle.std.proofs.lemmas.Option.{slice_get-get_or, get_or_from_slice_get}
 use Rattle.lists.proofs.Places.{slice_get-append_left, slice_get-below}
 use Rattle.lists.specs.Lists.{Has}
+use Rattle.lists.proofs.Joined.{Has-left, Has-right}
 use Rattle.jim_ast.specs.declared.names.NameId.{NameId}
 use Rattle.jim_ast.specs.declared.syntax.Imm.{Imm}
 use Rattle.link_rules.specs.Conditions.{AreWithin}
 use Rattle.link_rules.specs.Statements.{operand_local}
-
-module _ {X : Type 0} where
-  -- what one of two lists has, both together have
-  pub Has-left : (xs ys : List X) (x : X) → Has xs x → Has (xs ++ ys) x
-  Has-left xs ys x h = (h.0, slice_get-append_left xs ys h.0 x h.1)
-
-  -- the same of the other
-  pub Has-right : (xs ys : List X) (x : X) → Has ys x → Has (xs ++ ys) x
-  Has-right [] ys x h = h
-  Has-right (y ∷ xs) ys x h = let r = Has-right xs ys x h in (suc r.0, r.1)
 
 -- what is made of an element is among all that is made
 pub Has-flat_map : {X Y : Type 0} (f : X → List Y) (xs : List X) (i : ℕ) (x : X) (y : Y) → slice_get xs i ≡ Some x → Has (f x) y → Has (flat_map f xs) y

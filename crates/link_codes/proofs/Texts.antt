@@ -1,17 +1,11 @@
 -- Texts of types, and the arrays of statements.
-use Rattle.std.proofs.Common.{◌≡◌, ℕ, zero, suc, ◌+◌, ◌<◌, ◌++◌, List, [], ◌∷◌, length, take, get_or, codes, flat_map, append_assoc, length-take, refl, sym, ap, ◌∙◌, add-one, arith}
+use Rattle.std.proofs.Common.{◌≡◌, ℕ, ◌+◌, ◌<◌, ◌++◌, List, [], ◌∷◌, length, take, get_or, codes, flat_map, append_assoc, length-take, sym, ap, ◌∙◌, arith}
 use Rattle.std.specs.List.{enumerate_from}
 use Rattle.std.proofs.lemmas.Grind.{flat_map-append}
 use Rattle.std.proofs.lemmas.List.{append-nil, take_more}
+use Rattle.link_classes.proofs.Growing.{numbered-push}
 use Rattle.link_rules.specs.Names.{brackets}
-
--- a pair of brackets more at the end
-pub brackets_more : (n : ℕ) → brackets (n + 1) ≡ brackets n ++ codes "[]"
-brackets_more n = rw add-one (by n)
-  where
-    by : (n : ℕ) → brackets (suc n) ≡ brackets n ++ codes "[]"
-    by zero = refl
-    by (suc n) = ap (λ l. codes "[]" ++ l) (by n)
+use Rattle.link_rules.proofs.Dimensions.{brackets_more}
 
 -- a text with a pair of brackets more
 pub text_more : (now text old base : List ℕ) (n : ℕ) → text ≡ old ++ (base ++ brackets n) → now ≡ text ++ codes "[]" → now ≡ old ++ (base ++ brackets (n + 1))
@@ -19,21 +13,12 @@ text_more now text old base n so_far pushed =
     pushed ∙ ap (λ t. t ++ codes "[]") so_far ∙ append_assoc old (base ++ brackets n) (codes "[]") ∙ ap (λ t. old ++ t) (append_assoc base (brackets n) (codes "[]"))
     ∙ ap (λ t. old ++ (base ++ t)) (sym (brackets_more n))
 
--- what is made of one element more, with its number
-numbered_push : {X Y : Type 0} (f : ℕ × X → List Y) (n : ℕ) (xs : List X) (x : X)
-    → flat_map f (enumerate_from n (xs ++ x ∷ [])) ≡ flat_map f (enumerate_from n xs) ++ f (n + length xs, x)
-numbered_push f n [] x = let e : n ≡ n + 0 = omega arith in append-nil (f (n, x)) ∙ ap (λ k. f (k, x)) e
-numbered_push f n (y ∷ xs) x =
-    let e : n + 1 + length xs ≡ n + suc (length xs) = omega arith in
-    ap (λ zs. f (n, y) ++ zs) (numbered_push f (n + 1) xs x ∙ ap (λ k. flat_map f (enumerate_from (n + 1) xs) ++ f (k, x)) e)
-    ∙ sym (append_assoc (f (n, y)) (flat_map f (enumerate_from (n + 1) xs)) (f (n + suc (length xs), x)))
-
 -- the same of the first elements of a list
 pub numbered_more : {X Y : Type 0} (f : ℕ × X → List Y) (xs : List X) (i : ℕ) (x : X) → i < length xs → x ≡ get_or xs i x
     → flat_map f (enumerate_from 0 (take (i + 1) xs)) ≡ flat_map f (enumerate_from 0 (take i xs)) ++ f (i, x)
 numbered_more f xs i x below at =
     let place : 0 + length (take i xs) ≡ i = omega (arith, below, length-take i xs) in
-    ap (λ zs. flat_map f (enumerate_from 0 zs)) (take_more xs i x below ∙ ap (λ y. take i xs ++ y ∷ []) (sym at)) ∙ numbered_push f 0 (take i xs) x
+    ap (λ zs. flat_map f (enumerate_from 0 zs)) (take_more xs i x below ∙ ap (λ y. take i xs ++ y ∷ []) (sym at)) ∙ numbered-push f 0 (take i xs) x
     ∙ ap (λ k. flat_map f (enumerate_from 0 (take i xs)) ++ f (k, x)) place
 
 -- what is made of one element more

@@ -6,6 +6,7 @@ use Rattle.std.proofs.lemmas.List.{append-nil}
 use Rattle.std.proofs.lemmas.List.Elements.{filter_map-append}
 use Rattle.std.proofs.lemmas.Option.{slice_get-get_or}
 use Rattle.lists.specs.Lists.{Has, FirstSeen}
+use Rattle.lists.proofs.Joined.{Has-left, Has-right}
 use Rattle.jim_ast.specs.declared.syntax.Body.{Body}
 use Rattle.jim_ast.specs.declared.syntax.Imm.{Imm}
 use Rattle.jim_ast.specs.declared.syntax.MethodDecl.{MethodDecl}
@@ -29,7 +30,7 @@ use Rattle.link_codes.specs.Made.{MakesCatches, MakesCodes}
 use Rattle.link_codes.specs.Methods.{UsesMethod}
 use Rattle.link_codes.specs.Needs.{HasParts, HasTrap}
 use Rattle.link_codes.proofs.Accepted.{parts_there, trap_there}
-use Rattle.link_codes.proofs.Contained.{Has-flat_map, Has-left, Has-right, within_part}
+use Rattle.link_codes.proofs.Contained.{Has-flat_map, within_part}
 
 -- the names of a body are among those of its method
 module _ (names : List (List ℕ)) (decl : MethodDecl) (body : Body) (is : decl.body ≡ Some body) (within : AreWithin names (method_names decl)) where

@@ -2,6 +2,7 @@
 use Rattle.std.proofs.Common.{◌≡◌, ℕ, ◌⊎◌, ◌++◌, Option, None, Some, List, [], ◌∷◌, refl, sym, ap, subst, inl, inr}
 use Rattle.std.specs.Prelude.{◌↔◌, IsSomeAnd, OnOk, Result, Ok, Err}
 use Rattle.lists.specs.Lists.{Has}
+use Rattle.lists.proofs.Joined.{Has-either, Has-left, Has-right}
 use Rattle.jim_ast.specs.declared.names.NameId.{NameId}
 use Rattle.jim_ast.specs.declared.syntax.Stmt.{Stmt}
 use Rattle.link_rules.specs.Classes.{DeclaredClass, IsNamed}
@@ -17,12 +18,12 @@ use Rattle.link_faults.specs.Parts.{plain_call, seen_call}
 use Rattle.link_faults.specs.Sites.{RunsRow}
 use Rattle.link_faults.proofs.Named.{LooksUp, only_named, named}
 use Rattle.link_faults.proofs.Placed.{runs_row, site_call, site_callee}
-use Rattle.link_faults.proofs.StmtParts.{Has-append, Has-left, Has-one, Has-right, and_some}
+use Rattle.link_faults.proofs.StmtParts.{Has-one, and_some}
 
 -- what is in a list with more behind it
 pub grows : {X : Type 0} (old more new : List X) (P : X → Type 0) → new ≡ old ++ more → ((x : X) → Has more x ↔ P x) → (x : X) → Has new x ↔ (Has old x ⊎ P x)
 grows {X} old more new P is says x = (
-  λ (h : Has new x). elim (Has-append old more x (subst (λ (xs : List X). Has xs x) is h)) [ inl a ↦ inl a | inr b ↦ inr ((says x).0 b) ],
+  λ (h : Has new x). elim (Has-either old more x (subst (λ (xs : List X). Has xs x) is h)) [ inl a ↦ inl a | inr b ↦ inr ((says x).0 b) ],
   λ h. subst (λ (xs : List X). Has xs x) (sym is) (elim h [ inl a ↦ Has-left old more x a | inr p ↦ Has-right old more x ((says x).1 p) ]),
 )
 

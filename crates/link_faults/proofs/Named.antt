@@ -9,6 +9,7 @@ use Rattle.class_tree.proofs.LawFacts.{look_up_one, path_one}
 use Rattle.class_tree.proofs.Selected.{selection_one}
 use Rattle.jim_ast.specs.declared.names.NameId.{NameId}
 use Rattle.lists.proofs.Places.{slice_get-below}
+use Rattle.lists.proofs.Joined.{first_one}
 use Rattle.link_rules.specs.Classes.{DeclaredClass, IsDeclared, IsNamed, fields_of}
 use Rattle.link_rules.specs.Faults.{IsBelowName}
 use Rattle.link_rules.specs.Keys.{HasFieldKey, IsFieldKeyNumber, accessed_key}
@@ -16,7 +17,6 @@ use Rattle.link_rules.specs.Names.{text_of}
 use Rattle.link_rules.specs.Statements.{Access}
 use Rattle.link_rules.specs.World.{World}
 use Rattle.link_faults.specs.Sites.{FindsNo, IsNotConcrete}
-use Rattle.link_rules.proofs.OneWorld.{first_or_one}
 use Rattle.link_faults.proofs.Scans.{no, yes}
 
 -- the text of a name by its number among all names
@@ -88,7 +88,7 @@ finds_no_by w names a class None true says (key, is_key, finds) e = yes (record 
 finds_no_by w names a class (Some row) false says (key, is_key, finds) e = no (λ (h : FindsNo w names a).
     let one = sym (only_named w.classes (text_of names a.sig.class) class says h.class h.is_class) in
     let fields = fields_of w.classes in
-    let keys = first_or_one (length fields) (HasFieldKey fields (accessed_key names a.is_static a.sig)) h.key key h.is_key is_key in
+    let keys = first_one (length fields) (HasFieldKey fields (accessed_key names a.is_static a.sig)) h.key key h.is_key is_key in
     let none : FieldOf w.rows class key None = subst (λ k. FieldOf w.rows class k None) keys (subst (λ k. FieldOf w.rows k h.key None) one h.none) in
     let same = look_up_one w.rows class key None (Some row) none finds in
     cc (same))

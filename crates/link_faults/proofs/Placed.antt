@@ -3,6 +3,7 @@ use Rattle.std.proofs.Common.{◌≡◌, ℕ, Bool, ◌<◌, List, Option, Some,
 use Rattle.std.specs.Prelude.{◌↔◌, IsSomeAnd, option_map}
 use Rattle.std.proofs.lemmas.Option.{slice_get-get_or}
 use Rattle.lists.specs.Lists.{Has}
+use Rattle.lists.proofs.Joined.{first_one}
 use Rattle.jim_ast.specs.declared.names.NameId.{NameId}
 use Rattle.jim_ast.specs.declared.syntax.Body.{Body}
 use Rattle.jim_ast.specs.declared.syntax.Mode.TheVariants.{Static}
@@ -27,7 +28,6 @@ use Rattle.link_faults.specs.Callees.{IsCallWithin, IsCallee, IsCalleeIf, IsCall
 use Rattle.link_faults.specs.Progress.{AsksForName}
 use Rattle.link_faults.specs.Parts.{AreNamed, plain_call, seen_access, seen_call}
 use Rattle.link_faults.specs.Sites.{IsAmbiguousCall, IsNativeRow, IsUndeclaredCall, RunsNative, RunsRow}
-use Rattle.link_rules.proofs.OneWorld.{first_or_one}
 use Rattle.link_faults.proofs.StmtParts.{some_and}
 use Rattle.link_faults.proofs.Within.{in_access, in_call, in_new, in_stmt, in_trap}
 
@@ -39,7 +39,7 @@ module _ (w : World) (names : List (List ℕ)) (c : PlainCall) (k : Callee) (s :
   named_key : {class key : ℕ} → AreNamed w names c class key → key ≡ k.key
   named_key {class} {key} n =
       let methods = methods_of w.classes in
-      first_or_one (length methods) (HasMethodKey methods (called_key names c.mode c.sig)) key k.key n.is_key s.named.is_key
+      first_one (length methods) (HasMethodKey methods (called_key names c.mode c.sig)) key k.key n.is_key s.named.is_key
 
   pub undeclared_call_by : (b : Bool) → IsTrue b ↔ FindsNone w c.mode k.class k.key → IsTrue b ↔ IsUndeclaredCall w names c
   undeclared_call_by b is = (

@@ -36,15 +36,6 @@ module _ {X : Type 0} (P : X → Type 0) where
   pub none_of : (xs : List X) (n : ℕ) → NoneBefore P xs n → length xs ≤ n → (y : X) → Has xs y → P y → ⊥
   none_of xs n none all y h p = none h.0 y (omega (arith, slice_get-below xs h.0 y h.1)) h.1 p
 
--- what a test of an option says
-pub none_from : {X : Type 0} (o : Option X) → is_some o ≡ false → o ≡ None
-none_from None e = refl
-none_from (Some x) e = absurd (true≢false e)
-
-pub some_from : {X : Type 0} (o : Option X) → is_some o ≡ true → (x : X) × (o ≡ Some x)
-some_from None e = absurd (true≢false (sym e))
-some_from (Some x) e = (x, refl)
-
 -- what a comparison with a number says
 pub same_some : (o : Option ℕ) (n : ℕ) → option_eq eqb o (Some n) ≡ true → o ≡ Some n
 same_some None n e = absurd (false≢true e)

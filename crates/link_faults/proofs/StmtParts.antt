@@ -4,6 +4,7 @@ use Rattle.std.specs.Prelude.{IsSomeAnd, option_and_then}
 use Rattle.std.specs.List.{cons_option, filter_map}
 use Rattle.std.specs.Option.{option_to_list}
 use Rattle.lists.specs.Lists.{Has}
+use Rattle.lists.proofs.Joined.{Has-either, Has-left, Has-right}
 use Rattle.jim_ast.specs.declared.names.NameId.{NameId}
 use Rattle.jim_ast.specs.declared.syntax.Expr.{Expr}
 use Rattle.jim_ast.specs.declared.syntax.Expr.TheVariants as expr
@@ -40,21 +41,6 @@ pub plain_call_is : (s : Stmt) (c : PlainCall) → IsCallOf s c → plain_call s
 plain_call_is s c is = ap (option_and_then plain_of) is
 
 module _ {X : Type 0} where
-  -- an element of two lists, one behind the other
-  pub Has-append : (xs ys : List X) (x : X) → Has (xs ++ ys) x → Has xs x ⊎ Has ys x
-  Has-append [] ys x h = inr h
-  Has-append (y ∷ xs) ys x (zero, e) = inl (zero, e)
-  Has-append (y ∷ xs) ys x (suc i, e) = elim (Has-append xs ys x (i, e)) [ inl a ↦ inl (suc a.0, a.1) | inr b ↦ inr b ]
-
-  pub Has-left : (xs ys : List X) (x : X) → Has xs x → Has (xs ++ ys) x
-  Has-left [] ys x (i, e) = cc (e)
-  Has-left (y ∷ xs) ys x (zero, e) = (zero, e)
-  Has-left (y ∷ xs) ys x (suc i, e) = let h = Has-left xs ys x (i, e) in (suc h.0, h.1)
-
-  pub Has-right : (xs ys : List X) (x : X) → Has ys x → Has (xs ++ ys) x
-  Has-right [] ys x h = h
-  Has-right (y ∷ xs) ys x h = let k = Has-right xs ys x h in (suc k.0, k.1)
-
   pub Has-one : (y x : X) → Has (y ∷ []) x → x ≡ y
   Has-one y x (zero, e) = cc (e)
   Has-one y x (suc i, e) = cc (e)
@@ -129,8 +115,8 @@ from_option None P p = absurd p
 module _ (locals : List NameId) (s : Stmt) where
   -- one of a statement's locals isn't declared, by its parts
   pub missing_by_parts : (x : NameId) → Has (locals_of s) x → IsMissing locals x → HasMissingLocal locals s
-  missing_by_parts x named missing = elim (Has-append (locals_beside_operands s) (filter_map operand_local (operands s)) x named) [
-    | inl h ↦ elim (Has-append (option_to_list (assigned_of s)) (option_to_list (base_of s)) x (subst (λ (xs : List NameId). Has xs x) (beside s) h)) [
+  missing_by_parts x named missing = elim (Has-either (locals_beside_operands s) (filter_map operand_local (operands s)) x named) [
+    | inl h ↦ elim (Has-either (option_to_list (assigned_of s)) (option_to_list (base_of s)) x (subst (λ (xs : List NameId). Has xs x) (beside s) h)) [
       | inl a ↦ inl (in_option (assigned_of s) (IsMissing locals) x a missing)
       | inr b ↦ inr (inl (in_option (base_of s) (IsMissing locals) x b missing))
     ]

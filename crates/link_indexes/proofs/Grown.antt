@@ -1,35 +1,12 @@
 -- Facts of what stands at an index of a list that grows at its end.
-use Rattle.std.proofs.Common.{◌≡◌, ◌≢◌, ℕ, ◌+◌, ◌<◌, ◌↔◌, ◌⊎◌, List, [], ◌∷◌, ◌++◌, length, get_or, take, slice_get, Some, sym, ap, ◌∙◌, subst, inl, inr, arith, length-take}
-use Rattle.std.proofs.lemmas.List.{take_more}
-use Rattle.std.proofs.lemmas.Option.{get_or_from_slice_get, slice_get-get_or}
-use Rattle.lists.specs.Lists.{Has}
-use Rattle.lists.proofs.Places.{slice_get-append_left, slice_get-below, slice_get-push, slice_get-pushed}
+use Rattle.std.proofs.Common.{◌≡◌, ◌≢◌, ℕ, ◌+◌, ◌<◌, ◌↔◌, ◌⊎◌, List, [], ◌∷◌, ◌++◌, length, take, slice_get, Some, sym, subst, inl, inr, arith, length-take}
+use Rattle.lists.proofs.Places.{length-taken, slice_get-append_left, slice_get-below, slice_get-push, slice_get-pushed, take-next}
 
 -- an element that has the fact stands at the index
 abbrev pub StandsAt : {X : Type 0} → (X → ℕ → Type 0) → List X → ℕ → Type 0
 StandsAt {X} Q xs i = (x : X) × (slice_get xs i ≡ Some x) × Q x i
 
 module _ {X : Type 0} where
-  -- an element as indexing reads it
-  pub slice_get-read : (xs : List X) (i : ℕ) (x : X) → i < length xs → x ≡ get_or xs i x → slice_get xs i ≡ Some x
-  slice_get-read xs i x below read = slice_get-get_or xs i x below ∙ ap Some (sym read)
-
-  -- the front of a list up to behind an element
-  pub take-next : (xs : List X) (i : ℕ) (x : X) → slice_get xs i ≡ Some x → take (i + 1) xs ≡ take i xs ++ x ∷ []
-  take-next xs i x there =
-      take_more xs i x (slice_get-below xs i x there) ∙ ap (λ y. take i xs ++ y ∷ []) (get_or_from_slice_get xs i x x there)
-
-  -- the front of a list up to an element
-  pub length-taken : (xs : List X) (i : ℕ) (x : X) → slice_get xs i ≡ Some x → length (take i xs) ≡ i
-  length-taken xs i x there = let below : i < length xs = slice_get-below xs i x there in omega (arith, length-take i xs)
-
-  -- the elements of a list that was added to
-  pub Has-push : (xs : List X) (x y : X) → Has (xs ++ x ∷ []) y ↔ (Has xs y ⊎ (y ≡ x))
-  Has-push xs x y = (
-    (λ has. elim (slice_get-pushed xs x has.0 y has.1) [ inl a ↦ inl (has.0, a) | inr b ↦ inr b.1 ]),
-    (λ either. elim either [ inl has ↦ (has.0, slice_get-append_left xs _ has.0 y has.1) | inr e ↦ (length xs, rw e (slice_get-push xs x)) ]),
-  )
-
   -- what stands at an index of a list that was added to
   pub StandsAt-push : (Q : X → ℕ → Type 0) (xs : List X) (x : X) (i : ℕ) → StandsAt Q (xs ++ x ∷ []) i ↔ (StandsAt Q xs i ⊎ ((i ≡ length xs) × Q x (length xs)))
   StandsAt-push Q xs x i = (

@@ -1,5 +1,4 @@
 pub mod Filed
 pub mod Grown
-pub mod Laid
 pub mod Listed
-pub mod Tallied
+pub mod Lasts

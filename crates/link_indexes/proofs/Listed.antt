@@ -11,9 +11,11 @@ use Rattle.link_rules.specs.declared.code.Code.{Code}
 use Rattle.link_rules.specs.Flow.{Next}
 use Rattle.link_indexes.specs.declared.method.MethodCode.{MethodCode}
 use Rattle.link_indexes.specs.declared.method.Place.{Place}
-use Rattle.link_indexes.specs.Rows.{AreTheIndexes, IsFiled, Precedes, row}
+use Rattle.link_indexes.specs.Rows.{AreTheIndexes, IsFiled, Precedes}
+use Rattle.lists.specs.Filings.{row}
 use Rattle.link_indexes.specs.Tables.{AreIndexesBy, ArePlacesBy, ArePredecessors, ArePredecessorsBy, GoesOn, IsAt, IsAtIndex, codes_of}
-use Rattle.link_indexes.proofs.Filed.{AreExactly-filed, AreExactly-push, AreExactly-same}
+use Rattle.link_indexes.proofs.Filed.{AreExactly-filed}
+use Rattle.lists.proofs.Exactly.{AreExactly-push, AreExactly-same}
 use Rattle.link_indexes.proofs.Grown.{StandsAt-below, StandsAt-last, StandsAt-next, StandsAt-other, StandsAt-push}
 
 -- the code of a method of the list

@@ -5,7 +5,8 @@ use Rattle.link_rules.specs.Flow.{Next, IsRaised, IsReturn}
 use Rattle.link_indexes.specs.declared.method.MethodCode.{MethodCode}
 use Rattle.link_indexes.specs.declared.method.Place.{Place}
 use Rattle.link_indexes.specs.Facts.{Calls, Stores, StoresStatic}
-use Rattle.link_indexes.specs.Rows.{AreTheIndexes, AreThePlaces, row}
+use Rattle.link_indexes.specs.Rows.{AreTheIndexes, AreThePlaces}
+use Rattle.lists.specs.Filings.{row}
 
 -- the code of each method
 abbrev pub codes_of : List MethodCode → List (List Code)

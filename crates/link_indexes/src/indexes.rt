@@ -1,14 +1,13 @@
 //! All indexes of a program's code.
 ghost use Rattle.std.specs.Prelude.{◌≡◌, IfOk};
-ghost use Rattle.link_indexes.specs.Rows.{row};
+ghost use Rattle.lists.specs.Filings.{row};
 ghost use Rattle.link_indexes.specs.Tables.{AreIndexes, codes_of};
 
 use super::before::predecessors_by_method;
 use super::facts::{Key, Kind};
 use super::listing::{indexes_by_method, places_by};
 use super::method::{MethodCode, Place};
-use super::rows::Rows;
-use lists::NoMemory;
+use lists::{NoMemory, Rows};
 use std::alloc::Global;
 use std::marker::Model;
 

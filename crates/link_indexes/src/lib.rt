@@ -8,7 +8,6 @@ mod filing;
 mod indexes;
 mod listing;
 mod method;
-mod rows;
 
 pub use indexes::Indexes;
 pub use method::{MethodCode, Place};

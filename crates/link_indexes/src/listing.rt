@@ -1,14 +1,15 @@
 //! The lists of places by number, and of indexes by method.
 ghost use Rattle.std.specs.Prelude.{◌≡◌, IfOk, map};
 ghost use Rattle.link_indexes.specs.Facts.{HasKey, IsOfKind};
-ghost use Rattle.link_indexes.specs.Rows.{AreTheIndexes, row};
+ghost use Rattle.link_indexes.specs.Rows.{AreTheIndexes};
+ghost use Rattle.lists.specs.Filings.{row};
 ghost use Rattle.link_indexes.specs.Tables.{AreIndexesBy, ArePlacesBy, IsAtIndex, codes_of};
 
 use super::facts::{Key, Kind, is_of_kind, keys};
 use super::filing::Filing;
 use super::method::{MethodCode, Place};
-use super::rows::Rows;
 use link_rules::Code;
+use lists::Rows;
 use std::alloc::{AllocError, Global};
 
 /// The number of what stands at a place. There is room for 4,294,967,295 methods or statements.

@@ -1,7 +1,7 @@
 -- The code of a call, and which classes and keys it names.
-use Rattle.std.proofs.Common.{◌≡◌, ℕ, ◌<◌, Option, Some, None, List, slice_get, refl, sym, ◌∙◌, subst, inl, inr}
-use Rattle.std.proofs.lemmas.Bool.{cases_order}
+use Rattle.std.proofs.Common.{◌≡◌, ℕ, Option, Some, None, List, slice_get, refl, sym, ◌∙◌, subst}
 use Rattle.std.proofs.lemmas.Option.{same_Some}
+use Rattle.lists.proofs.Joined.{first_one}
 use Rattle.jim_ast.specs.declared.names.NameId.{NameId}
 use Rattle.jim_ast.specs.declared.syntax.Body.{Body}
 use Rattle.jim_ast.specs.declared.syntax.Expr.{Expr}
@@ -17,18 +17,17 @@ use Rattle.link_rules.specs.declared.code.Arg.{Arg}
 use Rattle.link_rules.specs.declared.code.Code.{Code}
 use Rattle.link_rules.specs.declared.code.Code.TheVariants as code
 use Rattle.link_rules.specs.declared.refusal.LinkKind.TheVariants as rule
-use Rattle.link_rules.specs.Classes.{DeclaredMethod, IsNamed, methods_of}
+use Rattle.link_rules.specs.Classes.{DeclaredMethod, methods_of}
 use Rattle.link_rules.specs.Codes.{IsAssignment, IsCall, IsCode, IsMethodNumber, Scope}
 use Rattle.link_rules.specs.Keys.{HasMethodKey, called_key}
 use Rattle.link_rules.specs.Linked.{LinkedMethod, LinkedProgram, scope_of}
-use Rattle.link_rules.specs.Refusals.{whole}
 use Rattle.link_rules.specs.Statements.{call_of, expr_call}
 use Rattle.link_rules.specs.Targets.{Calls, MayRun}
 use Rattle.link_rules.specs.WellLinked.{HasTarget}
 use Rattle.link_rules.specs.World.{World}
-use Rattle.link_rules.proofs.OneWorld.{first_or_one}
 use Rattle.link_laws.proofs.Lists.{each_left}
 use Rattle.link_laws.proofs.Stands.{IsMade, Stands}
+use Rattle.link_laws.proofs.OneClass.{class_one}
 
 -- the code is that of this call
 pub record IsCallCode (in_scope : Scope) (mode : Mode) (sig : MethodSig) (args : List Imm) (c : Code) : Type 0 where
@@ -86,19 +85,6 @@ call_code in_scope (stmt.Call Dynamic) c i e h = elim h [ ]
 call_code in_scope s c i is h = cc
 
 module _ (w : World) (p : LinkedProgram) (made : IsMade w p) where
-  -- a name is that of one class
-  class_one : (name : List ℕ) (a b : ℕ) → IsNamed w.classes name a → IsNamed w.classes name b → a ≡ b
-  class_one name a b one two =
-      let later : (a b : ℕ) → IsNamed w.classes name a → IsNamed w.classes name b → a < b → ⊥ =
-      λ a b one two before. made.link.accepted (whole rule.DuplicateClass b) (record {
-        class = two.class;
-        there = two.there;
-        earlier = a;
-        before = before;
-        same = record { class = one.class; there = one.there; named = one.named ∙ sym two.named };
-      }) in
-      elim (cases_order a b) [ inl same ↦ same | inr apart ↦ elim apart [ inl below ↦ absurd (later a b one two below) | inr above ↦ absurd (later b a two one above) ] ]
-
   -- what a call may run is a target of its code
   pub target_of : (m : DeclaredMethod) (l : LinkedMethod) → Stands w p m l → (number : ℕ) → slice_get p.methods number ≡ Some l → (index row : ℕ)
       → Calls w m index row
@@ -110,8 +96,8 @@ module _ (w : World) (p : LinkedProgram) (made : IsMade w p) where
       let c = each_left (IsCode (scope_of w p m st.linked.body)) st.linked.body.stmts l.code index at.stmt st.linked.code s in
       let coded : IsCallCode (scope_of w p m st.linked.body) at.call.mode at.call.sig at.call.args c.0 =
       call_code (scope_of w p m st.linked.body) at.stmt c.0 (Plain at.call.mode at.call.receiver at.call.sig at.call.args) at.is_call c.2 in
-      let class = class_one _ calls.names.class coded.class calls.names.is_class coded.call.is_class in
-      let key = first_or_one _ (HasMethodKey (methods_of w.classes) (called_key m.names at.call.mode at.call.sig)) calls.names.key coded.key calls.names.is_key coded.call.is_key in
+      let class = class_one w made.link.accepted _ calls.names.class coded.class calls.names.is_class coded.call.is_class in
+      let key = first_one _ (HasMethodKey (methods_of w.classes) (called_key m.names at.call.mode at.call.sig)) calls.names.key coded.key calls.names.is_key coded.call.is_key in
       let runs = subst (λ n. MayRun w at.call.mode n coded.key row) class (subst (λ n. MayRun w at.call.mode calls.names.class n row) key calls.runs) in
       let listed = (coded.call.are_rows.each row).1 runs in
       let target = each_left (IsMethodNumber (scope_of w p m st.linked.body)) coded.call.rows coded.targets listed.0 row coded.call.numbered listed.1 in (

@@ -4,6 +4,7 @@ use Rattle.std.specs.List.{enumerate_from}
 use Rattle.std.proofs.lemmas.List.Kept.{AllPairs-cons}
 use Rattle.std.proofs.lemmas.Option.{same_Some}
 use Rattle.lists.specs.Lists.{Has, AreIncreasing}
+use Rattle.lists.proofs.Joined.{slice_get-append_right, slice_get-appended}
 use Rattle.jim_ast.specs.declared.names.NameId.{NameId}
 use Rattle.jim_ast.specs.declared.syntax.Expr.{Expr}
 use Rattle.jim_ast.specs.declared.syntax.Expr.TheVariants as expr
@@ -15,7 +16,7 @@ use Rattle.link_rules.specs.declared.code.Code.TheVariants as code
 use Rattle.link_rules.specs.Codes.{IsAssignment, IsCode, Scope}
 use Rattle.link_rules.specs.Linked.{Element, element_at, elements_of}
 use Rattle.link_rules.specs.WellLinked.{MakesArrays}
-use Rattle.link_laws.proofs.Lists.{all_at, at_map, slice_get-append_right, slice_get-appended}
+use Rattle.link_laws.proofs.Lists.{all_at, at_map}
 
 -- what the element of a statement is, if it makes an array
 abbrev HasOne : List (List ℕ) → ℕ → Stmt → Type 0

@@ -17,3 +17,4 @@ pub mod OneCode
 pub mod OneLink
 pub mod OneList
 pub mod OneRefusal
+pub mod OneClass

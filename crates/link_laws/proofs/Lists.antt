@@ -1,5 +1,5 @@
 -- Lemmas on lists by their places.
-use Rattle.std.proofs.Common.{◌≡◌, ℕ, zero, suc, ◌+◌, ◌<◌, ◌⊎◌, List, [], ◌∷◌, ◌++◌, length, map, flat_map, slice_get, get_or, Some, All, refl, sym, ap, ◌∙◌, subst, inl, inr, arith}
+use Rattle.std.proofs.Common.{◌≡◌, ℕ, zero, suc, ◌+◌, ◌<◌, List, [], ◌∷◌, map, flat_map, slice_get, get_or, Some, All, refl, sym, ap, ◌∙◌, subst, inl, inr, arith}
 use Rattle.std.specs.List.{enumerate_from}
 use Rattle.std.specs.Option.{option_map}
 use Rattle.std.proofs.lemmas.Bool.{cases_order}
@@ -7,6 +7,7 @@ use Rattle.std.proofs.lemmas.Option.{get_or_from_slice_get, slice_get-get_or, sl
 use Rattle.lists.specs.Lists.{Has, IsApart, AreIncreasing, Each, FirstSeen}
 use Rattle.lists.proofs.Places.{IsApart-adds, slice_get-below, slice_get-there}
 use Rattle.lists.specs.Lists.{none, next}
+use Rattle.lists.proofs.Joined.{slice_get-appended}
 
 module _ {X : Type 0} where
   -- a fact of each element by its place
@@ -20,18 +21,6 @@ module _ {X : Type 0} where
   -- one place has one element
   pub same_place : (xs : List X) (i : ℕ) (x y : X) → slice_get xs i ≡ Some x → slice_get xs i ≡ Some y → x ≡ y
   same_place xs i x y p q = cc
-
-  -- lists joined: an element of the second stands behind the first
-  pub slice_get-append_right : (xs ys : List X) (i : ℕ) → slice_get (xs ++ ys) (length xs + i) ≡ slice_get ys i
-  slice_get-append_right [] ys i = let e : 0 + i ≡ i = omega arith in ap (slice_get ys) e
-  slice_get-append_right (x ∷ xs) ys i = let e : length (x ∷ xs) + i ≡ suc (length xs + i) = omega arith in ap (slice_get ((x ∷ xs) ++ ys)) e ∙ slice_get-append_right xs ys i
-
-  -- an element of joined lists stands in one of them
-  pub slice_get-appended : (xs ys : List X) (i : ℕ) (x : X) → slice_get (xs ++ ys) i ≡ Some x
-      → (slice_get xs i ≡ Some x) ⊎ ((j : ℕ) × (i ≡ length xs + j) × (slice_get ys j ≡ Some x))
-  slice_get-appended [] ys i x e = inr (i, omega arith, e)
-  slice_get-appended (y ∷ xs) ys zero x e = inl e
-  slice_get-appended (y ∷ xs) ys (suc i) x e = elim (slice_get-appended xs ys i x e) [ inl h ↦ inl h | inr h ↦ inr (h.0, omega (arith, h.1), h.2) ]
 
   -- elements in the order of first use stand at one place each
   pub first_seen_apart : {uses new : List X} → FirstSeen uses new → IsApart new

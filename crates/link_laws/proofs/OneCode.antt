@@ -2,6 +2,7 @@
 use Rattle.std.proofs.Common.{◌≡◌, ℕ, Bool, true, false, Some, None, Option, List, length, refl, sym, ap, ◌∙◌, slice_get}
 use Rattle.class_tree.proofs.LawFacts.{look_up_one}
 use Rattle.lists.specs.Lists.{IsApart, BothOrNone}
+use Rattle.lists.proofs.Joined.{first_one}
 use Rattle.jim_ast.specs.declared.names.NameId.{NameId}
 use Rattle.jim_ast.specs.declared.syntax.Expr.{Expr}
 use Rattle.jim_ast.specs.declared.syntax.Expr.TheVariants as expr
@@ -24,7 +25,6 @@ use Rattle.link_rules.specs.Classes.{IsNamed, fields_of, methods_of}
 use Rattle.link_rules.specs.Codes.{FindsField, IsArg, IsAssignment, IsCall, IsCatch, IsCode, IsField, IsJump, IsLocal, IsMethodNumber, IsStatic, Scope, instance_number, static_number}
 use Rattle.link_rules.specs.Keys.{HasFieldKey, HasMethodKey, accessed_key, called_key}
 use Rattle.link_rules.specs.Names.{text_of}
-use Rattle.link_rules.proofs.OneWorld.{first_or_one}
 use Rattle.link_rules.proofs.Runs.{order_one}
 use Rattle.link_laws.proofs.OneList.{each_one, number_one}
 
@@ -81,7 +81,7 @@ module _ (s : Scope) (one : HasOneEach s) where
   finds_one : (flag : Bool) (sig : FieldSig) (a b : ℕ) → FindsField s flag sig a → FindsField s flag sig b → a ≡ b
   finds_one flag sig a b p q =
       let class = one.classes (text_of s.names sig.class) p.class q.class p.is_class q.is_class in
-      let key = first_or_one (length (fields_of s.world.classes)) (HasFieldKey (fields_of s.world.classes) (accessed_key s.names flag sig)) p.key q.key p.is_key q.is_key in
+      let key = first_one (length (fields_of s.world.classes)) (HasFieldKey (fields_of s.world.classes) (accessed_key s.names flag sig)) p.key q.key p.is_key q.is_key in
       let there = look_up_one s.world.rows p.class p.key (Some a) (Some b) p.finds (rw (class, key) q.finds) in
       cc there
 
@@ -102,7 +102,7 @@ module _ (s : Scope) (one : HasOneEach s) where
       → IsCall s mode sig args d l cs us → IsSameCall c d k l bs cs ts us
   call_one mode sig args c d k l bs cs ts us p q =
       let class = one.classes (text_of s.names sig.class) c d p.is_class q.is_class in
-      let key = first_or_one (length (methods_of s.world.classes)) (HasMethodKey (methods_of s.world.classes) (called_key s.names mode sig)) k l p.is_key q.is_key in
+      let key = first_one (length (methods_of s.world.classes)) (HasMethodKey (methods_of s.world.classes) (called_key s.names mode sig)) k l p.is_key q.is_key in
       let rows = order_one s.world mode c k p.rows q.rows p.are_rows (rw (class, key) q.are_rows) in
       record {
         class_is = class;

@@ -2,12 +2,12 @@
 use Rattle.std.proofs.Common.{◌≡◌, ℕ, ◌++◌, Some, List, [], ◌∷◌, codes, flat_map, map, refl, sym, ap, ◌∙◌, subst, inl, inr, slice_get}
 use Rattle.lists.specs.Lists.{IsApart, Each, FirstSeen}
 use Rattle.jim_ast.specs.declared.syntax.Body.{Body}
-use Rattle.link_rules.specs.Classes.{DeclaredClass, DeclaredMethod, IsNamed, method_text, methods_of}
+use Rattle.link_rules.specs.Classes.{DeclaredClass, DeclaredMethod, method_text, methods_of}
 use Rattle.link_rules.specs.Codes.{IsCatch, IsCode, Scope}
 use Rattle.link_rules.specs.Linked.{AreLinkedMethods, IsLinkedClass, IsLinkedMethod, IsLinkedRow, IsLinkOf, LinkedClass, LinkedMethod, LinkedProgram, class_text_in, elements_of, scope_of, text_in, used_by}
 use Rattle.link_rules.specs.Names.{text_of}
 use Rattle.link_rules.specs.Reach.{AreInitialized, Reached}
-use Rattle.link_rules.specs.Refusals.{IsAccepted, IsReachedAs, whole, within}
+use Rattle.link_rules.specs.Refusals.{IsAccepted, IsReachedAs, within}
 use Rattle.link_rules.specs.Root.{root_number, root_of}
 use Rattle.link_rules.specs.Statements.{HasBody}
 use Rattle.link_rules.specs.World.{World}
@@ -16,27 +16,10 @@ use Rattle.link_rules.proofs.OneWorld.{world_one}
 use Rattle.link_laws.proofs.Lists.{first_seen_apart, increasing_apart}
 use Rattle.link_laws.specs.One.{HasOneLink}
 use Rattle.link_laws.proofs.OneCode.{HasOneEach, catch_one, code_one}
-use Rattle.link_laws.proofs.OneList.{apart_unless, bool_one, each_one, each_two, first_seen_one, increasing_one, number_one}
+use Rattle.link_laws.proofs.OneList.{apart_unless, bool_one, each_one, each_two, first_seen_one, increasing_one}
+use Rattle.link_laws.proofs.OneClass.{class_one}
 
 module _ (w : World) (accepted : IsAccepted w) where
-  -- a class has one number
-  class_one : (name : List ℕ) (a b : ℕ) → IsNamed w.classes name a → IsNamed w.classes name b → a ≡ b
-  class_one name a b p q = number_one a b
-      (λ below. accepted (whole rule.DuplicateClass b) (record {
-        class = q.class;
-        there = q.there;
-        earlier = a;
-        before = below;
-        same = record { class = p.class; there = p.there; named = p.named ∙ sym q.named };
-      }))
-      (λ below. accepted (whole rule.DuplicateClass a) (record {
-        class = p.class;
-        there = p.there;
-        earlier = b;
-        before = below;
-        same = record { class = q.class; there = q.there; named = q.named ∙ sym p.named };
-      }))
-
   -- the locals of a method that may be reached stand at one place each
   locals_apart : (number : ℕ) (m : DeclaredMethod) (body : Body) → IsReachedAs w number m → HasBody m body → IsApart body.locals
   locals_apart number m body reached in_body = apart_unless body.locals (λ repeated.

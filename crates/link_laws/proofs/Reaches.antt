@@ -3,6 +3,7 @@ use Rattle.std.proofs.Common.{◌≡◌, ℕ, zero, suc, ◌+◌, Some, None, Li
 use Rattle.std.proofs.lemmas.Option.{same_Some}
 use Rattle.lists.specs.Lists.{Has}
 use Rattle.lists.proofs.Places.{slice_get-append_left, slice_get-below, slice_get-pushed}
+use Rattle.lists.proofs.Joined.{slice_get-append_right, slice_get-appended}
 use Rattle.jim_ast.specs.declared.syntax.Body.{Body}
 use Rattle.jim_ast.specs.declared.syntax.Stmt.{Stmt}
 use Rattle.jim_ast.specs.declared.syntax.Stmt.TheVariants as stmt
@@ -14,7 +15,7 @@ use Rattle.link_rules.specs.Targets.{Calls}
 use Rattle.link_rules.specs.WellLinked.{HasTarget, IsReachedByCalls, root as root_itself, called as by_call}
 use Rattle.link_rules.specs.World.{World}
 use Rattle.link_laws.proofs.CallCode.{target_of}
-use Rattle.link_laws.proofs.Lists.{at_map, each_left, each_right, increasing_apart, map_at, slice_get-append_right, slice_get-appended}
+use Rattle.link_laws.proofs.Lists.{at_map, each_left, each_right, increasing_apart, map_at}
 use Rattle.link_laws.proofs.Stands.{IsMade, method_at, root_at, row_at, stands_root, stands_row}
 
 -- the end of the root's statements

@@ -4,6 +4,7 @@ use Rattle.std.specs.List.{enumerate_from}
 use Rattle.std.proofs.lemmas.Option.{same_Some}
 use Rattle.lists.specs.Lists.{Has}
 use Rattle.lists.proofs.Places.{slice_get-pushed}
+use Rattle.lists.proofs.Joined.{slice_get-appended}
 use Rattle.jim_ast.specs.declared.names.NameId.{NameId}
 use Rattle.jim_ast.specs.declared.syntax.Body.{Body}
 use Rattle.jim_ast.specs.declared.syntax.Class.{Class}
@@ -18,7 +19,7 @@ use Rattle.link_rules.specs.Keys.{is_static_mode}
 use Rattle.link_rules.specs.Root.{initializer_call, main_call, root_of, root_stmts}
 use Rattle.link_rules.specs.Statements.{HasBody}
 use Rattle.link_rules.specs.World.{IsWorld, World}
-use Rattle.link_laws.proofs.Lists.{all_at, at_enumerate, at_map, in_flat_map, slice_get-appended}
+use Rattle.link_laws.proofs.Lists.{all_at, at_enumerate, at_map, in_flat_map}
 
 -- a method is one of the class whose number it has
 pub record IsMethodOf (classes : List DeclaredClass) (m : DeclaredMethod) : Type 0 where

@@ -1,9 +1,8 @@
 -- What is left, as it is put together.
 use Rattle.std.proofs.Common.{◌≡◌, ℕ, ◌+◌, ◌⊎◌, ◌++◌, List, [], ◌∷◌, Option, Some, length, slice_get, take, sym, ap, ◌∙◌, subst, inl, inr, arith, length-append}
 use Rattle.lists.specs.Lists.{Adds, Has}
-use Rattle.lists.proofs.Places.{slice_get-pushed}
+use Rattle.lists.proofs.Places.{slice_get-pushed, Has-push, take-next}
 use Rattle.link_indexes.specs.declared.method.MethodCode.{MethodCode}
-use Rattle.link_indexes.proofs.Grown.{Has-push, take-next}
 use Rattle.jim_ast.specs.declared.syntax.Mode.{Mode}
 use Rattle.link_rules.specs.declared.code.Arg.{Arg}
 use Rattle.link_rules.specs.declared.code.Code.{Code}

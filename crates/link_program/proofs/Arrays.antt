@@ -12,8 +12,9 @@ use Rattle.link_program.specs.declared.elements.ElementText.{ElementText}
 use Rattle.link_rules.specs.Accessed.{HasElementText, MakesArray}
 use Rattle.link_rules.specs.Linked.{Element, LinkedProgram}
 use Rattle.lists.specs.Lists.{AreIncreasing}
+use Rattle.lists.proofs.Joined.{slice_get-mapped}
 use Rattle.link_rules.specs.WellLinked.{FitsMethod, IsInForm}
-use Rattle.link_program.proofs.Found.{at_map, from_map}
+use Rattle.link_program.proofs.Found.{at_map}
 
 -- the one that is read has this text
 pub text_at : (elements : List ElementText) (i index : ℕ) (e : ElementText) (text : List ℕ) → i < length elements → e ≡ get_or elements i e → e.index ≡ index → text ≡ e.text
@@ -37,7 +38,7 @@ module _ (elements : List ElementText) (index at : ℕ) (point : IsPartitionPoin
     (text : List ℕ) (h : HasElementText (elements_in elements) index text) where
   -- it is there
   found : (k : ℕ) × (e : ElementText) × (slice_get elements k ≡ Some e) × (e.index ≡ index)
-  found = let e = from_map element_of elements h.has.0 h.element h.has.1 in (h.has.0, e.0, e.1, ap (λ x. x.index) e.2 ∙ h.at)
+  found = let e = slice_get-mapped element_of elements h.has.0 h.element h.has.1 in (h.has.0, e.0, e.1, ap (λ x. x.index) e.2 ∙ h.at)
 
   -- no array of the index stands before it
   not_before : (k : ℕ) (e : ElementText) → slice_get elements k ≡ Some e → e.index ≡ index → k < at → ⊥

@@ -4,6 +4,7 @@ use Rattle.std.specs.Option.{option_map}
 use Rattle.std.proofs.lemmas.Option.{slice_get-get_or, slice_get-map, same_Some}
 use Rattle.lists.specs.Lists.{IsLeast, Has}
 use Rattle.lists.proofs.Places.{slice_get-below, slice_get-there}
+use Rattle.lists.proofs.Joined.{slice_get-mapped}
 use Rattle.link_rules.specs.Linked.{LinkedMethod, LinkedProgram}
 use Rattle.link_indexes.specs.declared.method.MethodCode.{MethodCode}
 use Rattle.link_rules.specs.Accessed.{HasText, IsFirstPlace}
@@ -14,12 +15,6 @@ use Rattle.link_program.proofs.Joined.{length-joined, slice_get-joined}
 -- what stands at a place of a mapped list
 pub at_map : {X Y : Type 0} (f : X → Y) (xs : List X) (i : ℕ) (x : X) → slice_get xs i ≡ Some x → slice_get (map f xs) i ≡ Some (f x)
 at_map f xs i x e = slice_get-map f xs i ∙ ap (option_map f) e
-
--- what a mapped list has comes from an element
-pub from_map : {X Y : Type 0} (f : X → Y) (xs : List X) (i : ℕ) (y : Y) → slice_get (map f xs) i ≡ Some y → (x : X) × (slice_get xs i ≡ Some x) × (f x ≡ y)
-from_map f [] i y e = absurd (cc (e))
-from_map f (x ∷ xs) zero y e = (x, refl, same_Some (f x) y e)
-from_map f (x ∷ xs) (suc i) y e = from_map f xs i y e
 
 -- the method with this number, by its parts
 module _ (hs : List MethodHead) (bs : List MethodCode) (as_many : length hs ≡ length bs) (i : ℕ) (m : LinkedMethod) (there : slice_get (joined hs bs) i ≡ Some m) where
@@ -63,7 +58,7 @@ module _ (p : LinkedProgram) (text : List ℕ) where
   -- the first of the text, where it isn't the root
   pub first_text : (n : ℕ) → IsFirstPlace (texts_of p.methods) text n → n + 1 < length p.methods → IsLeast (HasText p text) n
   first_text n is less =
-      let m = from_map (λ (m : LinkedMethod). m.text) p.methods n text is.holds in
+      let m = slice_get-mapped (λ (m : LinkedMethod). m.text) p.methods n text is.holds in
       record {
         holds = record { method = m.0; there = m.1; not_root = less; is_text = m.2 };
         first = λ k before h. is.first k before (of_text k h);

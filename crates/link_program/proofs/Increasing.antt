@@ -21,16 +21,6 @@ place_le rows (suc i) row increasing at =
     let before = slice_get-there rows i (omega (arith, slice_get-below rows (suc i) row at)) in
     omega (arith, place_le rows i before.0 increasing before.1, smaller rows i (suc i) before.0 row increasing (omega arith) before.1 at)
 
--- a row stands at one place
-pub one_place : (rows : List ℕ) (i j row : ℕ) → AreIncreasing rows → slice_get rows i ≡ Some row → slice_get rows j ≡ Some row → i ≡ j
-one_place rows i j row increasing at_i at_j = elim (cases_order i j) [
-  | inl same ↦ same
-  | inr apart ↦ elim apart [
-    | inl before ↦ absurd (omega (arith, smaller rows i j row row increasing before at_i at_j))
-    | inr behind ↦ absurd (omega (arith, smaller rows j i row row increasing behind at_j at_i))
-  ]
-]
-
 -- the table has the places before an end
 pub record HasPlaces (rows : List ℕ) (end : ℕ) (numbers : List (Option ℕ)) : Type 0 where
   pub each : (row n : ℕ) → (slice_get numbers row ≡ Some (Some n)) ↔ ((n < end) × (slice_get rows n ≡ Some row))

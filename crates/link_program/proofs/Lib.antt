@@ -7,3 +7,4 @@ mod Naming
 pub mod Placing
 pub mod Pushed
 pub mod Searched
+pub mod Declared

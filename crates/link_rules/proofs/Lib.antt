@@ -1,3 +1,4 @@
 pub mod Order
 pub mod Runs
 pub mod OneWorld
+pub mod Dimensions

@@ -13,6 +13,7 @@ use Rattle.link_rules.specs.Keys.{HasFieldKey, HasMethodKey, field_key, method_k
 use Rattle.link_rules.specs.Laws.{HasOneWorld, IsNotBoth}
 use Rattle.link_rules.specs.Refusals.{IsAccepted}
 use Rattle.lists.specs.Lists.{Each, IsFirstOr}
+use Rattle.lists.proofs.Joined.{first_one}
 use Rattle.link_rules.specs.World.{AreRows, IsClassRow, IsFieldRow, IsInterfacePair, IsMethodRow, IsParentRow, World}
 
 -- a class order is completed in one way
@@ -34,19 +35,6 @@ completed_one (is_left_out old rest) p = on p old (λ two q. completed_one rest 
     on (comes new further) old ih = absurd (new old)
     on (is_left_out {all} also further) old ih = ih all further
 
--- the first number with a fact, or the end, is one
-pub first_or_one : (end : ℕ) (P : ℕ → Type 0) (a b : ℕ) → IsFirstOr end P a → IsFirstOr end P b → a ≡ b
-first_or_one end P a b p q = elim p [
-  | inl least ↦ elim q [
-    | inl other ↦ elim (cases_order a b) [
-      | inl same ↦ same
-      | inr apart ↦ elim apart [ inl below ↦ absurd (other.first a below least.holds) | inr above ↦ absurd (least.first b above other.holds) ]
-    ]
-    | inr none ↦ absurd (none.1 a least.holds)
-  ]
-  | inr none ↦ elim q [ inl other ↦ absurd (none.1 b other.holds) | inr also ↦ none.0 ∙ sym also.0 ]
-]
-
 -- lists beside one list, by a relation with one answer, are one
 each_one : {X Y : Type 0} (R : X → Y → Type 0) (xs : List X) (ys zs : List Y) → ((x : X) (y z : Y) → R x y → R x z → y ≡ z) → Each R xs ys → Each R xs zs → ys ≡ zs
 each_one R xs ys zs one p q =
@@ -67,7 +55,7 @@ parent_by_one names name None a b p q = default_one name a b p q
 
 -- the number of a parent is one
 parent_row_one : (classes : List DeclaredClass) (name : Option (List ℕ)) (a b : Option ℕ) → IsParentRow classes name a → IsParentRow classes name b → a ≡ b
-parent_row_one classes (Some name) (Some a) (Some b) p q = ap Some (first_or_one (length classes) (IsNamed classes name) a b p q)
+parent_row_one classes (Some name) (Some a) (Some b) p q = ap Some (first_one (length classes) (IsNamed classes name) a b p q)
 parent_row_one classes None None None p q = refl
 parent_row_one classes (Some name) None b p q = elim p [ ]
 parent_row_one classes (Some name) (Some a) None p q = elim q [ ]
@@ -85,7 +73,7 @@ class_row_one classes c a b p q =
 pair_one : (classes : List DeclaredClass) (named : NamedInterface) (a b : ℕ × ℕ) → IsInterfacePair classes named a → IsInterfacePair classes named b → a ≡ b
 pair_one classes named a b p q =
     let firsts = p.0 ∙ sym q.0 in
-    let seconds = first_or_one (length classes) (IsNamed classes named.name) a.1 b.1 p.1 q.1 in
+    let seconds = first_one (length classes) (IsNamed classes named.name) a.1 b.1 p.1 q.1 in
     let made : ℕ → ℕ → ℕ × ℕ = λ x y. (x, y) in
     ap (λ x. made x a.1) firsts ∙ ap (made b.0) seconds
 
@@ -93,14 +81,14 @@ method_row_one : (methods : List DeclaredMethod) (m : DeclaredMethod) (a b : Met
 method_row_one methods m a b p q =
     let classes = p.class ∙ sym q.class in
     let bodies = p.body ∙ sym q.body in
-    let keys = first_or_one (length methods) (HasMethodKey methods (method_key m)) a.key b.key p.key q.key in
+    let keys = first_one (length methods) (HasMethodKey methods (method_key m)) a.key b.key p.key q.key in
     let made : ℕ → ℕ → BodyKind → MethodRow = λ class key body. record { class = class; key = key; body = body } in
     ap (λ x. made x a.key a.body) classes ∙ ap (λ x. made b.class x a.body) keys ∙ ap (made b.class b.key) bodies
 
 field_row_one : (fields : List DeclaredField) (f : DeclaredField) (a b : FieldRow) → IsFieldRow fields f a → IsFieldRow fields f b → a ≡ b
 field_row_one fields f a b p q =
     let classes = p.class ∙ sym q.class in
-    let keys = first_or_one (length fields) (HasFieldKey fields (field_key f)) a.key b.key p.key q.key in
+    let keys = first_one (length fields) (HasFieldKey fields (field_key f)) a.key b.key p.key q.key in
     let made : ℕ → ℕ → FieldRow = λ class key. record { class = class; key = key } in
     ap (λ x. made x a.key) classes ∙ ap (made b.class) keys
 

@@ -1,5 +1,5 @@
 -- Items by key, through the numbers of their keys.
-use Rattle.std.proofs.Common.{◌≡◌, ◌≢◌, ◌⊎◌, ℕ, zero, suc, ◌<◌, Bool, true, false, cond, List, [], ◌∷◌, ◌++◌, Some, length, slice_get, refl, sym, ap, ◌∙◌, subst, inl, inr, arith, true≢false, length-append}
+use Rattle.std.proofs.Common.{◌≡◌, ◌≢◌, ℕ, zero, suc, ◌<◌, Bool, true, cond, List, [], ◌∷◌, ◌++◌, Some, length, slice_get, refl, sym, ap, ◌∙◌, subst, inl, inr, arith, length-append}
 use Rattle.std.specs.Cmp.{IsEquivalence}
 use Rattle.std.proofs.lemmas.Bool.{cases_eq}
 use Rattle.lists.specs.declared.filing.Pair.{Pair}
@@ -9,6 +9,7 @@ use Rattle.lists.specs.Groups.{found_in, IsNumberedAll, items_with}
 use Rattle.lists.specs.Lists.{Adds, Has}
 use Rattle.lists.proofs.Places.{IsApart-push, slice_get-append_left, slice_get-below, slice_get-push, slice_get-pushed}
 use Rattle.lists.proofs.Tallied.{items_under-push_first, items_under-push_other, items_under-push_same, kept_if-append}
+use Rattle.lists.proofs.OneKey.{one_key}
 
 append-nil : {X : Type 0} (xs : List X) → xs ++ [] ≡ xs
 append-nil [] = refl
@@ -21,21 +22,12 @@ none_under (q ∷ ps) n below =
     let low : q.number < n = below 0 q refl in
     items_under-push_first q ps n (λ e. absurd (omega (arith, e, low))) ∙ none_under ps n (λ i r at. below (suc i) r at)
 
-module _ {K : Type 0} (eq : K → K → Bool) (laws : IsEquivalence eq) (same : (x y : K) → eq x y ≡ true → x ≡ y) where
-  -- two keys are one, or the test tells them apart
-  one_key : (a b : K) → ((a ≡ b) × (eq a b ≡ true)) ⊎ ((a ≢ b) × (eq a b ≡ false))
-  one_key a b = by (eq a b) refl
-    where
-      by : (t : Bool) → eq a b ≡ t → ((a ≡ b) × (eq a b ≡ true)) ⊎ ((a ≢ b) × (eq a b ≡ false))
-      by true e = inl (same a b e, e)
-      by false e = inr ((λ h. true≢false (sym (laws.refl b) ∙ ap (λ x. eq x b) (sym h) ∙ e)), e)
-
 module _ {K X : Type 0} (eq : K → K → Bool) (laws : IsEquivalence eq) (same : (x y : K) → eq x y ≡ true → x ≡ y) where
   -- what is found under a key is what all its numbers lead to, and nothing where it has none
   pub found_in-exact : (keys : List K) (lists : ℕ → List X) (key : K) (xs : List X) → ((i : ℕ) → slice_get keys i ≡ Some key → lists i ≡ xs) → ((Has keys key → ⊥) → [] ≡ xs)
       → found_in eq keys lists key ≡ xs
   found_in-exact [] lists key xs there none = none (λ has. let e = has.1 in cc)
-  found_in-exact (k ∷ ks) lists key xs there none = elim (one_key eq laws same k key) [
+  found_in-exact (k ∷ ks) lists key xs there none = elim (one_key eq laws.refl same k key) [
     | inl e ↦ ap (λ t. cond t (lists 0) (found_in eq ks (λ i. lists (suc i)) key)) e.1 ∙ there 0 (ap Some e.0)
     | inr n ↦ ap (λ t. cond t (lists 0) (found_in eq ks (λ i. lists (suc i)) key)) n.1
         ∙ found_in-exact ks (λ i. lists (suc i)) key xs (λ i at. there (suc i) at) (λ missing. none (λ has. further n.0 missing has.0 has.1))
@@ -60,7 +52,7 @@ module _ {K X : Type 0} (eq : K → K → Bool) (laws : IsEquivalence eq) (same 
     with_same key e = items_with-append items (p ∷ []) key ∙ ap (λ t. items_with eq items key ++ kept_if t p.item []) (ap (λ k. eq k key) e ∙ laws.refl key)
 
     with_other : (key : K) → p.key ≢ key → items_with eq (items ++ p ∷ []) key ≡ items_with eq items key
-    with_other key ne = elim (one_key eq laws same p.key key) [
+    with_other key ne = elim (one_key eq laws.refl same p.key key) [
       | inl e ↦ absurd (ne e.0)
       | inr n ↦ items_with-append items (p ∷ []) key ∙ ap (λ t. items_with eq items key ++ kept_if t p.item []) n.1 ∙ append-nil (items_with eq items key)
     ]

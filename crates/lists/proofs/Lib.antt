@@ -3,7 +3,11 @@ mod Grouped
 mod Laid
 pub mod Places
 mod Roomy
-mod Tallied
+pub mod Tallied
 pub mod SideBySide
 pub mod Keys
 pub mod Cutting
+pub mod Exactly
+pub mod Joined
+pub mod OneKey
+pub mod Found

@@ -1,5 +1,5 @@
 -- Lemmas on the places of a list.
-use Rattle.std.proofs.Common.{◌≡◌, ◌≢◌, ◌⊎◌, ℕ, zero, suc, ◌+◌, ◌<◌, List, [], ◌∷◌, ◌++◌, Some, get_or, length, slice_get, take, refl, sym, ap, ◌∙◌, subst, inl, inr, arith}
+use Rattle.std.proofs.Common.{◌≡◌, ◌≢◌, ◌↔◌, ◌⊎◌, ℕ, zero, suc, ◌+◌, ◌<◌, List, [], ◌∷◌, ◌++◌, Some, get_or, length, slice_get, take, refl, sym, ap, ◌∙◌, subst, inl, inr, arith, length-take}
 use Rattle.std.specs.List.{slice_set}
 use Rattle.std.proofs.lemmas.List.{take_more}
 use Rattle.std.proofs.lemmas.Option.{get_or_from_slice_get, slice_get-get_or}
@@ -58,6 +58,17 @@ module _ {X : Type 0} where
   pub take-next : (xs : List X) (i : ℕ) (x : X) → slice_get xs i ≡ Some x → take (i + 1) xs ≡ take i xs ++ x ∷ []
   take-next xs i x there =
       take_more xs i x (slice_get-below xs i x there) ∙ ap (λ y. take i xs ++ y ∷ []) (get_or_from_slice_get xs i x x there)
+
+  -- the front of a list up to an element
+  pub length-taken : (xs : List X) (i : ℕ) (x : X) → slice_get xs i ≡ Some x → length (take i xs) ≡ i
+  length-taken xs i x there = let below : i < length xs = slice_get-below xs i x there in omega (arith, length-take i xs)
+
+  -- the elements of a list that was added to
+  pub Has-push : (xs : List X) (x y : X) → Has (xs ++ x ∷ []) y ↔ (Has xs y ⊎ (y ≡ x))
+  Has-push xs x y = (
+    (λ has. elim (slice_get-pushed xs x has.0 y has.1) [ inl a ↦ inl (has.0, a) | inr b ↦ inr b.1 ]),
+    (λ either. elim either [ inl has ↦ (has.0, slice_get-append_left xs _ has.0 y has.1) | inr e ↦ (length xs, rw e (slice_get-push xs x)) ]),
+  )
 
   -- a new element leaves all apart
   pub IsApart-push : (xs : List X) (x : X) → IsApart xs → (Has xs x → ⊥) → IsApart (xs ++ x ∷ [])

@@ -1,5 +1,5 @@
 -- Items by their keys.
-use Rattle.std.specs.Prelude.{◌≡◌, ℕ, suc, Bool, List, [], ◌∷◌, Some, cond, length, slice_get}
+use Rattle.std.specs.Prelude.{◌≡◌, ◌≢◌, ℕ, suc, Bool, List, [], ◌∷◌, ◌++◌, Some, cond, length, slice_get}
 use Rattle.lists.specs.declared.filing.Pair.{Pair}
 use Rattle.lists.specs.declared.groups.Keyed.{Keyed}
 use Rattle.lists.specs.Filings.{AreBelow, items_under, kept_if, row}
@@ -30,3 +30,13 @@ pub record IsNumberedAll {K X : Type 0} (eq : K → K → Bool) (items : List (K
   pub below : AreBelow (length keys) pairs
   pub there : (i : ℕ) (key : K) → slice_get keys i ≡ Some key → items_under pairs i ≡ items_with eq items key
   pub none : (key : K) → (Has keys key → ⊥) → items_with eq items key ≡ []
+
+-- each key has a group of its own
+pub record IsGrouped {K X : Type 0} (g : Grouped K X) : Type 0 where
+  pub as_many : length g.lists ≡ length g.keys
+  pub apart : IsApart g.keys
+
+-- the element came last under the key, and all other keys have what they had
+pub record IsAdded {K X : Type 0} (eq : K → K → Bool) (old new : Grouped K X) (key : K) (x : X) : Type 0 where
+  pub here : found_at eq new key ≡ found_at eq old key ++ x ∷ []
+  pub others : (k : K) → k ≢ key → found_at eq new k ≡ found_at eq old k

@@ -2,6 +2,8 @@
 //! It stands on nothing of ours, and whatever has lists can stand on it.
 #![tactic(auto)]
 
+mod by_key;
+mod bytes;
 mod chains;
 mod filing;
 mod groups;
@@ -9,9 +11,13 @@ mod key;
 mod numbered;
 mod rows;
 
+pub use by_key::ByKey;
+pub use bytes::same_bytes;
+pub use filing::{Pair, rows_of};
 pub use groups::{Groups, Keyed};
 pub use key::Key;
 pub use numbered::Numbered;
+pub use rows::Rows;
 use std::alloc::AllocError;
 
 /// Memory that was asked for wasn't found.

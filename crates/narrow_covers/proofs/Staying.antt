@@ -3,10 +3,11 @@ use Rattle.std.proofs.Common.{◌≡◌, ℕ, ◌++◌, List, [], ◌∷◌, Opt
 use Rattle.std.specs.List.{range_with_len}
 use Rattle.std.proofs.lemmas.Bool.{cases_eq}
 use Rattle.lists.proofs.Places.{slice_get-append_left, slice_get-below, slice_get-push, slice_get-pushed, slice_get-set_other, slice_get-set_same}
+use Rattle.lists.proofs.Joined.{slice_get-appended}
 use Rattle.link_rules.specs.declared.code.Code.{Code}
 use Rattle.link_rules.specs.declared.code.Code.TheVariants as code
 use Rattle.link_rules.specs.Linked.{LinkedProgram}
-use Rattle.link_laws.proofs.Lists.{at_map, slice_get-appended}
+use Rattle.link_laws.proofs.Lists.{at_map}
 use Rattle.link_sites.specs.declared.site.Site.{Site}
 use Rattle.link_sites.specs.declared.site.Site.TheVariants as site
 use Rattle.step_rules.specs.declared.parts.Value.{Value}

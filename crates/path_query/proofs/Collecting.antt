@@ -2,7 +2,8 @@
 use Rattle.std.proofs.Common.{◌≡◌, ◌↔◌, ◌⊎◌, ℕ, ◌+◌, ◌<◌, ◌≤◌, List, [], ◌∷◌, ◌++◌, length, take, get_or, refl, sym, subst, inl, inr}
 use Rattle.std.proofs.lemmas.List.{take_all}
 use Rattle.lists.specs.Lists.{Has}
-use Rattle.demand_set.proofs.Appended.{Has-append_left, Has-append_right, Has-appended, Has-one, Has-take_kept, Has-take_last, Has-take_more}
+use Rattle.lists.proofs.Joined.{Has-either, Has-left, Has-right}
+use Rattle.demand_set.proofs.Appended.{Has-one, Has-take_kept, Has-take_last, Has-take_more}
 
 -- it comes from one of the elements
 abbrev pub From : {X W : Type 0} → (X → W → Type 0) → List X → W → Type 0
@@ -41,8 +42,8 @@ module _ {X W : Type 0} (R : X → W → Type 0) (Start : W → Type 0) where
 -- what was put last
 pub put_one : {W : Type 0} (old new : List W) (x : W) → new ≡ old ++ x ∷ [] → (w : W) → Has new w ↔ (Has old w ⊎ (w ≡ x))
 put_one old new x is w = subst (λ ws. Has ws w ↔ (Has old w ⊎ (w ≡ x))) (sym is) (
-  λ h. elim (Has-appended old (x ∷ []) w h) [ inl a ↦ inl a | inr b ↦ inr (Has-one x w b) ],
-  λ h. elim h [ inl a ↦ Has-append_left old (x ∷ []) w a | inr e ↦ Has-append_right old (x ∷ []) w (subst (Has (x ∷ [])) (sym e) (0, refl)) ],
+  λ h. elim (Has-either old (x ∷ []) w h) [ inl a ↦ inl a | inr b ↦ inr (Has-one x w b) ],
+  λ h. elim h [ inl a ↦ Has-left old (x ∷ []) w a | inr e ↦ Has-right old (x ∷ []) w (subst (Has (x ∷ [])) (sym e) (0, refl)) ],
 )
 
 -- two that were put last

@@ -8,14 +8,14 @@ use Rattle.std.proofs.lemmas.Option.{get_or_from_slice_get, slice_get-get_or}
 use Rattle.lists.specs.Lists.{Has, Each}
 use Rattle.lists.proofs.Places.{slice_get-below, slice_get-pushed}
 use Rattle.lists.proofs.SideBySide.{Each-push}
+use Rattle.lists.proofs.Joined.{AllPairs-at, Has-either, Has-left, Has-right}
 use Rattle.link_rules.specs.Linked.{LinkedProgram}
 use Rattle.link_laws.proofs.Lists.{each_left, each_right}
 use Rattle.link_sites.specs.declared.site.Site.{Site}
 use Rattle.link_sites.specs.Sites.{Precedes}
 use Rattle.spds_rules.specs.Answers.{AreSites}
-use Rattle.demand_set.proofs.Appended.{Has-append_left, Has-append_right, Has-appended, Has-one}
+use Rattle.demand_set.proofs.Appended.{Has-one}
 use Rattle.query_core.proofs.OneWay.{sites_one_way}
-use Rattle.query_core.proofs.Ordered.{AllPairs-at}
 use Rattle.path_query.specs.Numbers.{AreNumbersOf}
 
 -- the numbers below n of sites that have the fact
@@ -56,7 +56,7 @@ module _ (sites : List Site) (P : Site → Type 0) where
     pub numbers_more : P x → AreNumbersBelow sites P (n + 1) (numbers ++ n ∷ [])
     numbers_more holds = record {
       each = λ k. (
-        λ has. elim (Has-appended numbers (n ∷ []) k has) [
+        λ has. elim (Has-either numbers (n ∷ []) k has) [
           | inl a ↦ let was = (old.each k).0 a in (omega (arith, was.0), was.1)
           | inr b ↦ (
               let e : k ≡ n = Has-one n k b in
@@ -64,9 +64,9 @@ module _ (sites : List Site) (P : Site → Type 0) where
               )
         ],
         λ h. elim (cases_order k n) [
-          | inl same ↦ Has-append_right numbers (n ∷ []) k (0, ap Some (sym same))
+          | inl same ↦ Has-right numbers (n ∷ []) k (0, ap Some (sym same))
           | inr apart ↦ elim apart [
-            | inl less ↦ Has-append_left numbers (n ∷ []) k ((old.each k).1 (less, h.1))
+            | inl less ↦ Has-left numbers (n ∷ []) k ((old.each k).1 (less, h.1))
             | inr more ↦ absurd (let a = h.0 in omega (arith, more, a))
           ]
         ],
@@ -125,7 +125,7 @@ sites_of_numbers p sites P numbers found ordered among are at = record { each = 
         let rises = are.ordered i j a.0 less (slice_get-below numbers j b.0 b.1) in
         let first : get_or numbers i a.0 ≡ a.0 = get_or_from_slice_get numbers i a.0 a.0 a.1 in
         let second : get_or numbers j a.0 ≡ b.0 = get_or_from_slice_get numbers j b.0 a.0 b.1 in
-        AllPairs-at (Precedes p) (sites_one_way p) sites a.0 b.0 (get_or found i d) (get_or found j d) ordered (subst (λ k. a.0 < k) second (subst (λ k. k < get_or numbers j a.0) first rises)) a.2 b.2
+        AllPairs-at (Precedes p) sites a.0 b.0 (get_or found i d) (get_or found j d) ordered (subst (λ k. a.0 < k) second (subst (λ k. k < get_or numbers j a.0) first rises)) a.2 b.2
 
 -- nothing stands beside nothing
 pub each_none : {X Y : Type 0} (R : X → Y → Type 0) → Each R [] []

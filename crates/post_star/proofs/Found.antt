@@ -4,6 +4,7 @@ use Rattle.auto_table.specs.declared.rule.Rule.{Rule}
 use Rattle.auto_table.specs.declared.rule.Rule.TheVariants.{Flow, Push, Pop}
 use Rattle.lists.specs.Lists.{Has}
 use Rattle.lists.proofs.Places.{slice_get-pushed}
+use Rattle.lists.proofs.Joined.{Has-left}
 use Rattle.post_star.specs.declared.bases.BaseStep.{BaseStep}
 use Rattle.post_star.specs.declared.index.Index.{Index}
 use Rattle.post_star.specs.declared.key.Key.{Key}
@@ -11,7 +12,7 @@ use Rattle.post_star.specs.declared.key.Key.TheVariants.{Node, Mark, Marked}
 use Rattle.post_star.specs.Groups.{Groups, found_at, IsAdded}
 use Rattle.post_star.specs.Index.{AreUnder, Stays, Pops, PopsMark, PopsAnywhere, StepsFrom, IsIndex}
 use Rattle.post_star.proofs.Groups.{one_key}
-use Rattle.post_star.proofs.Scopes.{has_left, has_last}
+use Rattle.post_star.proofs.Scopes.{has_last}
 
 module _ {X : Type 0} (IsKey : X → Key → Type 0) where
   none_has : (xs : List X) (x : X) → xs ≡ [] → Has xs x → ⊥
@@ -23,7 +24,7 @@ module _ {X : Type 0} (IsKey : X → Key → Type 0) where
   -- an element that goes under no key leaves the groups
   pub under_without : (xs : List X) (g : Groups X) (x : X) → ((key : Key) → IsKey x key → ⊥) → AreUnder xs IsKey g → AreUnder (xs ++ x ∷ []) IsKey g
   under_without xs g x never u = record {
-    each = λ key y h. has_left xs _ y (u.each key y h);
+    each = λ key y h. Has-left xs _ y (u.each key y h);
     all = λ key y h k. elim (slice_get-pushed xs x h.0 y h.1) [
       | inl q ↦ u.all key y (h.0, q) k
       | inr q ↦ absurd (never key (subst (λ (z : X). IsKey z key) q.1 k))
@@ -39,15 +40,15 @@ module _ {X : Type 0} (IsKey : X → Key → Type 0) where
         | inl e ↦
             let here : Has (found_at old key ++ x ∷ []) y = subst (λ (ys : List X). Has ys y) a.here (subst (λ (m : Key). Has (found_at new m) y) (sym e.0) h) in
             elim (slice_get-pushed (found_at old key) x here.0 y here.1) [
-              | inl q ↦ has_left xs _ y (u.each key y (here.0, q))
+              | inl q ↦ Has-left xs _ y (u.each key y (here.0, q))
               | inr q ↦ subst (λ (z : X). Has (xs ++ x ∷ []) z) (sym q.1) (has_last xs x)
             ]
-        | inr n ↦ has_left xs _ y (u.each k y (subst (λ (ys : List X). Has ys y) (a.others k (λ o. n.0 (sym o))) h))
+        | inr n ↦ Has-left xs _ y (u.each k y (subst (λ (ys : List X). Has ys y) (a.others k (λ o. n.0 (sym o))) h))
       ]
 
       old_in : (k : Key) (y : X) → Has (found_at old k) y → Has (found_at new k) y
       old_in k y h = elim (one_key key k) [
-        | inl e ↦ subst (λ (m : Key). Has (found_at new m) y) e.0 (subst (λ (ys : List X). Has ys y) (sym a.here) (has_left (found_at old key) _ y (subst (λ (m : Key). Has (found_at old m) y) (sym e.0) h)))
+        | inl e ↦ subst (λ (m : Key). Has (found_at new m) y) e.0 (subst (λ (ys : List X). Has ys y) (sym a.here) (Has-left (found_at old key) _ y (subst (λ (m : Key). Has (found_at old m) y) (sym e.0) h)))
         | inr n ↦ subst (λ (ys : List X). Has ys y) (sym (a.others k (λ o. n.0 (sym o)))) h
       ]
 

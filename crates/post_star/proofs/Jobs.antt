@@ -5,6 +5,7 @@ use Rattle.lists.specs.Lists.{Has}
 use Rattle.auto_table.specs.Cells.{Cells, IsBlank}
 use Rattle.std.proofs.lemmas.List.{append_assoc, take_all, take_more, take-append-le}
 use Rattle.lists.proofs.Places.{slice_get-pushed, slice_get-below}
+use Rattle.lists.proofs.Joined.{Has-either, Has-left, Has-right}
 use Rattle.post_star.specs.declared.bases.Start.{Start}
 use Rattle.post_star.specs.declared.bases.BaseStep.{BaseStep}
 use Rattle.post_star.specs.Derivations.{Leads, by_start, by_base, by_below, IsLed}
@@ -15,15 +16,10 @@ use Rattle.post_star.specs.Readings.{IsSaturated}
 use Rattle.post_star.specs.Works.{weight_of, AreTold, IsClosedTo, IsSound, IsClosed, IsTold}
 use Rattle.post_star.proofs.Grows.{sound_more}
 use Rattle.post_star.proofs.Loops.{zero_done}
-use Rattle.post_star.proofs.Parted.{has_either}
-use Rattle.post_star.proofs.Scopes.{has_left, has_right}
 use Rattle.post_star.proofs.Sounds.{sound_blank}
 use Rattle.post_star.proofs.Values.{saturated}
 use Rattle.weight_laws.specs.Law.{Domain, IsLawful}
-
-length_pushed : {X : Type 0} (xs : List X) (x : X) → length (xs ++ x ∷ []) ≡ suc (length xs)
-length_pushed [] x = refl
-length_pushed (y ∷ xs) x = ap suc (length_pushed xs x)
+use Rattle.post_star.proofs.Scopes.{length_pushed}
 
 -- an element that was put last is new, or the element was there
 pushed_or : {X : Type 0} (xs : List X) (x y : X) → Has (xs ++ x ∷ []) y → Has xs y ⊎ (y ≡ x)
@@ -129,7 +125,7 @@ pub work_new : {W : Type 0} {d : Domain W} (l : IsLawful W d) (common : Stock W)
     → AreTold d common.rules → IsLed {W = W} [] common.steps common.last → IsIndex {W = W} [] [] index → IsBlank d table → taken ≡ 0 → begun ≡ 0 → IsWork d common own index starts table taken begun
 work_new {W} {d} l common own starts index table taken begun r s told led x blank n m =
     work_blank l common own (record {
-      rule = λ q h. elim (has_either common.rules own q h) [ inl a ↦ told q a | inr b ↦ absurd (none_has own q r b) ];
+      rule = λ q h. elim (Has-either common.rules own q h) [ inl a ↦ told q a | inr b ↦ absurd (none_has own q r b) ];
       start = λ q h. absurd (none_has starts q s h);
     }) index table taken begun (subst (λ (ss : List (Start W)). IsLed ss common.steps common.last) (sym s) led) x blank n m
 
@@ -138,9 +134,9 @@ module _ {W : Type 0} {d : Domain W} where
     pub rule_added : (rule : Rule W) → d.IsMeant (weight_of rule) → (more : List (Rule W)) → more ≡ own ++ rule ∷ [] → IsWork d common more index starts table taken begun
     rule_added rule m more e = subst (λ (rs : List (Rule W)). IsWork d common rs index starts table taken begun) (sym e) (record {
       told = record {
-        rule = λ q h. elim (has_either common.rules (own ++ rule ∷ []) q h) [
-          | inl k ↦ w.told.rule q (has_left common.rules own q k)
-          | inr p ↦ elim (pushed_or own rule q p) [ inl k ↦ w.told.rule q (has_right common.rules own q k) | inr k ↦ subst (λ (z : Rule W). d.IsMeant (weight_of z)) (sym k) m ]
+        rule = λ q h. elim (Has-either common.rules (own ++ rule ∷ []) q h) [
+          | inl k ↦ w.told.rule q (Has-left common.rules own q k)
+          | inr p ↦ elim (pushed_or own rule q p) [ inl k ↦ w.told.rule q (Has-right common.rules own q k) | inr k ↦ subst (λ (z : Rule W). d.IsMeant (weight_of z)) (sym k) m ]
         ];
         start = w.told.start;
       };
@@ -153,9 +149,9 @@ module _ {W : Type 0} {d : Domain W} where
     })
       where
         more_has : (q : Rule W) → Has (common.rules ++ own) q → Has (common.rules ++ (own ++ rule ∷ [])) q
-        more_has q h = elim (has_either common.rules own q h) [
-          | inl k ↦ has_left common.rules (own ++ rule ∷ []) q k
-          | inr k ↦ has_right common.rules (own ++ rule ∷ []) q (has_left own (rule ∷ []) q k)
+        more_has q h = elim (Has-either common.rules own q h) [
+          | inl k ↦ Has-left common.rules (own ++ rule ∷ []) q k
+          | inr k ↦ Has-right common.rules (own ++ rule ∷ []) q (Has-left own (rule ∷ []) q k)
         ]
 
         below : (i : ℕ) (q : Rule W) → i < length common.rules + taken → slice_get (common.rules ++ (own ++ rule ∷ [])) i ≡ Some q → slice_get (common.rules ++ own) i ≡ Some q
@@ -169,7 +165,7 @@ module _ {W : Type 0} {d : Domain W} where
       told = record { rule = w.told.rule; start = λ q h. elim (pushed_or starts start q h) [ inl k ↦ w.told.start q k | inr k ↦ subst (λ (z : Start W). d.IsMeant z.weight) (sym k) m ] };
       led = led;
       indexed = w.indexed;
-      sound = sound_more d (common.rules ++ own) (common.rules ++ own) (λ q h. h) starts (starts ++ start ∷ []) common.steps (λ q h. has_left starts _ q h) l table w.sound;
+      sound = sound_more d (common.rules ++ own) (common.rules ++ own) (λ q h. h) starts (starts ++ start ∷ []) common.steps (λ q h. Has-left starts _ q h) l table w.sound;
       closed = record { rules_done = w.closed.rules_done; starts_in = λ i q h at. w.closed.starts_in i q h (pushed_below starts start q i begun h w.begun_in at) };
       taken_in = w.taken_in;
       begun_in = (let h = w.begun_in in let long : length (starts ++ start ∷ []) ≡ suc (length starts) = length_pushed starts start in omega arith);

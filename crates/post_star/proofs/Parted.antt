@@ -5,6 +5,7 @@ use Rattle.auto_table.specs.declared.entry.Entry.{Entry}
 use Rattle.lists.specs.Lists.{Has}
 use Rattle.auto_table.specs.Cells.{Cells}
 use Rattle.lists.proofs.Places.{slice_get-below}
+use Rattle.lists.proofs.Joined.{Has-either, slice_get-appended}
 use Rattle.post_star.specs.declared.bases.Start.{Start}
 use Rattle.post_star.specs.declared.bases.BaseStep.{BaseStep}
 use Rattle.post_star.specs.declared.rise.Item.{Item}
@@ -14,24 +15,10 @@ use Rattle.post_star.proofs.Loops.{applied_on}
 use Rattle.post_star.proofs.Rises.{applied_kept}
 use Rattle.weight_laws.specs.Law.{Domain, IsLawful}
 
-module _ {X : Type 0} where
-  -- what stands in two lists stands in the first, or at a place of the second
-  pub in_either : (xs ys : List X) (i : ℕ) (x : X) → slice_get (xs ++ ys) i ≡ Some x
-      → (slice_get xs i ≡ Some x) ⊎ ((j : ℕ) × (i ≡ length xs + j) × (slice_get ys j ≡ Some x))
-  in_either [] ys i x at = inr (i, omega arith, at)
-  in_either (y ∷ xs) ys zero x at = inl at
-  in_either (y ∷ xs) ys (suc i) x at = elim (in_either xs ys i x at) [
-    | inl a ↦ inl a
-    | inr b ↦ inr (b.0, (let e : i ≡ length xs + b.0 = b.1 in omega arith), b.2)
-  ]
-
-  pub has_either : (xs ys : List X) (x : X) → Has (xs ++ ys) x → Has xs x ⊎ Has ys x
-  has_either xs ys x h = elim (in_either xs ys h.0 x h.1) [ inl a ↦ inl (h.0, a) | inr b ↦ inr (b.0, b.2) ]
-
 -- rules of its own that wait are the rules behind those in common
 pub taken_behind : {W : Type 0} (d : Domain W) (common own : List (Rule W)) (t : Cells W) (items : List Item) (taken : ℕ)
     → AreTaken d own taken t items → AreTaken d (common ++ own) (length common + taken) t items
-taken_behind d common own t items taken a i rule k at e some = elim (in_either common own i rule at) [
+taken_behind d common own t items taken a i rule k at e some = elim (slice_get-appended common own i rule at) [
   | inl q ↦ absurd (omega (arith, slice_get-below common i rule q))
   | inr q ↦ a q.0 rule (let is : i ≡ length common + q.0 = q.1 in omega arith) q.2 e some
 ]
@@ -47,7 +34,7 @@ module _ {W : Type 0} {d : Domain W} (common own : List (Rule W)) {starts : List
   pub parted_applied : (node : ℕ) (entry : Entry) → ((rule : Rule W) → Has common rule → from_of rule ≡ node → IsApplied d steps mid v rule entry)
       → ((rule : Rule W) → Has own rule → from_of rule ≡ node → IsApplied d steps new w rule entry)
       → (rule : Rule W) → Has (common ++ own) rule → from_of rule ≡ node → IsApplied d steps new w rule entry
-  parted_applied node entry f g rule h e = elim (has_either common own rule h) [
+  parted_applied node entry f g rule h e = elim (Has-either common own rule h) [
     | inl a ↦ applied_on l steps told rule entry h kept (f rule a e)
     | inr b ↦ g rule b e
   ]
@@ -55,7 +42,7 @@ module _ {W : Type 0} {d : Domain W} (common own : List (Rule W)) {starts : List
   pub parted_between : (child parent : Entry) → ((rule : Rule W) → Has common rule → IsAppliedBetween d steps mid v rule child parent)
       → ((rule : Rule W) → Has own rule → IsAppliedBetween d steps new w rule child parent)
       → (rule : Rule W) → Has (common ++ own) rule → IsAppliedBetween d steps new w rule child parent
-  parted_between child parent f g rule h goes = elim (has_either common own rule h) [
+  parted_between child parent f g rule h goes = elim (Has-either common own rule h) [
     | inl a ↦ applied_kept l rule child parent (told.rule rule h) kept (f rule a goes)
     | inr b ↦ g rule b goes
   ]

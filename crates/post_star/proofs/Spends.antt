@@ -1,5 +1,5 @@
 -- Each rise takes more from the work that is left than the item that it puts there.
-use Rattle.std.proofs.Common.{◌≡◌, ◌≢◌, ◌⊎◌, inl, inr, ℕ, zero, suc, ◌<◌, ◌≤◌, List, [], ◌∷◌, ◌++◌, length, slice_get, Some, refl, sym, ap, ◌∙◌, subst, arith}
+use Rattle.std.proofs.Common.{◌≡◌, ◌≢◌, ◌⊎◌, inl, inr, ℕ, zero, suc, ◌<◌, ◌≤◌, List, [], ◌∷◌, length, slice_get, Some, sym, ap, ◌∙◌, subst, arith}
 use Rattle.auto_table.specs.declared.entry.Entry.{Entry}
 use Rattle.lists.specs.Lists.{Has}
 use Rattle.auto_table.specs.Cells.{Cells, weight_at, link_at}
@@ -12,6 +12,7 @@ use Rattle.post_star.specs.Works.{IsPaid, rose, stayed, IsRisen, IsRisenLink}
 use Rattle.post_star.proofs.Rises.{grown, nm, link_grown, link_meant_new}
 use Rattle.weight_laws.specs.Law.{Domain, IsLawful, Leq}
 use Rattle.weight_laws.proofs.Orders.{leq_left}
+use Rattle.post_star.proofs.Scopes.{length_pushed}
 
 module _ {X : Type 0} (f g : X → ℕ) (low : (x : X) → f x ≤ g x) where
   pub total_le : (xs : List X) → total f xs ≤ total g xs
@@ -29,10 +30,6 @@ module _ {X : Type 0} (f g : X → ℕ) (low : (x : X) → f x ≤ g x) where
 
 not_above : (a b : ℕ) → (a < b → ⊥) → b ≤ a
 not_above a b n = grind arith
-
-length_pushed : {X : Type 0} (xs : List X) (x : X) → length (xs ++ x ∷ []) ≡ suc (length xs)
-length_pushed [] x = refl
-length_pushed (y ∷ xs) x = ap suc (length_pushed xs x)
 
 module _ {W : Type 0} {d : Domain W} (l : IsLawful W d) where
   -- a weight above has no larger height

@@ -6,7 +6,7 @@ use Rattle.auto_table.specs.declared.row.Linked.{Linked}
 use Rattle.lists.specs.Lists.{Has}
 use Rattle.std.specs.Option.{option_map}
 use Rattle.std.proofs.lemmas.Option.{slice_get-map}
-use Rattle.post_star.proofs.Scopes.{has_map, length_map}
+use Rattle.post_star.proofs.Scopes.{has_map}
 use Rattle.auto_table.specs.Cells.{Cells, weight_at, link_at, IsListed, AreMeant, AreParents, by_weight}
 use Rattle.lists.proofs.Places.{slice_get-below}
 use Rattle.post_star.specs.declared.bases.BaseStep.{BaseStep}
@@ -16,6 +16,7 @@ use Rattle.post_star.proofs.Combinations.{combines_meant, combines_bind, combine
 use Rattle.post_star.proofs.Applies.{below_or_last}
 use Rattle.weight_laws.specs.Law.{Domain, IsLawful, Leq}
 use Rattle.weight_laws.proofs.Orders.{leq_trans, leq_left, leq_right, leq_self, zero_leq, extend_leq_left}
+use Rattle.std.proofs.lemmas.List.{length-map}
 
 -- a weight of the kind of some entry
 pub record OfSome {W : Type 0} (kind : Entry → W → Type 0) (x : W) : Type 0 where
@@ -195,7 +196,7 @@ module _ {W : Type 0} {d : Domain W} (l : IsLawful W d) where
     pub parent_all : (decide : (a b : W) → d.IsMeant a → d.IsMeant b → (a ≡ b) ⊎ (a ≡ b → ⊥)) (child : Entry) (row : List (Linked W)) → AreParents d t child row → (node mark : ℕ) (rest : List ℕ) (k : ℕ) (v : W) → child ≡ Pushed node mark → length row ≤ k
         → IsSummed d (FromParent d steps last t child rest) (map (λ x. x.parent) row) k v → IsSumOf d (Reads d steps last t child (mark ∷ rest)) v
     parent_all decide child row are node mark rest k v is all g = parents_sum child node mark rest v is
-        (summed_all (FromParent d steps last t child rest) (parent_meant child rest) (map (λ x. x.parent) row) k v (let e : length (map (λ (x : Linked W). x.parent) row) ≡ length row = length_map (λ (x : Linked W). x.parent) row in omega arith) (parents_cover decide child row are rest) g)
+        (summed_all (FromParent d steps last t child rest) (parent_meant child rest) (map (λ x. x.parent) row) k v (let e : length (map (λ (x : Linked W). x.parent) row) ≡ length row = length-map row (λ (x : Linked W). x.parent) in omega arith) (parents_cover decide child row are rest) g)
 
     -- one more parent, by its place in the row
     pub linked_more : (child : Entry) (row : List (Linked W)) → AreParents d t child row → (rest : List ℕ) (k : ℕ) (x : Linked W) (v s y r : W) → slice_get row k ≡ Some x → r ≡ d.combine v y → y ≡ d.extend s x.weight

@@ -7,6 +7,7 @@ use Rattle.auto_table.specs.contracts.entry.EntryPartialEq.TheImpl as entry
 use Rattle.lists.specs.Lists.{Has}
 use Rattle.auto_table.specs.Cells.{Cells, weight_at, link_at, IsUsed, by_weight, by_child, by_parent, AreMeant, AreParents, IsBlank}
 use Rattle.lists.proofs.Places.{slice_get-below, slice_get-pushed}
+use Rattle.lists.proofs.Joined.{Has-left, Has-right}
 use Rattle.auto_table.proofs.Raises.{meant_blank, meant_raised}
 use Rattle.auto_table.proofs.Same.{same_entry, self_entry}
 use Rattle.auto_table.proofs.Weighed.{link_cell, weight_cell}
@@ -19,7 +20,7 @@ use Rattle.post_star.specs.Works.{IsPaid, rose, stayed, IsRisen}
 use Rattle.post_star.proofs.Applies.{below_or_last}
 use Rattle.post_star.proofs.Combinations.{combines_meant, combines_left}
 use Rattle.post_star.proofs.Rises.{paid_stays, weight_same, reached, grown}
-use Rattle.post_star.proofs.Scopes.{has_left, has_right, has_parent, within_popped, within_first, last_first, first_last}
+use Rattle.post_star.proofs.Scopes.{has_parent, within_popped, within_first, last_first, first_last}
 use Rattle.post_star.proofs.Spends.{risen_spent}
 use Rattle.weight_laws.specs.Law.{Domain, IsLawful, Leq}
 use Rattle.weight_laws.proofs.Orders.{leq_trans, zero_leq}
@@ -58,7 +59,7 @@ module _ {W : Type 0} {d : Domain W} (t : Cells W) (node : ℕ) where
 
   -- an item leaves the list
   swept_popped : {sums : Cells W} (items : List Item) (item : Item) → IsSwept d t node sums (items ++ item ∷ []) → IsSwept d t node sums items
-  swept_popped items item s = record { sound = s.sound; within = within_popped items item s.within; only = λ i h. s.only i (has_left items _ i h); meant = s.meant }
+  swept_popped items item s = record { sound = s.sound; within = within_popped items item s.within; only = λ i h. s.only i (Has-left items _ i h); meant = s.meant }
 
   others_popped : {sums : Cells W} (items : List Item) (entry : Entry) → IsSweeping d t node sums (items ++ At entry node ∷ []) → (n mark : ℕ) (p : Entry) → (Pushed n mark ≡ entry → ⊥) → WentOn d t node sums items n mark p
   others_popped {sums} items entry s n mark p apart = by (s.open_to n mark p)
@@ -78,9 +79,9 @@ module _ {W : Type 0} {d : Domain W} (l : IsLawful W d) (t : Cells W) (mt : AreM
 
   -- an entry with a weight is in the scope
   pub used_within : (e : Entry) → IsUsed d t e → Has (used_scope t node).entries e
-  used_within e (by_weight n h) = let q = weight_cell d t e n h in has_left t.names _ e (q.0, q.1)
-  used_within e (by_child p h) = let q = link_cell d t e p h in has_left t.names _ e (q.0, q.1)
-  used_within e (by_parent c h) = has_right t.names _ e (has_parent d t c e h)
+  used_within e (by_weight n h) = let q = weight_cell d t e n h in Has-left t.names _ e (q.0, q.1)
+  used_within e (by_child p h) = let q = link_cell d t e p h in Has-left t.names _ e (q.0, q.1)
+  used_within e (by_parent c h) = Has-right t.names _ e (has_parent d t c e h)
 
   -- before the first rise
   pub sweep_begins : (sums : Cells W) (items : List Item) → IsBlank d sums → items ≡ [] → IsSweeping d t node sums items

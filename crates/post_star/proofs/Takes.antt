@@ -9,12 +9,13 @@ use Rattle.lists.specs.Lists.{Has, Adds}
 use Rattle.auto_table.specs.Cells.{Cells, weight_at, IsRow, IsListed, by_weight}
 use Rattle.lists.proofs.Keys.{Adds-insert_key, Has-list_any}
 use Rattle.lists.proofs.Places.{slice_get-below, slice_get-adds, Has-adds_itself}
+use Rattle.lists.proofs.Joined.{Has-left}
 use Rattle.post_star.specs.declared.rise.Item.{Item}
 use Rattle.post_star.specs.declared.rise.Item.TheVariants.{At}
 use Rattle.post_star.specs.Index.{from_of}
 use Rattle.post_star.specs.Works.{AreTaken}
 use Rattle.post_star.proofs.Applies.{below_or_last}
-use Rattle.post_star.proofs.Scopes.{has_left, has_last}
+use Rattle.post_star.proofs.Scopes.{has_last}
 use Rattle.weight_laws.specs.Law.{Domain}
 
 nat_same : (a b : ℕ) → nat_eq a b ≡ true → a ≡ b
@@ -55,9 +56,9 @@ module _ {W : Type 0} where
 
   pub row_pushes : (entry : Entry) (row : List (Reached W)) (nodes : List ℕ) (before now new : List Item) (k : ℕ) (x : Reached W) → slice_get row k ≡ Some x → new ≡ now ++ At entry x.node ∷ [] → IsRowTaken entry row nodes before now k → IsRowTaken entry row nodes before new (k + 1)
   row_pushes entry row nodes before now new k x at e g = subst (λ (xs : List Item). IsRowTaken entry row nodes before xs (k + 1)) (sym e) (record {
-    stays = λ i h. has_left now _ i (g.stays i h);
+    stays = λ i h. Has-left now _ i (g.stays i h);
     taken = λ j y h there n. elim (below_or_last j k h) [
-      | inl b ↦ has_left now _ _ (g.taken j y b there n)
+      | inl b ↦ Has-left now _ _ (g.taken j y b there n)
       | inr z ↦ let same : x ≡ y = cc (at, there, ap (slice_get row) z) in subst (λ (q : Reached W). Has (now ++ At entry x.node ∷ []) (At entry q.node)) same (has_last now (At entry x.node))
     ];
   })

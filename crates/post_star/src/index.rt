@@ -7,10 +7,9 @@ ghost use Rattle.post_star.specs.declared.key.Key.TheVariants.{Node, Marked};
 ghost use Rattle.post_star.specs.Index.{from_of, IsIndex};
 
 use super::bases::BaseStep;
-use super::by_key::ByKey;
 use super::key::Key;
 use auto_table::{Entry, Rule};
-use lists::NoMemory;
+use lists::{ByKey, NoMemory};
 use std::alloc::Global;
 
 /// The node from which a rule leads.
@@ -28,15 +27,15 @@ pub fn from_node<W: Copy>(rule: &Rule<W>) -> u32
 #[derive(Drop)]
 pub struct Index<W: Copy> {
     /// Flows and pushes by their node.
-    pub stays: ByKey<Rule<W>>,
+    pub stays: ByKey<Key, Rule<W>>,
     /// Pops by their node.
-    pub pops: ByKey<Rule<W>>,
+    pub pops: ByKey<Key, Rule<W>>,
     /// Pops by their node and their mark.
-    pub marked: ByKey<Rule<W>>,
+    pub marked: ByKey<Key, Rule<W>>,
     /// Pops by their mark.
-    pub by_mark: ByKey<Rule<W>>,
+    pub by_mark: ByKey<Key, Rule<W>>,
     /// Base steps by their base and their mark.
-    pub below: ByKey<BaseStep>,
+    pub below: ByKey<Key, BaseStep>,
 }
 
 impl<W: Copy> Index<W> {

@@ -4,7 +4,6 @@
 
 pub mod apply;
 pub mod bases;
-pub mod by_key;
 pub mod common;
 pub mod copies;
 pub mod index;

@@ -2,12 +2,10 @@
 use Rattle.std.proofs.Common.{◌≡◌, ℕ, zero, suc, ◌+◌, ◌<◌, ◌≤◌, List, [], ◌∷◌, ◌++◌, Some, flat_map, length, length-append, map, get_or, slice_get, take, drop, take-append-drop, append_assoc, refl, sym, ap, subst, ◌∙◌, inl, inr, arith}
 use Rattle.std.proofs.lemmas.Grind.{flat_map-append}
 use Rattle.std.proofs.lemmas.List.{map-append, take-take}
-use Rattle.lists.specs.Lists.{IsLeast, Adds, Each, FirstSeen}
-use Rattle.lists.proofs.Places.{slice_get-adds, slice_get-below, slice_get-pushed}
-use Rattle.link_indexes.proofs.Grown.{take-next}
+use Rattle.lists.specs.Lists.{IsLeast, Adds, Each, FirstSeen, none, next}
+use Rattle.lists.proofs.Places.{slice_get-adds, slice_get-below, slice_get-pushed, take-next}
 use Rattle.link_laws.proofs.Lists.{each_right, first_seen_apart, same_place}
 use Rattle.link_rules.specs.Linked.{LinkedProgram}
-use Rattle.lists.specs.Lists.{none, next}
 use Rattle.track_rules.specs.declared.row.ProtocolRow.{ProtocolRow}
 use Rattle.track_rules.specs.Protocols.{IsNumbered, IsProtocol, NamedProtocol, NamedRow, NamesTooMany, Spells, named_events, named_states}
 use Rattle.protocol_words.specs.declared.numbering.Numbered.{Numbered}

@@ -4,9 +4,8 @@ use Rattle.std.proofs.lemmas.Bool.{cases_eq, cases_lt}
 use Rattle.std.proofs.lemmas.List.{append-nil, take_all}
 use Rattle.class_tree.proofs.Decided.{IsDecided, both_decided, same_decided}
 use Rattle.lists.specs.Lists.{Adds, Has, Each, FirstSeen, none, next}
-use Rattle.lists.proofs.Places.{IsApart-adds, slice_get-append_left, slice_get-there}
-use Rattle.link_indexes.proofs.Grown.{take-next}
-use Rattle.link_laws.proofs.Lists.{map_at, slice_get-append_right}
+use Rattle.lists.proofs.Places.{IsApart-adds, slice_get-append_left, slice_get-there, take-next}
+use Rattle.link_laws.proofs.Lists.{map_at}
 use Rattle.link_laws.proofs.OneList.{first_seen_one}
 use Rattle.link_rules.specs.Accessed.{linked_class_names}
 use Rattle.link_rules.specs.Linked.{LinkedProgram}
@@ -23,6 +22,7 @@ use Rattle.protocol_words.proofs.Rows.{IsRead, are_rows, breaks_again, breaks_fo
 use Rattle.protocol_words.proofs.Seen.{seen_has}
 use Rattle.protocol_words.proofs.Spelled.{no_form, spelled_by, unspelled_by}
 use Rattle.std.specs.List.{slice_split}
+use Rattle.lists.proofs.Joined.{slice_get-append_right}
 
 -- whether an element stands in a list
 has_decided : {X : Type 0} → ((x y : X) → IsDecided (x ≡ y)) → (xs : List X) (y : X) → IsDecided (Has xs y)

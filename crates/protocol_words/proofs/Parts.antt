@@ -4,9 +4,10 @@ use Rattle.std.specs.List.{join_with_byte, onto_first, slice_split}
 use Rattle.std.proofs.lemmas.List.{append-nil}
 use Rattle.std.proofs.lemmas.List.Splits.{join_with_byte-slice_split, length-slice_split}
 use Rattle.lists.specs.Lists.{Has}
-use Rattle.link_laws.proofs.Lists.{at_map, slice_get-appended}
+use Rattle.link_laws.proofs.Lists.{at_map}
 use Rattle.track_rules.specs.Protocols.{AreParts, NamedProtocol, NamedRow, Spells, head_text, row_text, text}
 use Rattle.lists.proofs.Cutting.{cut_first, has_between}
+use Rattle.lists.proofs.Joined.{slice_get-appended}
 
 -- whether the character is a semicolon
 abbrev pub ends : ℕ → Bool

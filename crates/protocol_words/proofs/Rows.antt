@@ -3,8 +3,7 @@ use Rattle.std.proofs.Common.{◌≡◌, ℕ, zero, suc, ◌+◌, ◌<◌, List,
 use Rattle.std.proofs.lemmas.List.{map-append}
 use Rattle.jim_ast.specs.declared.names.NameId.{NameId}
 use Rattle.lists.specs.Lists.{Adds, Has, IsApart}
-use Rattle.lists.proofs.Places.{slice_get-below, slice_get-pushed, slice_get-there}
-use Rattle.link_indexes.proofs.Grown.{take-next}
+use Rattle.lists.proofs.Places.{slice_get-below, slice_get-pushed, slice_get-there, take-next}
 use Rattle.link_laws.proofs.Lists.{at_map, map_at}
 use Rattle.track_rules.specs.Protocols.{AreNames, Breaks, IsRowAt, NamedRow, head_text, row_text}
 use Rattle.protocol_words.specs.Spellings.{AreRows, IsRow, texts}

@@ -6,13 +6,13 @@ use Rattle.std.proofs.lemmas.List.Quantifiers.{all_pairs_push}
 use Rattle.std.proofs.lemmas.Option.{get_or_from_slice_get, slice_get-get_or}
 use Rattle.lists.specs.Lists.{Has}
 use Rattle.lists.proofs.Places.{slice_get-below}
+use Rattle.lists.proofs.Joined.{AllPairs-at, Has-either, Has-left, Has-right, slice_get-taken}
 use Rattle.link_rules.specs.Linked.{LinkedProgram}
 use Rattle.link_sites.specs.declared.site.Site.{Site}
 use Rattle.link_sites.specs.Sites.{Precedes}
 use Rattle.spds_rules.specs.Answers.{AreSites}
-use Rattle.demand_set.proofs.Appended.{Has-append_left, Has-append_right, Has-appended, Has-one, Has-take_kept, Has-take_last, Has-take_more, slice_get-take}
+use Rattle.demand_set.proofs.Appended.{Has-one, Has-take_kept, Has-take_last, Has-take_more}
 use Rattle.query_core.proofs.OneWay.{sites_one_way}
-use Rattle.query_core.proofs.Ordered.{AllPairs-at}
 
 -- those of a list that have the fact, in the order in which they are printed
 pub record AreKept (p : LinkedProgram) (P : Site → Type 0) (all kept : List Site) : Type 0 where
@@ -60,13 +60,13 @@ module _ (p : LinkedProgram) (P : Site → Type 0) where
     pub kept_more : AllPairs (Precedes p) all → P x → AreKept p P (take (i + 1) all) (kept ++ x ∷ [])
     kept_more pairs holds = record {
       each = λ o. (
-        λ has. elim (Has-appended kept (x ∷ []) o has) [
+        λ has. elim (Has-either kept (x ∷ []) o has) [
           | inl a ↦ let was = (old.each o).0 a in (earlier o was.0, was.1)
           | inr b ↦ let e = Has-one x o b in (subst (Has (take (i + 1) all)) (sym e) last, subst P (sym e) holds)
         ],
         λ has. elim (only o has.0) [
-          | inl a ↦ Has-append_left kept (x ∷ []) o ((old.each o).1 (a, has.1))
-          | inr e ↦ Has-append_right kept (x ∷ []) o (0, ap Some (sym e))
+          | inl a ↦ Has-left kept (x ∷ []) o ((old.each o).1 (a, has.1))
+          | inr e ↦ Has-right kept (x ∷ []) o (0, ap Some (sym e))
         ],
       );
       ordered = all_pairs_push (Precedes p) kept x old.ordered (λ k d within. comes_before (get_or kept k d) (k, slice_get-get_or kept k d within));
@@ -76,8 +76,8 @@ module _ (p : LinkedProgram) (P : Site → Type 0) where
         comes_before o has =
             let was = ((old.each o).0 has).0 in
             let short = slice_get-below (take i all) was.0 o was.1 in
-            AllPairs-at (Precedes p) (sites_one_way p) all was.0 i o x pairs (omega (arith, short, length-take i all))
-            (slice_get-take i all was.0 o was.1) here
+            AllPairs-at (Precedes p) all was.0 i o x pairs (omega (arith, short, length-take i all))
+            (slice_get-taken i all was.0 o was.1) here
 
   -- in the whole list
   pub kept_all : (all kept : List Site) (n : ℕ) → length all ≤ n → AreKept p P (take n all) kept → ((o : Site) → P o → Has all o) → AreSites p P kept

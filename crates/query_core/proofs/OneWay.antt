@@ -12,7 +12,7 @@ use Rattle.link_sites.specs.Places.{ComesBefore, IsSameStatement}
 use Rattle.link_sites.specs.Sites.{IsTextBefore, Precedes}
 
 -- no statement comes before one that comes before it
-statements_one_way : (a b : Place) → ComesBefore a b → ComesBefore b a → ⊥
+pub statements_one_way : (a b : Place) → ComesBefore a b → ComesBefore b a → ⊥
 statements_one_way a b (inl p) (inl q) = omega arith
 statements_one_way a b (inl p) (inr q) = omega arith
 statements_one_way a b (inr p) (inl q) = omega arith

@@ -4,17 +4,9 @@ use Rattle.std.specs.List.{AllPairs}
 use Rattle.std.proofs.lemmas.Option.{get_or_from_slice_get}
 use Rattle.lists.specs.Lists.{Has, IsApart}
 use Rattle.lists.proofs.Places.{slice_get-below}
+use Rattle.lists.proofs.Joined.{AllPairs-at}
 
 module _ {X : Type 0} (R : X → X → Type 0) (one_way : (x y : X) → R x y → R y x → ⊥) where
-  -- the order holds of an element and each later one
-  pub AllPairs-at : (xs : List X) (i j : ℕ) (x y : X) → AllPairs R xs → i < j → slice_get xs i ≡ Some x → slice_get xs j ≡ Some y → R x y
-  AllPairs-at xs i j x y pairs less here there =
-      let within : j < length xs = slice_get-below xs j y there in
-      let at = pairs i j x less within in
-      let first = get_or_from_slice_get xs i x x here in
-      let second = get_or_from_slice_get xs j y x there in
-      subst (λ (z : X). R x z) second (subst (λ (z : X). R z (get_or xs j x)) first at)
-
   -- no element comes before itself
   not_itself : (x : X) → R x x → ⊥
   not_itself x r = one_way x x r r
@@ -22,8 +14,8 @@ module _ {X : Type 0} (R : X → X → Type 0) (one_way : (x y : X) → R x y �
   -- so none stands twice
   pub AllPairs-apart : (xs : List X) → AllPairs R xs → IsApart xs
   AllPairs-apart xs pairs i j x p q =
-      let not_less : i < j → ⊥ = λ less. not_itself x (AllPairs-at xs i j x x pairs less p q) in
-      let not_more : j < i → ⊥ = λ more. not_itself x (AllPairs-at xs j i x x pairs more q p) in
+      let not_less : i < j → ⊥ = λ less. not_itself x (AllPairs-at R xs i j x x pairs less p q) in
+      let not_more : j < i → ⊥ = λ more. not_itself x (AllPairs-at R xs j i x x pairs more q p) in
       omega (arith, not_less, not_more)
 
   -- the elements behind the first
@@ -51,14 +43,14 @@ module _ {X : Type 0} (R : X → X → Type 0) (one_way : (x y : X) → R x y �
         | inl e ↦ e
         | inr there ↦ elim (has_cases x y xs (from y (0, refl))) [
           | inl e ↦ sym e
-          | inr here ↦ absurd (one_way x y (AllPairs-at (x ∷ xs) 0 (suc here.0) x y p (omega arith) refl here.1) (AllPairs-at (y ∷ ys) 0 (suc there.0) y x q (omega arith) refl there.1))
+          | inr here ↦ absurd (one_way x y (AllPairs-at R (x ∷ xs) 0 (suc here.0) x y p (omega arith) refl here.1) (AllPairs-at R (y ∷ ys) 0 (suc there.0) y x q (omega arith) refl there.1))
         ]
       ]
 
       behind : (x y : X) (xs ys : List X) → AllPairs R (x ∷ xs) → x ≡ y → ((z : X) → Has (x ∷ xs) z → Has (y ∷ ys) z) → (z : X) → Has xs z → Has ys z
       behind x y xs ys pairs e to z has = elim (has_cases y z ys (to z (suc has.0, has.1))) [
         | inl first ↦
-            let itself : R x z = AllPairs-at (x ∷ xs) 0 (suc has.0) x z pairs (omega arith) refl has.1 in
+            let itself : R x z = AllPairs-at R (x ∷ xs) 0 (suc has.0) x z pairs (omega arith) refl has.1 in
             absurd (not_itself x (subst (λ (w : X). R x w) (first ∙ sym e) itself))
         | inr there ↦ there
       ]

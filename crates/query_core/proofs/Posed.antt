@@ -3,8 +3,9 @@ use Rattle.std.proofs.Common.{◌≡◌, ◌↔◌, ℕ, zero, suc, ◌≤◌, L
 use Rattle.std.proofs.lemmas.List.{length-map}
 use Rattle.lists.specs.Lists.{Has, IsApart}
 use Rattle.lists.proofs.Places.{slice_get-below, slice_get-there}
+use Rattle.lists.proofs.Joined.{slice_get-mapped}
 use Rattle.link_rules.specs.Linked.{LinkedProgram}
-use Rattle.link_program.proofs.Found.{at_map, from_map}
+use Rattle.link_program.proofs.Found.{at_map}
 use Rattle.link_sites.specs.declared.place.Place.{Place}
 use Rattle.link_sites.specs.declared.site.Site.{Site}
 use Rattle.link_sites.specs.Places.{before}
@@ -78,15 +79,15 @@ few_sites p q d demand =
   where
     apart : IsApart (map found d.sites)
     apart i j y one two =
-        let first = from_map found d.sites i y one in
-        let second = from_map found d.sites j y two in
+        let first = slice_get-mapped found d.sites i y one in
+        let second = slice_get-mapped found d.sites j y two in
         let same : first.0 ≡ second.0 = cc (first.2, second.2) in
         AllPairs-apart (Precedes p) (sites_one_way p) d.sites demand.sites.ordered i j second.0
         (subst (λ (o : Site). slice_get d.sites i ≡ Some o) same first.1) second.1
 
     among : (y : Option Site) → Has (map found d.sites) y → Has (map site_of d.nodes) y
     among y has =
-        let site = from_map found d.sites has.0 y has.1 in
+        let site = slice_get-mapped found d.sites has.0 y has.1 in
         let start = (demand.sites.each site.0).0 (has.0, site.1) in
         let node = demand.nodes.all start.0 start.1.1 in
         (node.0, at_map site_of d.nodes node.0 start.0 node.1 ∙ ap Some (start.1.0.1 ∙ site.2))

@@ -1,5 +1,5 @@
 -- The signs of a text have the numbers of its names.
-use Rattle.std.proofs.Common.{◌≡◌, ℕ, ◌<◌, Bool, true, false, List, [], ◌∷◌, ◌++◌, length, fold, map, Option, Some, None, nat_eq, codes, inl, inr, if◌then◌else◌}
+use Rattle.std.proofs.Common.{if◌then◌else◌, ◌≡◌, ℕ, ◌<◌, Bool, true, false, List, [], ◌∷◌, ◌++◌, length, fold, map, Option, Some, None, nat_eq, codes, inl, inr}
 use Rattle.std.specs.List.{AllByRecursion, list_any, starts_with}
 use Rattle.std.specs.Str.{bytes_eq}
 use Rattle.lists.proofs.Places.{slice_get-below}
@@ -12,18 +12,18 @@ use Rattle.jim_signs.specs.Leads.{lead_of, at_lead}
 use Rattle.jim_signs.specs.Names.{text_of, contents, between_quotes, with_contents, names_of, place_of}
 use Rattle.jim_signs.specs.Signs.{IsBelow, number_of, sign_of, signs_of}
 use Rattle.jim_signs.proofs.LeadLemmas.{IsNaming, word_names_none, mark_names_none}
-use Rattle.jim_signs.proofs.NameLemmas.{list_any-more, list_any-with_text, slice_get-place_of}
-use Rattle.jim_signs.proofs.SignLemmas.{IsKnown, IsKnownToken}
+use Rattle.jim_signs.proofs.NameLemmas.{list_any-more, slice_get-place_of}
+use Rattle.jim_signs.proofs.SignLemmas.{IsKnown, IsKnownToken, known_with}
 
 -- the names so far and those of more tokens
 abbrev names_from : List ℕ → List (List ℕ) → List Token → List (List ℕ)
 names_from bytes names tokens = fold (λ names token. with_contents names (contents token.kind (text_of bytes token))) names tokens
 
 -- what is known stays known with one more
-known_with : (names : List (List ℕ)) (said more : Option (List ℕ)) → IsKnown names said → IsKnown (with_contents names more) said
-known_with names None more h = tt
-known_with names (Some text) None h = h
-known_with names (Some text) (Some more) h = by (list_any (bytes_eq more) names)
+known_still : (names : List (List ℕ)) (said more : Option (List ℕ)) → IsKnown names said → IsKnown (with_contents names more) said
+known_still names None more h = tt
+known_still names (Some text) None h = h
+known_still names (Some text) (Some more) h = by (list_any (bytes_eq more) names)
   where
     by : (t : Bool) → list_any (bytes_eq text) (if t then names else names ++ more ∷ []) ≡ true
     by true = h
@@ -33,19 +33,14 @@ known_with names (Some text) (Some more) h = by (list_any (bytes_eq more) names)
 known_from : (bytes : List ℕ) (names : List (List ℕ)) (tokens : List Token) (said : Option (List ℕ)) → IsKnown names said → IsKnown (names_from bytes names tokens) said
 known_from bytes names [] said h = h
 known_from bytes names (t ∷ tokens) said h =
-    known_from bytes (with_contents names (contents t.kind (text_of bytes t))) tokens said (known_with names said (contents t.kind (text_of bytes t)) h)
-
--- what is put is known
-known_put : (names : List (List ℕ)) (said : Option (List ℕ)) → IsKnown (with_contents names said) said
-known_put names None = tt
-known_put names (Some text) = list_any-with_text names text
+    known_from bytes (with_contents names (contents t.kind (text_of bytes t))) tokens said (known_still names said (contents t.kind (text_of bytes t)) h)
 
 -- the tokens of a text say what is among its names
 all_known : (bytes : List ℕ) (names : List (List ℕ)) (tokens : List Token) → AllByRecursion (IsKnownToken bytes (names_from bytes names tokens)) tokens
 all_known bytes names [] = tt
 all_known bytes names (t ∷ tokens) =
     let now = with_contents names (contents t.kind (text_of bytes t)) in
-    (known_from bytes now tokens (contents t.kind (text_of bytes t)) (known_put names (contents t.kind (text_of bytes t))), all_known bytes now tokens)
+    (known_from bytes now tokens (contents t.kind (text_of bytes t)) (known_with names (contents t.kind (text_of bytes t))), all_known bytes now tokens)
 
 -- a text that is among the names has a place below their length
 place_below : (names : List (List ℕ)) (text : List ℕ) → list_any (bytes_eq text) names ≡ true → place_of names text < length names

@@ -1,9 +1,8 @@
 -- What is kept of a call.
 use Rattle.std.proofs.Common.{◌≡◌, ℕ, ◌+◌, ◌≤◌, ◌⊎◌, ◌++◌, List, [], ◌∷◌, Option, Some, length, slice_get, sym, ap, ◌∙◌, subst, inl, inr, arith}
 use Rattle.std.proofs.lemmas.Bool.{cases_order}
-use Rattle.lists.proofs.Places.{slice_get-below}
+use Rattle.lists.proofs.Places.{slice_get-below, Has-push}
 use Rattle.link_indexes.specs.declared.method.Place.{Place}
-use Rattle.link_indexes.proofs.Grown.{Has-push}
 use Rattle.lists.specs.Numbers.{Numbers}
 use Rattle.narrow_rules.specs.declared.kept.Kept.{Kept}
 use Rattle.refined_query.specs.Keeping.{AreAdded, IsKeptAmong}

@@ -7,8 +7,7 @@ use Rattle.class_tree.proofs.Selected.{selection_one}
 use Rattle.class_tree.specs.Lookups.{Resolve}
 use Rattle.class_tree.specs.Rows.{Sub}
 use Rattle.lists.specs.Lists.{Adds, Has, HasMore}
-use Rattle.lists.proofs.Places.{slice_get-below}
-use Rattle.link_indexes.proofs.Grown.{Has-push}
+use Rattle.lists.proofs.Places.{slice_get-below, Has-push}
 use Rattle.link_rules.specs.Linked.{LinkedProgram}
 use Rattle.link_rules.specs.WellLinked.{IsInForm}
 use Rattle.link_sites.specs.declared.site.Site.{Site}

@@ -1,9 +1,8 @@
 -- Texts that grow by lines.
-use Rattle.std.proofs.Common.{◌≡◌, ℕ, zero, suc, ◌+◌, add-one, codes, ◌<◌, List, [], ◌∷◌, ◌++◌, length, take, get_or, refl, sym, ap, ◌∙◌, append_assoc, append-nil}
+use Rattle.std.proofs.Common.{◌≡◌, ℕ, ◌+◌, ◌<◌, List, [], ◌∷◌, ◌++◌, length, take, get_or, refl, sym, ap, ◌∙◌, append_assoc, append-nil}
 use Rattle.std.proofs.lemmas.List.{take_more}
 use Rattle.lists.specs.Lists.{Each}
 use Rattle.lists.proofs.SideBySide.{Each-push}
-use Rattle.link_rules.specs.Names.{brackets}
 use Rattle.report_text.specs.Lines.{AddsLine, AddsLines, text_of}
 use Rattle.report_text.specs.Texts.{AddsText}
 
@@ -38,11 +37,3 @@ text_of-three first lines last a b c p q r =
 -- a text that has another fact too
 pub AddsText-weaker : (P Q : List ℕ → Type 0) (old new : List ℕ) → ((text : List ℕ) → P text → Q text) → AddsText P old new → AddsText Q old new
 AddsText-weaker P Q old new then adds = record { added = adds.added; is_so = then adds.added adds.is_so; grown = adds.grown }
-
--- a pair of brackets more
-pub brackets_more : (n : ℕ) → brackets (n + 1) ≡ brackets n ++ codes "[]"
-brackets_more n = rw add-one (by n)
-  where
-    by : (n : ℕ) → brackets (suc n) ≡ brackets n ++ codes "[]"
-    by zero = refl
-    by (suc n) = ap (λ l. codes "[]" ++ l) (by n)

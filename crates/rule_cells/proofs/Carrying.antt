@@ -3,14 +3,13 @@ use Rattle.std.proofs.Common.{◌≡◌, ◌⊎◌, inl, inr, ℕ, List, ◌++�
 use Rattle.auto_table.specs.declared.rule.Rule.{Rule}
 use Rattle.auto_table.specs.declared.rule.Rule.TheVariants.{Flow}
 use Rattle.lists.specs.Lists.{Has}
+use Rattle.lists.proofs.Joined.{Has-either, Has-left}
 use Rattle.post_star.specs.declared.bases.Start.{Start}
 use Rattle.post_star.specs.declared.bases.BaseStep.{BaseStep}
 use Rattle.post_star.specs.Derivations.{Derives, flows}
 use Rattle.post_star.specs.Measures.{to_of}
 use Rattle.post_star.specs.Works.{AreTold, IsTold, weight_of}
 use Rattle.post_star.proofs.Joins.{derives_meant}
-use Rattle.post_star.proofs.Parted.{has_either}
-use Rattle.post_star.proofs.Scopes.{has_left}
 use Rattle.weight_laws.specs.Law.{Domain, IsLawful}
 use Rattle.rule_cells.specs.Cells.{IsCarried, IsCarriedFrom, here, further}
 
@@ -37,8 +36,8 @@ module _ {W : Type 0} (d : Domain W) (rules : List (Rule W)) (kept : List ℕ) w
   pub carried_more : (own : List (Rule W)) → ((r : Rule W) → Has own r → Has kept (to_of r)) → {m n : ℕ} {w : W} → IsCarried rules kept m n w
       → IsCarried (rules ++ own) kept m n w
   carried_more own leads {m} {n} {w} c = record {
-    flow = has_left rules own (Flow m n w) c.flow;
-    only = λ r has to. elim (has_either rules own r has) [
+    flow = Has-left rules own (Flow m n w) c.flow;
+    only = λ r has to. elim (Has-either rules own r has) [
       | inl common ↦ c.only r common to
       | inr more ↦ absurd (c.free (subst (λ (k : ℕ). Has kept k) to (leads r more)))
     ];

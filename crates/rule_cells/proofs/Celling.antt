@@ -6,6 +6,7 @@ use Rattle.auto_table.specs.declared.rule.Rule.{Rule}
 use Rattle.auto_table.specs.declared.rule.Rule.TheVariants.{Flow, Push, Pop}
 use Rattle.lists.specs.Lists.{Has}
 use Rattle.lists.proofs.Places.{slice_get-there}
+use Rattle.lists.proofs.Joined.{Has-either, Has-left, Has-right}
 use Rattle.post_star.specs.declared.bases.BaseStep.{BaseStep}
 use Rattle.post_star.specs.declared.bases.Start.{Start}
 use Rattle.post_star.specs.Derivations.{Derives}
@@ -13,8 +14,7 @@ use Rattle.post_star.specs.Index.{from_of}
 use Rattle.post_star.specs.Measures.{to_of}
 use Rattle.post_star.specs.Works.{IsTold, weight_of}
 use Rattle.post_star.proofs.Joins.{derives_meant}
-use Rattle.post_star.proofs.Parted.{has_either}
-use Rattle.post_star.proofs.Scopes.{has_left, has_map, has_right}
+use Rattle.post_star.proofs.Scopes.{has_map}
 use Rattle.weight_laws.specs.Law.{Domain, IsLawful}
 use Rattle.rule_cells.specs.declared.cells.Cell.{Cell}
 use Rattle.rule_cells.specs.Cells.{AreCells, AreContracted, moved}
@@ -125,7 +125,7 @@ module _ {W : Type 0} {d : Domain W} (l : IsLawful W d) (rules few : List (Rule 
 
     told : IsTold d (rules ++ own) starts
     told = record {
-      rule = λ r has. elim (has_either rules own r has) [
+      rule = λ r has. elim (Has-either rules own r has) [
         | inl common ↦ subst (λ (w : W). d.IsMeant w) (sym (ones r common)) l.one_meant
         | inr more ↦ lead.told.rule r more
       ];
@@ -157,23 +157,23 @@ module _ {W : Type 0} {d : Domain W} (l : IsLawful W d) (rules few : List (Rule 
     own_between q has = same_moved q (lead.told.rule q has)
 
     renamed_to : (r : Rule W) → Has between r → (q : Rule W) × Has (few ++ own_few) q × (r ≡ renamed number q)
-    renamed_to r has = elim (has_either (map (renamed number) few) (map (renamed number) own) r has) [
-      | inl a ↦ let q = has_mapped (renamed number) few r a in (q.0, has_left few own_few q.0 q.1, q.2)
+    renamed_to r has = elim (Has-either (map (renamed number) few) (map (renamed number) own) r has) [
+      | inl a ↦ let q = has_mapped (renamed number) few r a in (q.0, Has-left few own_few q.0 q.1, q.2)
       | inr b ↦
           let q = has_mapped (renamed number) own r b in (
             moved d head offset q.0,
-            has_right few own_few (moved d head offset q.0) (has_map (moved d head offset) own q.0 q.1),
+            Has-right few own_few (moved d head offset q.0) (has_map (moved d head offset) own q.0 q.1),
             q.2 ∙ sym (own_between q.0 q.1),
           )
     ]
 
     renamed_from : (r q : Rule W) → Has (few ++ own_few) q → r ≡ renamed number q → Has between r
-    renamed_from r q has is = elim (has_either few own_few q has) [
-      | inl a ↦ has_left (map (renamed number) few) (map (renamed number) own) r (subst (Has (map (renamed number) few)) (sym is) (has_map (renamed number) few q a))
+    renamed_from r q has is = elim (Has-either few own_few q has) [
+      | inl a ↦ Has-left (map (renamed number) few) (map (renamed number) own) r (subst (Has (map (renamed number) few)) (sym is) (has_map (renamed number) few q a))
       | inr b ↦
           let p = has_mapped (moved d head offset) own q b in
           let same : renamed number p.0 ≡ r = sym (own_between p.0 p.1) ∙ ap (renamed number) (sym p.2) ∙ sym is in
-          has_right (map (renamed number) few) (map (renamed number) own) r (subst (Has (map (renamed number) own)) same (has_map (renamed number) own p.0 p.1))
+          Has-right (map (renamed number) few) (map (renamed number) own) r (subst (Has (map (renamed number) own)) same (has_map (renamed number) own p.0 p.1))
     ]
 
     are_renamed : AreRenamed number old (few ++ own_few) between starts begun

@@ -5,8 +5,9 @@ use Rattle.std.proofs.lemmas.Option.{slice_get-get_or}
 use Rattle.auto_table.specs.declared.rule.Rule.{Rule}
 use Rattle.lists.specs.Lists.{Has}
 use Rattle.lists.proofs.Places.{slice_get-below, slice_get-pushed}
+use Rattle.lists.proofs.Joined.{Has-left}
 use Rattle.post_star.specs.Measures.{to_of}
-use Rattle.post_star.proofs.Scopes.{has_last, has_left}
+use Rattle.post_star.proofs.Scopes.{has_last}
 use Rattle.weight_laws.specs.Law.{Domain}
 use Rattle.rule_cells.specs.declared.cells.Cell.{Cell}
 use Rattle.rule_cells.specs.Cells.{AreContracted, moved}
@@ -24,11 +25,11 @@ module _ {W : Type 0} (d : Domain W) (cells : List (Cell W)) where
       → Few (rules ++ rule ∷ []) (few ++ moved d (head_at d cells) (offset_at d cells) rule ∷ [])
   few_push rules few rule leads was r = (
     (λ has. elim (has_pushed few (moved d (head_at d cells) (offset_at d cells) rule) r has) [
-      | inl old ↦ let q = (was r).0 old in (q.0, has_left rules (rule ∷ []) q.0 q.1, q.2, q.3)
+      | inl old ↦ let q = (was r).0 old in (q.0, Has-left rules (rule ∷ []) q.0 q.1, q.2, q.3)
       | inr new ↦ (rule, has_last rules rule, leads, new)
     ]),
     (λ q. elim (has_pushed rules rule q.0 q.1) [
-      | inl old ↦ has_left few (moved d (head_at d cells) (offset_at d cells) rule ∷ []) r ((was r).1 (q.0, old, q.2, q.3))
+      | inl old ↦ Has-left few (moved d (head_at d cells) (offset_at d cells) rule ∷ []) r ((was r).1 (q.0, old, q.2, q.3))
       | inr new ↦ subst (λ (x : Rule W). Has (few ++ moved d (head_at d cells) (offset_at d cells) rule ∷ []) x)
           (sym (q.3 ∙ ap (moved d (head_at d cells) (offset_at d cells)) new)) (has_last few (moved d (head_at d cells) (offset_at d cells) rule))
     ]),
@@ -36,7 +37,7 @@ module _ {W : Type 0} (d : Domain W) (cells : List (Cell W)) where
 
   few_skip : (rules few : List (Rule W)) (rule : Rule W) → (head_at d cells (to_of rule) ≡ to_of rule → ⊥) → Few rules few → Few (rules ++ rule ∷ []) few
   few_skip rules few rule leads was r = (
-    (λ has. let q = (was r).0 has in (q.0, has_left rules (rule ∷ []) q.0 q.1, q.2, q.3)),
+    (λ has. let q = (was r).0 has in (q.0, Has-left rules (rule ∷ []) q.0 q.1, q.2, q.3)),
     (λ q. elim (has_pushed rules rule q.0 q.1) [
       | inl old ↦ (was r).1 (q.0, old, q.2, q.3)
       | inr new ↦ absurd (leads (subst (λ (x : Rule W). head_at d cells (to_of x) ≡ to_of x) new q.2))

@@ -4,12 +4,12 @@ use Rattle.std.proofs.lemmas.List.{take_more}
 use Rattle.auto_table.specs.declared.rule.Rule.{Rule}
 use Rattle.auto_table.specs.declared.rule.Rule.TheVariants as rule
 use Rattle.lists.specs.Lists.{Adds, Has}
+use Rattle.lists.proofs.Joined.{Has-either, Has-left, Has-right}
 use Rattle.post_star.specs.declared.bases.BaseStep.{BaseStep}
 use Rattle.post_star.specs.declared.bases.Start.{Start}
 use Rattle.post_star.specs.Derivations.{Derives, starts_at, flows, pushes, pops}
 use Rattle.post_star.specs.Works.{weight_of}
-use Rattle.post_star.proofs.Parted.{has_either}
-use Rattle.post_star.proofs.Scopes.{has_last, has_left, has_right}
+use Rattle.post_star.proofs.Scopes.{has_last}
 use Rattle.weight_laws.specs.Law.{Domain}
 use Rattle.rule_cells.specs.declared.distinct.Shape.{Shape}
 use Rattle.rule_cells.specs.declared.distinct.Shape.TheVariants as shape
@@ -37,11 +37,11 @@ module _ {W : Type 0} (d : Domain W) (old new : List Shape) (few : List (Rule W)
     | inl there ↦ absurd (none there.0)
     | inr last ↦ λ s. (
       (λ has. elim (has_pushed old (shape_of r) s (subst (λ (ss : List Shape). Has ss s) last.1 has)) [
-        | inl before ↦ has_left few (r ∷ []) (rule_of d s) ((was s).0 before)
+        | inl before ↦ Has-left few (r ∷ []) (rule_of d s) ((was s).0 before)
         | inr is ↦ subst (λ (x : Rule W). Has (few ++ r ∷ []) x) (sym (ap (rule_of d) is ∙ rule_of-shape_of d r one)) (has_last few r)
       ]),
       (λ has. subst (λ (ss : List Shape). Has ss s) (sym last.1) (elim (has_pushed few r (rule_of d s) has) [
-        | inl before ↦ has_left old (shape_of r ∷ []) s ((was s).1 before)
+        | inl before ↦ Has-left old (shape_of r ∷ []) s ((was s).1 before)
         | inr is ↦ subst (λ (x : Shape). Has (old ++ shape_of r ∷ []) x) (sym (sym (shape_of-rule_of d s) ∙ ap shape_of is)) (has_last old (shape_of r))
       ])),
     )
@@ -60,7 +60,7 @@ module _ {W : Type 0} (d : Domain W) (old new : List Shape) (few : List (Rule W)
 pub rule_pushed : {W : Type 0} (few : List (Rule W)) (r x : Rule W) → Has (few ++ r ∷ []) x ↔ (Has few x ⊎ (x ≡ r))
 rule_pushed {W} few r x = (
   has_pushed few r x,
-  (λ either. elim either [ inl has ↦ has_left few (r ∷ []) x has | inr is ↦ subst (λ (y : Rule W). Has (few ++ r ∷ []) y) (sym is) (has_last few r) ]),
+  (λ either. elim either [ inl has ↦ Has-left few (r ∷ []) x has | inr is ↦ subst (λ (y : Rule W). Has (few ++ r ∷ []) y) (sym is) (has_last few r) ]),
 )
 
 -- one rule more came in, where what is said of rules is said of those that came
@@ -84,8 +84,8 @@ module _ {W : Type 0} (d : Domain W) (rules more : List (Rule W)) (starts : List
 module _ {W : Type 0} (few many : List (Rule W)) (same : (x : Rule W) → Has few x ↔ Has many x) (own : List (Rule W)) where
   with_own : (x : Rule W) → Has (few ++ own) x ↔ Has (many ++ own) x
   with_own x = (
-    (λ has. elim (has_either few own x has) [ inl a ↦ has_left many own x ((same x).0 a) | inr b ↦ has_right many own x b ]),
-    (λ has. elim (has_either many own x has) [ inl a ↦ has_left few own x ((same x).1 a) | inr b ↦ has_right few own x b ]),
+    (λ has. elim (Has-either few own x has) [ inl a ↦ Has-left many own x ((same x).0 a) | inr b ↦ Has-right many own x b ]),
+    (λ has. elim (Has-either many own x has) [ inl a ↦ Has-left few own x ((same x).1 a) | inr b ↦ Has-right few own x b ]),
   )
 
 -- so cells may have the rules between them each once

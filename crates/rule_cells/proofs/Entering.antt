@@ -5,9 +5,10 @@ use Rattle.std.proofs.lemmas.List.{take-append-le, take_all}
 use Rattle.auto_table.specs.declared.rule.Rule.{Rule}
 use Rattle.auto_table.specs.declared.rule.Rule.TheVariants.{Flow}
 use Rattle.lists.specs.Lists.{Has}
-use Rattle.lists.proofs.Places.{slice_get-below, slice_get-pushed}
+use Rattle.lists.proofs.Places.{slice_get-below, slice_get-pushed, slice_get-set_other, slice_get-set_same}
+use Rattle.lists.proofs.Joined.{Has-left}
 use Rattle.post_star.specs.Measures.{to_of}
-use Rattle.post_star.proofs.Scopes.{has_last, has_left}
+use Rattle.post_star.proofs.Scopes.{has_last}
 use Rattle.rule_cells.specs.declared.entered.Entered.{Entered}
 use Rattle.rule_cells.specs.declared.entered.Entered.TheVariants.{Never, Once, Otherwise}
 use Rattle.rule_cells.specs.Entered.{AreEntered, IsEntered}
@@ -20,18 +21,6 @@ module _ {X : Type 0} where
   -- what was lent comes back whole
   pub returned : (n : ℕ) (new old : List X) → n ≡ length new → take n (new ++ drop (length new) old) ≡ new
   returned n new old e = take-append-le n new (drop (length new) old) (omega arith) ∙ take_all n new (omega arith)
-
-  pub slice_get-set_same : (xs : List X) (i : ℕ) (x : X) → i < length xs → slice_get (slice_set xs i x) i ≡ Some x
-  slice_get-set_same [] i x h = absurd (omega arith)
-  slice_get-set_same (y ∷ xs) zero x h = refl
-  slice_get-set_same (y ∷ xs) (suc i) x h = slice_get-set_same xs i x (omega arith)
-
-  pub slice_get-set_other : (xs : List X) (i j : ℕ) (x : X) → j ≢ i → slice_get (slice_set xs i x) j ≡ slice_get xs j
-  slice_get-set_other [] i j x h = refl
-  slice_get-set_other (y ∷ xs) zero zero x h = absurd (h refl)
-  slice_get-set_other (y ∷ xs) zero (suc j) x h = refl
-  slice_get-set_other (y ∷ xs) (suc i) zero x h = refl
-  slice_get-set_other (y ∷ xs) (suc i) (suc j) x h = slice_get-set_other xs i j x (λ e. h (ap suc e))
 
 module _ {W : Type 0} (count : ℕ) (rules : List (Rule W)) (kept : List ℕ) where
   -- the first rule, where it is a flow from below the count
@@ -61,7 +50,7 @@ module _ {W : Type 0} (count : ℕ) (rules : List (Rule W)) (kept : List ℕ) wh
       → IsEntered count (rules ++ rule ∷ []) kept n (Once from weight)
   once_again rule from n weight to is once = (
     record {
-      flow = has_left rules (rule ∷ []) (Flow from n weight) once.0.flow;
+      flow = Has-left rules (rule ∷ []) (Flow from n weight) once.0.flow;
       only = λ r has leads. elim (has_pushed rules rule r has) [ inl old ↦ once.0.only r old leads | inr new ↦ new ∙ is ];
       free = once.0.free;
     },
@@ -72,11 +61,11 @@ module _ {W : Type 0} (count : ℕ) (rules : List (Rule W)) (kept : List ℕ) wh
   pub once_otherwise : (rule : Rule W) (from n : ℕ) (weight : W) → to_of rule ≡ n → (rule ≡ Flow from n weight → ⊥)
       → IsEntered count rules kept n (Once from weight) → IsEntered count (rules ++ rule ∷ []) kept n Otherwise
   once_otherwise rule from n weight to other once m w below only free =
-      other (only rule (has_last rules rule) to ∙ sym (only (Flow from n weight) (has_left rules (rule ∷ []) (Flow from n weight) once.0.flow) refl))
+      other (only rule (has_last rules rule) to ∙ sym (only (Flow from n weight) (Has-left rules (rule ∷ []) (Flow from n weight) once.0.flow) refl))
 
   -- what is otherwise stays so
   pub otherwise_more : (rule : Rule W) (n : ℕ) → IsEntered count rules kept n Otherwise → IsEntered count (rules ++ rule ∷ []) kept n Otherwise
-  otherwise_more rule n was m w below only free = was m w below (λ r has leads. only r (has_left rules (rule ∷ []) r has) leads) free
+  otherwise_more rule n was m w below only free = was m w below (λ r has leads. only r (Has-left rules (rule ∷ []) r has) leads) free
 
   -- a rule doesn't change how others lead to another node
   pub elsewhere : (rule : Rule W) (n : ℕ) (e : Entered W) → to_of rule ≢ n → IsEntered count rules kept n e → IsEntered count (rules ++ rule ∷ []) kept n e
@@ -86,7 +75,7 @@ module _ {W : Type 0} (count : ℕ) (rules : List (Rule W)) (kept : List ℕ) wh
   )
   elsewhere rule n (Once from weight) apart was = (
     record {
-      flow = has_left rules (rule ∷ []) (Flow from n weight) was.0.flow;
+      flow = Has-left rules (rule ∷ []) (Flow from n weight) was.0.flow;
       only = λ r has leads. elim (has_pushed rules rule r has) [ inl old ↦ was.0.only r old leads | inr new ↦ absurd (apart (ap to_of (sym new) ∙ leads)) ];
       free = was.0.free;
     },
@@ -105,7 +94,7 @@ module _ {W : Type 0} (count : ℕ) (rules : List (Rule W)) (kept : List ℕ) wh
     },
     was.1,
   )
-  kept_elsewhere node n Otherwise apart was = λ m w below only free. was m w below only (λ has. free (has_left kept (node ∷ []) n has))
+  kept_elsewhere node n Otherwise apart was = λ m w below only free. was m w below only (λ has. free (Has-left kept (node ∷ []) n has))
 
   pub kept_here : (node : ℕ) → IsEntered count rules (kept ++ node ∷ []) node Otherwise
   kept_here node m w below only free = free (has_last kept node)

@@ -3,6 +3,7 @@ use Rattle.std.proofs.Common.{◌≡◌, ◌↔◌, inl, inr, ℕ, List, ◌∷�
 use Rattle.auto_table.specs.declared.rule.Rule.{Rule}
 use Rattle.auto_table.specs.declared.rule.Rule.TheVariants.{Flow, Push, Pop}
 use Rattle.lists.specs.Lists.{Has}
+use Rattle.lists.proofs.Joined.{Has-either, Has-left, Has-right}
 use Rattle.post_star.specs.declared.bases.Start.{Start}
 use Rattle.post_star.specs.declared.bases.BaseStep.{BaseStep}
 use Rattle.post_star.specs.Derivations.{Derives, starts_at, flows, pushes, pops, DerivesAny, any_word, IsSumOf}
@@ -11,8 +12,6 @@ use Rattle.post_star.specs.Measures.{to_of}
 use Rattle.post_star.specs.Works.{IsTold, weight_of}
 use Rattle.post_star.proofs.Combinations.{combines_leq, combines_meant}
 use Rattle.post_star.proofs.Joins.{derives_meant}
-use Rattle.post_star.proofs.Parted.{has_either}
-use Rattle.post_star.proofs.Scopes.{has_left, has_right}
 use Rattle.post_star.proofs.Sums.{IsTimes, sum_same, sum_times}
 use Rattle.weight_laws.specs.Law.{Domain, IsLawful}
 use Rattle.weight_laws.proofs.Orders.{leq_both}
@@ -36,13 +35,13 @@ moved_weight d head offset (Pop from mark to weight) = refl
 pub contracted_both : {W : Type 0} (d : Domain W) (head : ℕ → ℕ) (offset : ℕ → W) (rules few own own_few : List (Rule W)) → AreContracted d head offset rules few
     → AreContracted d head offset own own_few → AreContracted d head offset (rules ++ own) (few ++ own_few)
 contracted_both d head offset rules few own own_few a b r = (
-  (λ has. elim (has_either few own_few r has) [
-    | inl h ↦ let q = (a r).0 h in (q.0, has_left rules own q.0 q.1, q.2, q.3)
-    | inr h ↦ let q = (b r).0 h in (q.0, has_right rules own q.0 q.1, q.2, q.3)
+  (λ has. elim (Has-either few own_few r has) [
+    | inl h ↦ let q = (a r).0 h in (q.0, Has-left rules own q.0 q.1, q.2, q.3)
+    | inr h ↦ let q = (b r).0 h in (q.0, Has-right rules own q.0 q.1, q.2, q.3)
   ]),
-  (λ q. elim (has_either rules own q.0 q.1) [
-    | inl h ↦ has_left few own_few r ((a r).1 (q.0, h, q.2, q.3))
-    | inr h ↦ has_right few own_few r ((b r).1 (q.0, h, q.2, q.3))
+  (λ q. elim (Has-either rules own q.0 q.1) [
+    | inl h ↦ Has-left few own_few r ((a r).1 (q.0, h, q.2, q.3))
+    | inr h ↦ Has-right few own_few r ((b r).1 (q.0, h, q.2, q.3))
   ]),
 )
 

@@ -5,13 +5,12 @@ use Rattle.std.proofs.lemmas.List.{take_more}
 use Rattle.auto_table.specs.declared.rule.Rule.{Rule}
 use Rattle.auto_table.specs.declared.rule.Rule.TheVariants.{Flow, Push, Pop}
 use Rattle.lists.specs.Lists.{Has}
+use Rattle.lists.proofs.Joined.{Has-either, Has-left, Has-right}
 use Rattle.post_star.specs.declared.bases.Start.{Start}
 use Rattle.post_star.specs.declared.bases.BaseStep.{BaseStep}
 use Rattle.post_star.specs.Derivations.{Derives, DerivesAny, starts_at, flows, pushes, pops, any_word}
 use Rattle.post_star.specs.Works.{IsTold, weight_of}
 use Rattle.post_star.proofs.Joins.{derives_meant}
-use Rattle.post_star.proofs.Parted.{has_either}
-use Rattle.post_star.proofs.Scopes.{has_left, has_right}
 use Rattle.weight_laws.specs.Law.{Domain, IsLawful}
 use Rattle.rule_cells.specs.declared.distinct.Shape.{Shape}
 use Rattle.rule_cells.specs.declared.distinct.Shape.TheVariants as shape
@@ -55,19 +54,19 @@ module _ {W : Type 0} {d : Domain W} (l : IsLawful W d) (rules : List (Rule W)) 
 module _ {W : Type 0} {d : Domain W} (l : IsLawful W d) (rules few own : List (Rule W)) (starts : List (Start W)) (thin : AreThinned d rules few)
     (told : IsTold d (rules ++ own) starts) where
   few_among : (r : Rule W) → Has (few ++ own) r → Has (rules ++ own) r
-  few_among r has = elim (has_either few own r has) [ inl a ↦ has_left rules own r (thin.among r a) | inr b ↦ has_right rules own r b ]
+  few_among r has = elim (Has-either few own r has) [ inl a ↦ Has-left rules own r (thin.among r a) | inr b ↦ Has-right rules own r b ]
 
   few_told : IsTold d (few ++ own) starts
   few_told = record { rule = λ r has. told.rule r (few_among r has); start = told.start }
 
   -- a rule is there still, or follows
   there : (r : Rule W) → Has (rules ++ own) r → Has (few ++ own) r ⊎ Follows d (few ++ own) r
-  there r has = elim (has_either rules own r has) [
+  there r has = elim (Has-either rules own r has) [
     | inl a ↦ elim (thin.rest r a) [
-      | inl same ↦ inl (has_left few own r same)
-      | inr follows ↦ inr (follows_more d few (few ++ own) (λ q. has_left few own q) r follows)
+      | inl same ↦ inl (Has-left few own r same)
+      | inr follows ↦ inr (follows_more d few (few ++ own) (λ q. Has-left few own q) r follows)
     ]
-    | inr b ↦ inl (has_right few own r b)
+    | inr b ↦ inl (Has-right few own r b)
   ]
 
   module _ (steps : List BaseStep) (last : ℕ) where
@@ -105,7 +104,7 @@ pub have_thin_cells : {W : Type 0} {d : Domain W} → IsLawful W d → (rules fe
     → ((r : Rule W) → Has rules r → weight_of r ≡ d.one) → HaveCells d few kept cells between → HaveCells d rules kept cells between
 have_thin_cells {d = d} l rules few kept cells between thin ones have own starts lead steps last n word x =
     let told : IsTold d (rules ++ own) starts = record {
-      rule = λ r has. elim (has_either rules own r has) [ inl a ↦ subst d.IsMeant (sym (ones r a)) l.one_meant | inr b ↦ lead.told.rule r b ];
+      rule = λ r has. elim (Has-either rules own r has) [ inl a ↦ subst d.IsMeant (sym (ones r a)) l.one_meant | inr b ↦ lead.told.rule r b ];
       start = lead.told.start;
     } in
     let first = derivations_kept l rules few own starts thin told steps last n word x in
@@ -133,9 +132,9 @@ module _ {W : Type 0} (d : Domain W) (seen : List (Rule W)) where
   -- one came in
   pub added_last : (rules : List (Rule W)) (r : Rule W) → AreAdded d seen rules (rules ++ r ∷ []) (r ∷ [])
   added_last rules r = record {
-    stay = λ q has. has_left rules (r ∷ []) q has;
-    among = λ q has. has_either rules (r ∷ []) q has;
-    rest = λ q has. inl (has_right rules (r ∷ []) q has);
+    stay = λ q has. Has-left rules (r ∷ []) q has;
+    among = λ q has. Has-either rules (r ∷ []) q has;
+    rest = λ q has. inl (Has-right rules (r ∷ []) q has);
   }
 
   -- one that follows didn't
@@ -154,10 +153,10 @@ module _ {W : Type 0} (d : Domain W) (seen : List (Rule W)) where
       subst (λ (rs : List (Rule W)). AreAdded d seen old new rs) all (record {
         stay = λ q has. b.stay q (a.stay q has);
         among = λ q has. elim (b.among q has) [
-          | inl before ↦ elim (a.among q before) [ inl old_one ↦ inl old_one | inr came ↦ inr (has_left (take i more) (r ∷ []) q came) ]
-          | inr last ↦ inr (has_right (take i more) (r ∷ []) q last)
+          | inl before ↦ elim (a.among q before) [ inl old_one ↦ inl old_one | inr came ↦ inr (Has-left (take i more) (r ∷ []) q came) ]
+          | inr last ↦ inr (Has-right (take i more) (r ∷ []) q last)
         ];
-        rest = λ q has. elim (has_either (take i more) (r ∷ []) q has) [
+        rest = λ q has. elim (Has-either (take i more) (r ∷ []) q has) [
           | inl came ↦ elim (a.rest q came) [ inl there ↦ inl (b.stay q there) | inr follows ↦ inr follows ]
           | inr last ↦ b.rest q last
         ];

@@ -3,7 +3,8 @@ use Rattle.std.proofs.Common.{◌≡◌, ◌⊎◌, ◌+◌, inl, inr, ℕ, Bool
 use Rattle.auto_table.specs.declared.rule.Rule.{Rule}
 use Rattle.auto_table.specs.declared.rule.Rule.TheVariants.{Flow}
 use Rattle.lists.specs.Lists.{Has}
-use Rattle.post_star.proofs.Scopes.{has_last, has_left}
+use Rattle.lists.proofs.Joined.{Has-left}
+use Rattle.post_star.proofs.Scopes.{has_last}
 use Rattle.weight_laws.specs.Law.{Domain}
 use Rattle.rule_marks.specs.Joined.{source}
 use Rattle.rule_marks.specs.Sharing.{IsAdded, IsAddedIf, IsJoining, IsOfJoined, at_node, enters, leaves, other}
@@ -13,7 +14,7 @@ module _ {X : Type 0} where
   pub added : (old : List X) (a : X) → IsAdded old a (old ++ a ∷ [])
   added old a x = (
     (λ has. has_put old a x has),
-    (λ p. elim p [ inl o ↦ has_left old (a ∷ []) x o | inr e ↦ subst (λ (y : X). Has (old ++ a ∷ []) y) (sym e) (has_last old a) ]),
+    (λ p. elim p [ inl o ↦ Has-left old (a ∷ []) x o | inr e ↦ subst (λ (y : X). Has (old ++ a ∷ []) y) (sym e) (has_last old a) ]),
   )
 
   pub there_already : (old : List X) (a : X) → Has old a → IsAdded old a old
@@ -22,7 +23,7 @@ module _ {X : Type 0} where
   pub added_if : (old : List X) (a : X) (test : Bool) → test ≡ true → IsAddedIf test old a (old ++ a ∷ [])
   added_if old a test holds x = (
     (λ has. elim (has_put old a x has) [ inl o ↦ inl o | inr e ↦ inr (holds, e) ]),
-    (λ p. elim p [ inl o ↦ has_left old (a ∷ []) x o | inr e ↦ subst (λ (y : X). Has (old ++ a ∷ []) y) (sym e.1) (has_last old a) ]),
+    (λ p. elim p [ inl o ↦ Has-left old (a ∷ []) x o | inr e ↦ subst (λ (y : X). Has (old ++ a ∷ []) y) (sym e.1) (has_last old a) ]),
   )
 
   pub added_not : (old : List X) (a : X) (test : Bool) → test ≡ false → IsAddedIf test old a old
@@ -31,8 +32,8 @@ module _ {X : Type 0} where
 module _ {W : Type 0} (d : Domain W) (count : ℕ) (leader : ℕ → ℕ) (others : List (Rule W)) where
   more_shared : (shared : List (Rule W)) (q r : Rule W) → IsOfJoined d count leader others shared r → IsOfJoined d count leader others (shared ++ q ∷ []) r
   more_shared shared q r (other has) = other has
-  more_shared shared q r (enters p has e) = enters p (has_left shared (q ∷ []) p has) e
-  more_shared shared q r (leaves p has own e) = leaves p (has_left shared (q ∷ []) p has) own e
+  more_shared shared q r (enters p has e) = enters p (Has-left shared (q ∷ []) p has) e
+  more_shared shared q r (leaves p has own e) = leaves p (Has-left shared (q ∷ []) p has) own e
 
   -- a rule more gives its flow and, where its node leads, itself
   less_shared : (shared : List (Rule W)) (q r : Rule W) → IsOfJoined d count leader others (shared ++ q ∷ []) r

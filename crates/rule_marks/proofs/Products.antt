@@ -3,10 +3,9 @@ use Rattle.std.proofs.Common.{◌≡◌, ◌<◌, ◌≤◌, ◌+◌, ◌++◌, 
 use Rattle.auto_table.specs.declared.rule.Rule.{Rule}
 use Rattle.auto_table.specs.declared.rule.Rule.TheVariants.{Flow, Push, Pop}
 use Rattle.lists.specs.Lists.{Has}
+use Rattle.lists.proofs.Joined.{Has-either, Has-left, Has-right}
 use Rattle.post_star.specs.declared.bases.Start.{Start}
 use Rattle.post_star.specs.Works.{weight_of}
-use Rattle.post_star.proofs.Parted.{has_either}
-use Rattle.post_star.proofs.Scopes.{has_left, has_right}
 use Rattle.weight_laws.specs.Law.{Domain, IsLawful}
 use Rattle.rule_marks.specs.Joined.{IsJoined, IsOver, led, over, past, source, target}
 use Rattle.rule_marks.specs.Sharing.{IsOfJoined, IsSharing, SharedRulesAreJoined, at_node, enters, leaves, other}
@@ -45,7 +44,7 @@ led_by_one l n (Pop from mark to weight) meant = ap (λ w. Pop n mark to w) (l.o
 module _ {W : Type 0} {d : Domain W} (l : IsLawful W d) (count : ℕ) (leader : ℕ → ℕ) (starts : List (Start W)) (others shared joined : List (Rule W))
     (is : IsSharing d count leader starts others shared joined) where
   shared_meant : (q : Rule W) → Has shared q → d.IsMeant (weight_of q)
-  shared_meant q has = is.told.rule q (has_right others shared q has)
+  shared_meant q has = is.told.rule q (Has-right others shared q has)
 
   -- a rule that leads to a joining node, and one that leads from there
   to_join : (r : Rule W) → IsOfJoined d count leader others shared r → count ≤ target r
@@ -62,7 +61,7 @@ module _ {W : Type 0} {d : Domain W} (l : IsLawful W d) (count : ℕ) (leader : 
   from_join r (leaves q has own e) high = (q, has, own, e)
 
   told_rule : (r : Rule W) → IsOfJoined d count leader others shared r → d.IsMeant (weight_of r)
-  told_rule r (other has) = is.told.rule r (has_left others shared r has)
+  told_rule r (other has) = is.told.rule r (Has-left others shared r has)
   told_rule r (enters q has e) = subst (λ (w : W). d.IsMeant w) (sym (ap weight_of e)) l.one_meant
   told_rule r (leaves q has own e) = subst (λ (w : W). d.IsMeant w) (sym (ap weight_of e ∙ at_weight (count + source q) q)) (shared_meant q has)
 
@@ -84,13 +83,13 @@ module _ {W : Type 0} {d : Domain W} (l : IsLawful W d) (count : ℕ) (leader : 
       (let below = low.1 in omega (arith, ends, below)) whole
 
   rules_forth : (r : Rule W) → Has (others ++ shared) r → IsOver d count joined r
-  rules_forth r has = elim (has_either others shared r has) [
+  rules_forth r has = elim (Has-either others shared r has) [
     | inl a ↦ past ((is.joined_are r).1 (other a)) (is.others_below r a).0 (is.others_below r a).1
     | inr b ↦ goes_over r b
   ]
 
   past_back : (r : Rule W) → IsOfJoined d count leader others shared r → source r < count → target r < count → Has (others ++ shared) r
-  past_back r (other has) low below = has_left others shared r has
+  past_back r (other has) low below = Has-left others shared r has
   past_back r (enters q has e) low below = absurd (let to : target r ≡ count + leader (source q) = ap target e in omega (arith, to, below))
   past_back r (leaves q has own e) low below =
       absurd (let from : source r ≡ count + source q = ap source e ∙ at_source (count + source q) q in omega (arith, from, low))
@@ -110,7 +109,7 @@ module _ {W : Type 0} {d : Domain W} (l : IsLawful W d) (count : ℕ) (leader : 
       let rule : r ≡ at_node (source a.0) b.0 =
       led_is ∙ ap (λ (w : W). led d before w q) weighs ∙ led_by_one l before q meant ∙ ap (at_node before) b.3 ∙ at_twice before (count + source b.0) b.0
       ∙ ap (λ (k : ℕ). at_node k b.0) from in
-      subst (λ (x : Rule W). Has (others ++ shared) x) (sym rule) (has_right others shared (at_node (source a.0) b.0) there)
+      subst (λ (x : Rule W). Has (others ++ shared) x) (sym rule) (Has-right others shared (at_node (source a.0) b.0) there)
 
   rules_back : (r : Rule W) → IsOver d count joined r → Has (others ++ shared) r
   rules_back r (past has low below) = past_back r ((is.joined_are r).0 has) low below

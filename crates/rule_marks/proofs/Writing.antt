@@ -5,8 +5,8 @@ use Rattle.std.proofs.lemmas.List.{get_or-set_other}
 use Rattle.auto_table.specs.declared.rule.Rule.{Rule}
 use Rattle.auto_table.specs.declared.rule.Rule.TheVariants.{Flow, Push, Pop}
 use Rattle.lists.specs.Lists.{Has}
-use Rattle.post_star.proofs.Parted.{has_either}
-use Rattle.post_star.proofs.Scopes.{has_last, has_left, has_right}
+use Rattle.lists.proofs.Joined.{Has-either, Has-left, Has-right}
+use Rattle.post_star.proofs.Scopes.{has_last}
 use Rattle.post_star.specs.declared.bases.BaseStep.{BaseStep}
 use Rattle.post_star.specs.Derivations.{step_of}
 use Rattle.weight_laws.specs.Law.{Domain}
@@ -21,7 +21,7 @@ the_one : {X : Type 0} (q : X) → Has (q ∷ []) q
 the_one q = (0, refl)
 
 pub has_put : {X : Type 0} (xs : List X) (x y : X) → Has (xs ++ x ∷ []) y → Has xs y ⊎ (y ≡ x)
-has_put xs x y h = elim (has_either xs (x ∷ []) y h) [ inl old ↦ inl old | inr new ↦ inr (has_one x y new) ]
+has_put xs x y h = elim (Has-either xs (x ∷ []) y h) [ inl old ↦ inl old | inr new ↦ inr (has_one x y new) ]
 
 module _ {X : Type 0} where
   -- both are put, or the second was there
@@ -32,9 +32,9 @@ module _ {X : Type 0} where
       | inr y ↦ inr (inr y)
     ]),
     (λ p. elim p [
-      | inl o ↦ has_left (old ++ a ∷ []) (b ∷ []) r (has_left old (a ∷ []) r o)
+      | inl o ↦ Has-left (old ++ a ∷ []) (b ∷ []) r (Has-left old (a ∷ []) r o)
       | inr n ↦ elim n [
-        | inl y ↦ subst (λ (x : X). Has ((old ++ a ∷ []) ++ b ∷ []) x) (sym y) (has_left (old ++ a ∷ []) (b ∷ []) a (has_last old a))
+        | inl y ↦ subst (λ (x : X). Has ((old ++ a ∷ []) ++ b ∷ []) x) (sym y) (Has-left (old ++ a ∷ []) (b ∷ []) a (has_last old a))
         | inr y ↦ subst (λ (x : X). Has ((old ++ a ∷ []) ++ b ∷ []) x) (sym y) (has_last (old ++ a ∷ []) b)
       ]
     ]),
@@ -44,10 +44,10 @@ module _ {X : Type 0} where
   first_put old a b r there = (
     (λ has. elim (has_put old a r has) [ inl o ↦ inl o | inr y ↦ inr (inl y) ]),
     (λ p. elim p [
-      | inl o ↦ has_left old (a ∷ []) r o
+      | inl o ↦ Has-left old (a ∷ []) r o
       | inr n ↦ elim n [
         | inl y ↦ subst (λ (x : X). Has (old ++ a ∷ []) x) (sym y) (has_last old a)
-        | inr y ↦ has_left old (a ∷ []) r (subst (λ (x : X). Has old x) (sym y) there)
+        | inr y ↦ Has-left old (a ∷ []) r (subst (λ (x : X). Has old x) (sym y) there)
       ]
     ]),
   )
@@ -69,19 +69,19 @@ module _ {W : Type 0} (d : Domain W) (s : Splitting) where
 
   split_either : (rules more : List (Rule W)) (r : Rule W) → IsSplitRule d s (rules ++ more) r → OfEither rules more r
   split_either rules more r (flow m n w has e) =
-      elim (has_either rules more (Flow m n w) has) [ inl a ↦ inl (flow m n w a e) | inr b ↦ inr (flow m n w b e) ]
+      elim (Has-either rules more (Flow m n w) has) [ inl a ↦ inl (flow m n w a e) | inr b ↦ inr (flow m n w b e) ]
   split_either rules more r (push m n k w has t e) =
-      elim (has_either rules more (Push m n k w) has) [ inl a ↦ inl (push m n k w a t e) | inr b ↦ inr (push m n k w b t e) ]
+      elim (Has-either rules more (Push m n k w) has) [ inl a ↦ inl (push m n k w a t e) | inr b ↦ inr (push m n k w b t e) ]
   split_either rules more r (push_entry m n k w has t e) =
-      elim (has_either rules more (Push m n k w) has) [ inl a ↦ inl (push_entry m n k w a t e) | inr b ↦ inr (push_entry m n k w b t e) ]
+      elim (Has-either rules more (Push m n k w) has) [ inl a ↦ inl (push_entry m n k w a t e) | inr b ↦ inr (push_entry m n k w b t e) ]
   split_either rules more r (push_common m n k w has t e) =
-      elim (has_either rules more (Push m n k w) has) [ inl a ↦ inl (push_common m n k w a t e) | inr b ↦ inr (push_common m n k w b t e) ]
+      elim (Has-either rules more (Push m n k w) has) [ inl a ↦ inl (push_common m n k w a t e) | inr b ↦ inr (push_common m n k w b t e) ]
   split_either rules more r (pop m k n w has t e) =
-      elim (has_either rules more (Pop m k n w) has) [ inl a ↦ inl (pop m k n w a t e) | inr b ↦ inr (pop m k n w b t e) ]
+      elim (Has-either rules more (Pop m k n w) has) [ inl a ↦ inl (pop m k n w a t e) | inr b ↦ inr (pop m k n w b t e) ]
   split_either rules more r (pop_common m k n w has t e) =
-      elim (has_either rules more (Pop m k n w) has) [ inl a ↦ inl (pop_common m k n w a t e) | inr b ↦ inr (pop_common m k n w b t e) ]
+      elim (Has-either rules more (Pop m k n w) has) [ inl a ↦ inl (pop_common m k n w a t e) | inr b ↦ inr (pop_common m k n w b t e) ]
   split_either rules more r (pop_exit m k n w has t e) =
-      elim (has_either rules more (Pop m k n w) has) [ inl a ↦ inl (pop_exit m k n w a t e) | inr b ↦ inr (pop_exit m k n w b t e) ]
+      elim (Has-either rules more (Pop m k n w) has) [ inl a ↦ inl (pop_exit m k n w a t e) | inr b ↦ inr (pop_exit m k n w b t e) ]
 
   -- the rules that are written for one more
   pub record AreWritten (q : Rule W) (old new : List (Rule W)) : Type 0 where
@@ -97,8 +97,8 @@ module _ {W : Type 0} (d : Domain W) (s : Splitting) where
   written rules q old new entries exits more_entries more_exits was are entered left = record {
     rules_are = λ r. (
       (λ has. elim (are.parts r has) [
-        | inl a ↦ split_more rules (rules ++ q ∷ []) r (λ x h. has_left rules (q ∷ []) x h) ((was.rules_are r).0 a)
-        | inr b ↦ split_more (q ∷ []) (rules ++ q ∷ []) r (λ x h. has_right rules (q ∷ []) x h) b
+        | inl a ↦ split_more rules (rules ++ q ∷ []) r (λ x h. Has-left rules (q ∷ []) x h) ((was.rules_are r).0 a)
+        | inr b ↦ split_more (q ∷ []) (rules ++ q ∷ []) r (λ x h. Has-right rules (q ∷ []) x h) b
       ]),
       (λ is. elim (split_either rules (q ∷ []) r is) [ inl a ↦ are.stay r ((was.rules_are r).1 a) | inr b ↦ are.added r b ]),
     );
@@ -135,7 +135,7 @@ module _ {W : Type 0} (d : Domain W) (s : Splitting) where
       | inl a ↦ inl a
       | inr b ↦ inr (subst (λ (x : Rule W). IsSplitRule d s (q ∷ []) x) (sym b) (whole_self q whole))
     ];
-    stay = λ r has. has_left old (q ∷ []) r has;
+    stay = λ r has. Has-left old (q ∷ []) r has;
     added = λ r is. subst (λ (x : Rule W). Has (old ++ q ∷ []) x) (sym (whole_alone q r whole is)) (has_last old q);
   }
 
@@ -257,19 +257,19 @@ module _ (s : Splitting) where
 
   step_either : (steps more : List BaseStep) (x : BaseStep) → IsSplitStep s (steps ++ more) x → IsSplitStep s steps x ⊎ IsSplitStep s more x
   step_either steps more x (step b k c has t e) =
-      elim (has_either steps more (step_of b k c) has) [ inl u ↦ inl (step b k c u t e) | inr v ↦ inr (step b k c v t e) ]
+      elim (Has-either steps more (step_of b k c) has) [ inl u ↦ inl (step b k c u t e) | inr v ↦ inr (step b k c v t e) ]
   step_either steps more x (step_common b k c has t e) =
-      elim (has_either steps more (step_of b k c) has) [ inl u ↦ inl (step_common b k c u t e) | inr v ↦ inr (step_common b k c v t e) ]
+      elim (Has-either steps more (step_of b k c) has) [ inl u ↦ inl (step_common b k c u t e) | inr v ↦ inr (step_common b k c v t e) ]
   step_either steps more x (step_below b k c has t e) =
-      elim (has_either steps more (step_of b k c) has) [ inl u ↦ inl (step_below b k c u t e) | inr v ↦ inr (step_below b k c v t e) ]
+      elim (Has-either steps more (step_of b k c) has) [ inl u ↦ inl (step_below b k c u t e) | inr v ↦ inr (step_below b k c v t e) ]
 
   step_written : (steps old new : List BaseStep) (q : BaseStep) → AreStepsOf s steps old → ((x : BaseStep) → Has new x → Has old x ⊎ IsSplitStep s (q ∷ []) x)
       → ((x : BaseStep) → Has old x → Has new x) → ((x : BaseStep) → IsSplitStep s (q ∷ []) x → Has new x) → AreStepsOf s (steps ++ q ∷ []) new
   step_written steps old new q was parts stay added = record {
     steps_are = λ x. (
       (λ has. elim (parts x has) [
-        | inl u ↦ step_more steps (steps ++ q ∷ []) x (λ y h. has_left steps (q ∷ []) y h) ((was.steps_are x).0 u)
-        | inr v ↦ step_more (q ∷ []) (steps ++ q ∷ []) x (λ y h. has_right steps (q ∷ []) y h) v
+        | inl u ↦ step_more steps (steps ++ q ∷ []) x (λ y h. Has-left steps (q ∷ []) y h) ((was.steps_are x).0 u)
+        | inr v ↦ step_more (q ∷ []) (steps ++ q ∷ []) x (λ y h. Has-right steps (q ∷ []) y h) v
       ]),
       (λ is. elim (step_either steps (q ∷ []) x is) [ inl u ↦ stay x ((was.steps_are x).1 u) | inr v ↦ added x v ]),
     );
@@ -293,7 +293,7 @@ module _ (s : Splitting) where
         | inl u ↦ inl u
         | inr v ↦ inr (subst (λ (y : BaseStep). IsSplitStep s (q ∷ []) y) (sym v) (step q.base q.mark q.below (the_one q) whole refl))
       ])
-      (λ x has. has_left old (q ∷ []) x has) (λ x is. subst (λ (y : BaseStep). Has (old ++ q ∷ []) y) (sym (step_whole q x whole is)) (has_last old q))
+      (λ x has. Has-left old (q ∷ []) x has) (λ x is. subst (λ (y : BaseStep). Has (old ++ q ∷ []) y) (sym (step_whole q x whole is)) (has_last old q))
 
   step_parts : (q x : BaseStep) → splits_step q ≡ true → IsSplitStep s (q ∷ []) x
       → (x ≡ step_of q.base s.common (s.below q.base)) ⊎ (x ≡ step_of (s.below q.base) q.mark q.below)

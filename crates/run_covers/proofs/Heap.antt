@@ -4,11 +4,12 @@ use Rattle.std.specs.List.{range_with_len}
 use Rattle.std.proofs.lemmas.Bool.{cases_eq}
 use Rattle.lists.proofs.Places.{slice_get-below, slice_get-pushed, slice_get-set_other, slice_get-set_same}
 use Rattle.lists.specs.Lists.{Has}
+use Rattle.lists.proofs.Joined.{slice_get-appended}
 use Rattle.link_rules.specs.Linked.{LinkedClass, LinkedProgram}
 use Rattle.link_rules.specs.Classes.{object_name}
 use Rattle.link_rules.specs.Targets.{nine_names}
 use Rattle.link_rules.specs.WellLinked.{IsInstantiableIn, IsInstantiableWhereNamed, IsWellLinked}
-use Rattle.link_laws.proofs.Lists.{at_all, at_map, slice_get-appended}
+use Rattle.link_laws.proofs.Lists.{at_all, at_map}
 use Rattle.link_sites.specs.Sites.{IsClassOfRaised, IsNamedClass}
 use Rattle.link_sites.specs.declared.site.Site.{Site}
 use Rattle.step_rules.specs.States.{HeapObject, new_object}

@@ -1,6 +1,7 @@
 -- The rows of the machine's table, but calls: what each effect puts into a slot.
 use Rattle.std.proofs.Common.{◌≡◌, ℕ, ◌+◌, ◌++◌, Option, Some, None, Bool, true, false, List, [], ◌∷◌, map, slice_get, refl, ap, ◌∙◌, subst, inl, inr, arith}
 use Rattle.std.proofs.lemmas.List.{append-nil}
+use Rattle.run_sound.proofs.Leaving.{thrown_by}
 use Rattle.link_rules.specs.declared.code.Arg.{Arg}
 use Rattle.link_rules.specs.declared.code.Arg.TheVariants as arg
 use Rattle.link_rules.specs.declared.code.Code.{Code}
@@ -23,14 +24,6 @@ use Rattle.run_sound.proofs.Offered.{by_access, by_object, by_value, each_mapped
 use Rattle.run_sound.proofs.Words.{field_written, values_written}
 use Rattle.run_origins.specs.Standing as stands
 use Rattle.run_origins.proofs.Explained.{IsExplained, assigned, loaded, operand, static}
-
--- the variable of a thrown operand is put in flight
-thrown_by : (a : Arg) (v : Var) → arg_var a ≡ Some v → IsThrownBy (Throw a) v
-thrown_by (arg.Local x) v e = let is : var.Local x ≡ v = cc in subst (IsThrownBy (Throw (arg.Local x))) is refl
-thrown_by (arg.Text i) v e = let is : var.Text i ≡ v = cc in subst (IsThrownBy (Throw (arg.Text i))) is refl
-thrown_by (arg.Class i) v e = let is : var.Class i ≡ v = cc in subst (IsThrownBy (Throw (arg.Class i))) is refl
-thrown_by arg.Number v e = cc
-thrown_by arg.Null v e = cc
 
 module _ (p : LinkedProgram) (point : Point) (m : LinkedMethod) (offered : List Effect) where
   -- the effects of the statement are explained

@@ -5,7 +5,7 @@ use Rattle.lists.specs.Lists.{Has}
 use Rattle.std.proofs.lemmas.List.FromFn.{get_or-map-range_with_len, length-map-range_with_len}
 use Rattle.std.proofs.lemmas.Option.{get_or_from_slice_get}
 use Rattle.lists.proofs.Places.{slice_get-append_left, slice_get-below, slice_get-pushed}
-use Rattle.link_laws.proofs.Lists.{slice_get-appended}
+use Rattle.lists.proofs.Joined.{slice_get-appended}
 use Rattle.link_rules.specs.declared.code.Code.{Code}
 use Rattle.link_rules.specs.declared.code.Code.TheVariants as code
 use Rattle.link_rules.specs.Flow.{MayRaise}

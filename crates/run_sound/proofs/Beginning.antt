@@ -5,9 +5,10 @@ use Rattle.std.proofs.lemmas.List.{length-replicate}
 use Rattle.std.proofs.lemmas.List.FromFn.{get_or-map-range_with_len, length-map-range_with_len}
 use Rattle.std.proofs.lemmas.Option.{slice_get_read}
 use Rattle.lists.proofs.Places.{slice_get-append_left, slice_get-below, slice_get-there}
+use Rattle.lists.proofs.Joined.{slice_get-append_right, slice_get-appended}
 use Rattle.link_rules.specs.declared.code.Code.{Code}
 use Rattle.link_rules.specs.Linked.{LinkedProgram}
-use Rattle.link_laws.proofs.Lists.{map_at, slice_get-append_right, slice_get-appended}
+use Rattle.link_laws.proofs.Lists.{map_at}
 use Rattle.link_sites.specs.declared.site.Site.{Site}
 use Rattle.link_sites.specs.declared.site.Site.TheVariants as site
 use Rattle.link_sites.specs.Sites.{IsSiteClass}
@@ -36,7 +37,7 @@ at_constants site class count i object e =
     (below, cc)
 
 -- nothing is in a list of nulls
-no_object : (n field x : ℕ) → slice_get (replicate n Null) field ≡ Some (Object x) → ⊥
+pub no_object : (n field x : ℕ) → slice_get (replicate n Null) field ≡ Some (Object x) → ⊥
 no_object zero field x e = cc
 no_object (suc n) zero x e = cc
 no_object (suc n) (suc field) x e = no_object n field x e

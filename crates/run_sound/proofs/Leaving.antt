@@ -26,7 +26,7 @@ use Rattle.run_sound.proofs.Operands.{IsSource, fits_here, source_of}
 use Rattle.run_sound.proofs.Standing.{IsStanding, StandsBefore, place_at, standing, unraised}
 
 -- the variable of a thrown operand is put in flight
-thrown_by : (a : Arg) (v : Var) → arg_var a ≡ Some v → IsThrownBy (Throw a) v
+pub thrown_by : (a : Arg) (v : Var) → arg_var a ≡ Some v → IsThrownBy (Throw a) v
 thrown_by (arg.Local x) v e = let is : var.Local x ≡ v = cc in subst (IsThrownBy (Throw (arg.Local x))) is refl
 thrown_by (arg.Text i) v e = let is : var.Text i ≡ v = cc in subst (IsThrownBy (Throw (arg.Text i))) is refl
 thrown_by (arg.Class i) v e = let is : var.Class i ≡ v = cc in subst (IsThrownBy (Throw (arg.Class i))) is refl

@@ -1,6 +1,7 @@
 -- Each step of the machine keeps what is known.
 use Rattle.std.proofs.Common.{◌≡◌, ℕ, Some, Bool, true, false, List, slice_get, sym, ap, ◌∙◌, subst, inl, inr}
 use Rattle.lists.specs.Lists.{Has}
+use Rattle.lists.proofs.Joined.{last_one}
 use Rattle.link_rules.specs.declared.code.Code.{Code}
 use Rattle.link_rules.specs.declared.code.Code.TheVariants as code
 use Rattle.link_rules.specs.Linked.{LinkedMethod, LinkedProgram}
@@ -20,7 +21,7 @@ use Rattle.run_sound.proofs.Heap.{load_cell_row, load_row, store_cell_row, store
 use Rattle.run_sound.proofs.Identities.{array_row, cast_row, caught_row, copy_row, nested_row, new_row, param_row, this_row}
 use Rattle.run_sound.proofs.Invariant.{AreFrames, IsKept, IsKeptAt, sites_of}
 use Rattle.run_sound.proofs.Leaving.{return_row, throw_row}
-use Rattle.run_sound.proofs.Lists.{not_empty, same_parts}
+use Rattle.run_sound.proofs.Lists.{not_empty}
 use Rattle.run_sound.proofs.Numbers.{goto_row, if_row, length_row, monitor_row, numeric_row, skip_row, switch_row}
 use Rattle.run_sound.proofs.Standing.{IsStanding, StandsBefore, known, unraised}
 use Rattle.run_sound.proofs.Statics.{load_static_row, store_static_row}
@@ -91,7 +92,7 @@ module _ (p : LinkedProgram) (q : Asked) (well : IsWellLinked p) where
     frames = elim kept.frames [
       | inl none ↦ absurd (not_empty point.below point.top none)
       | inr some ↦
-          let parts = same_parts point.below some.0 point.top some.1 some.2 in
+          let parts = last_one point.below some.0 point.top some.1 some.2 in
           subst (λ (top : Frame). AreFrames p q (sites_of point.heap) point.below top) (sym parts.1)
           (subst (λ (below : List Frame). AreFrames p q (sites_of point.heap) below some.1) (sym parts.0) some.3)
     ];

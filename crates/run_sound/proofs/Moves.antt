@@ -2,6 +2,7 @@
 use Rattle.std.proofs.Common.{◌≡◌, ℕ, ◌+◌, ◌<◌, ◌⊎◌, Some, None, true, false, List, length, slice_get, refl, sym, ◌∙◌, subst, inl, inr}
 use Rattle.std.proofs.lemmas.Option.{same_Some}
 use Rattle.lists.proofs.Places.{slice_get-there}
+use Rattle.std.proofs.lemmas.List.{length-set}
 use Rattle.link_rules.specs.declared.code.Code.{Code}
 use Rattle.link_rules.specs.Flow.{Next, IsRaised}
 use Rattle.link_rules.specs.Linked.{LinkedMethod, LinkedProgram}
@@ -21,7 +22,6 @@ use Rattle.step_rules.specs.States.{Frame, Point, gets, goes_to, state_of, throw
 use Rattle.run_sound.specs.Frames.{node_of, var_of}
 use Rattle.run_sound.proofs.Edges.{carried}
 use Rattle.run_sound.proofs.Invariant.{AreSlots, IsKept, IsReached, IsShaped, sites_of}
-use Rattle.run_sound.proofs.Lists.{length-slice_set}
 use Rattle.run_sound.proofs.Standing.{IsStanding, StandsBefore, set_local, shaped_here, standing, unraised}
 
 -- the statement assigns nothing
@@ -108,7 +108,7 @@ module _ (p : LinkedProgram) (q : Asked) (point : Point) (m : LinkedMethod) (str
         code = there.0;
         here = there.1;
         stands = tt;
-        locals = length-slice_set point.top.locals to (Some value) ∙ st.locals;
+        locals = length-set point.top.locals to (Some value) ∙ st.locals;
         params = st.params;
         this = st.this;
         thrown = λ e. st.thrown;

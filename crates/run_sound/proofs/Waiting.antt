@@ -2,6 +2,7 @@
 use Rattle.std.proofs.Common.{◌≡◌, ℕ, ◌≤◌, ◌++◌, Bool, false, List, [], ◌∷◌, length, refl, sym, ap, subst}
 use Rattle.std.proofs.Math.Seq.{take-append_seam}
 use Rattle.std.proofs.lemmas.List.{map-append, reverse-append, take-append-le}
+use Rattle.lists.proofs.Joined.{last_one}
 use Rattle.link_rules.specs.Linked.{LinkedProgram}
 use Rattle.link_rules.specs.WellLinked.{HasTarget}
 use Rattle.link_sites.specs.declared.place.Place.{Place}
@@ -12,7 +13,7 @@ use Rattle.spds_rules.specs.Systems.{IsString, called, root}
 use Rattle.step_rules.specs.States.{Frame, place_of}
 use Rattle.run_sound.specs.Frames.{places_of, string_of}
 use Rattle.run_sound.proofs.Invariant.{IsTracked, Waits, more, none}
-use Rattle.run_sound.proofs.Lists.{not_empty, same_parts}
+use Rattle.run_sound.proofs.Lists.{not_empty}
 
 -- the string of a frame is as it was, where one more is on top
 pub string_below : (frames : List Frame) (top : Frame) (number : ℕ) → number ≤ length frames → string_of (frames ++ top ∷ []) number ≡ string_of frames number
@@ -52,7 +53,7 @@ module _ (p : LinkedProgram) (q : Asked) (sites : List Site) where
       → HasCaller below caller callee string
   caller_of (none is_root) = λ below caller e. absurd (not_empty below caller (sym e))
   caller_of (more {below = rest} {caller = last} {string} {callee} waits unraised target tracked) = λ below caller e.
-      let parts = same_parts rest below last caller e in
+      let parts = last_one rest below last caller e in
       subst (λ (f : Frame). HasCaller below f callee (before last.method last.index ∷ string)) parts.1 (record {
         outer = string;
         is = refl;

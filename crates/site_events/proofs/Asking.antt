@@ -3,8 +3,9 @@ use Rattle.std.proofs.Common.{◌≡◌, ◌<◌, List, Some, map, length, get_o
 use Rattle.std.proofs.lemmas.List.{length-map}
 use Rattle.std.proofs.lemmas.Option.{get_or_from_slice_get}
 use Rattle.lists.proofs.Places.{slice_get-there}
+use Rattle.lists.proofs.Joined.{slice_get-mapped}
 use Rattle.link_rules.specs.Linked.{LinkedProgram}
-use Rattle.link_program.proofs.Found.{at_map, from_map}
+use Rattle.link_program.proofs.Found.{at_map}
 use Rattle.spds_rules.specs.declared.node.Node.{Node}
 use Rattle.spds_rules.specs.declared.node.Var.{Var}
 use Rattle.spds_rules.specs.declared.reach.Reach.TheVariants.{Tracked}
@@ -20,7 +21,7 @@ is_query p k list exact = record {
     tracked = refl;
     receivers = λ n. (
       (λ has.
-          let s = from_map receiver_node list has.0 n has.1 in
+          let s = slice_get-mapped receiver_node list has.0 n has.1 in
           let is : IsEventStatement p k s.0 = (exact.each s.0).0 (has.0, s.1) in
           subst (λ (m : Node). IsEventNode p k m) s.2 (s.0.event, is)),
       (λ node.

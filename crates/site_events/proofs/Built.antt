@@ -6,7 +6,8 @@ use Rattle.std.proofs.lemmas.Bool.{cases_lt}
 use Rattle.std.proofs.lemmas.Nat.Bits.{bit_at_above}
 use Rattle.lists.specs.Lists.{Has}
 use Rattle.lists.proofs.Places.{slice_get-below}
-use Rattle.link_program.proofs.Found.{at_map, from_map}
+use Rattle.lists.proofs.Joined.{slice_get-mapped}
+use Rattle.link_program.proofs.Found.{at_map}
 use Rattle.link_rules.specs.declared.code.Code.{Code}
 use Rattle.link_rules.specs.declared.code.Code.TheVariants.{Call}
 use Rattle.link_rules.specs.Linked.{LinkedKey, LinkedMethod, LinkedProgram}
@@ -167,7 +168,7 @@ module _ (p : LinkedProgram) (k : ProtocolParts) (q : Asked) (a : Site) where
   enters_may : (event : ℕ) (statements : List Statement) → ((s : Statement) → Has statements s ↔ MayBe p k q a event s) → (c : Place) → Enters p statements c ↔ MayEnter event c
   enters_may event statements are c = (
     (λ h.
-        let x = from_map (λ (t : Statement). t.method) statements h.2.0 h.0 h.2.1 in
+        let x = slice_get-mapped (λ (t : Statement). t.method) statements h.2.0 h.0 h.2.1 in
         (x.0, (are x.0).0 (h.2.0, x.1), subst (λ (m : ℕ). IsInside p c m) (sym x.2) h.1)),
     (λ h.
         let has = (are h.0).1 h.1 in

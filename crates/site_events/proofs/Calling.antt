@@ -2,13 +2,12 @@
 use Rattle.std.proofs.Common.{◌≡◌, ℕ, zero, suc, ◌+◌, ◌<◌, ◌≤◌, ◌⊎◌, ◌↔◌, Bool, true, false, List, [], ◌∷◌, ◌++◌, Some, eqb, length, slice_get, inl, inr, refl, sym, ap, subst, ◌∙◌, arith}
 use Rattle.std.proofs.lemmas.Bool.{cases_lt, eqb-false, eqb-true}
 use Rattle.lists.specs.Lists.{Adds, Has}
-use Rattle.lists.proofs.Places.{Has-adds_itself, slice_get-added, slice_get-adds}
-use Rattle.link_indexes.proofs.Grown.{Has-push}
+use Rattle.lists.proofs.Places.{Has-adds_itself, slice_get-added, slice_get-adds, Has-push}
 use Rattle.link_indexes.specs.declared.method.Place.{Place}
 use Rattle.link_indexes.specs.Facts.{Calls}
 use Rattle.link_indexes.specs.Tables.{IsAt}
 use Rattle.link_rules.specs.Accessed.{codes_in}
-use Rattle.link_program.proofs.Found.{at_map, from_map}
+use Rattle.link_program.proofs.Found.{at_map}
 use Rattle.link_rules.specs.declared.code.Code.{Code}
 use Rattle.link_rules.specs.declared.code.Code.TheVariants as code
 use Rattle.link_rules.specs.Linked.{LinkedMethod, LinkedProgram}
@@ -16,6 +15,7 @@ use Rattle.link_rules.specs.WellLinked.{HasTarget}
 use Rattle.lists.specs.declared.groups.Keyed.{Keyed}
 use Rattle.lists.specs.Filings.{kept_if}
 use Rattle.lists.specs.Groups.{Grouped, found_at, items_with}
+use Rattle.lists.proofs.Joined.{Has-cons, slice_get-mapped}
 use Rattle.site_events.specs.Callers.{AreCallers, IsCaller}
 
 module _ {X : Type 0} (number : X → ℕ) where
@@ -67,7 +67,7 @@ calls_has p number index target m _ there here calls = absurd calls
 
 pub caller_has : (p : LinkedProgram) (target : ℕ) (c : Place) → IsAt (Calls target) (codes_in p) c → HasTarget p c.method c.index target
 caller_has p target c is =
-    let m = from_map (λ (m : LinkedMethod). m.code) p.methods c.method is.0 is.1 in
+    let m = slice_get-mapped (λ (m : LinkedMethod). m.code) p.methods c.method is.0 is.1 in
     let at = is.2 in
     let here = subst (λ (codes : List Code). slice_get codes c.index ≡ Some at.0) (sym m.2) at.1 in
     calls_has p c.method c.index target m.0 at.0 m.1 here at.2
@@ -87,14 +87,6 @@ callers_all p target places found are added m = (
   (λ is. let c : Place = record { method = m; index = is.0 } in (added.each m).1 (inr (c, (are c).1 (has_caller p m is.0 target is.1), refl))),
 )
 
--- the elements of a list with one in front
-has_cons : {Y : Type 0} (x y : Y) (xs : List Y) → Has (x ∷ xs) y ↔ ((y ≡ x) ⊎ Has xs y)
-has_cons {Y} x y xs = ((λ has. by has.0 has.1), (λ either. elim either [ inl e ↦ (0, ap Some (sym e)) | inr has ↦ (suc has.0, has.1) ]))
-  where
-    by : (i : ℕ) → slice_get (x ∷ xs) i ≡ Some y → (y ≡ x) ⊎ Has xs y
-    by zero at = inl cc
-    by (suc i) at = inr (i, at)
-
 module _ {X : Type 0} where
   -- the items with a key are those listed with it
   pub Has-items_with : (xs : List (Keyed ℕ X)) (key : ℕ) (u : X) → Has (items_with eqb xs key) u ↔ Has xs (record { key = key; item = u })
@@ -102,12 +94,12 @@ module _ {X : Type 0} where
   Has-items_with (x ∷ xs) key u = by (Has-items_with xs key u) (eqb x.key key) refl
     where
       cons : Has (x ∷ xs) (record { key = key; item = u }) ↔ ((record { key = key; item = u } ≡ x) ⊎ Has xs (record { key = key; item = u }))
-      cons = has_cons x (record { key = key; item = u }) xs
+      cons = Has-cons x (record { key = key; item = u }) xs
 
       by : (Has (items_with eqb xs key) u ↔ Has xs (record { key = key; item = u })) → (b : Bool) → eqb x.key key ≡ b
           → Has (items_with eqb (x ∷ xs) key) u ↔ Has (x ∷ xs) (record { key = key; item = u })
       by rest true e =
-          let one = has_cons x.item u (items_with eqb xs key) in
+          let one = Has-cons x.item u (items_with eqb xs key) in
           let same : x.key ≡ key = eqb-true x.key key e in
           let is : items_with eqb (x ∷ xs) key ≡ x.item ∷ items_with eqb xs key = ap (λ t. kept_if t x.item (items_with eqb xs key)) e in (
             (λ has. cons.1 (elim (one.0 (subst (λ ys. Has ys u) is has)) [

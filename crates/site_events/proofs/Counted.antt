@@ -4,7 +4,8 @@ use Rattle.std.proofs.lemmas.Bool.{cases_lt}
 use Rattle.lists.proofs.Places.{slice_get-below}
 use Rattle.link_rules.specs.declared.code.Code.{Code}
 use Rattle.link_rules.specs.Linked.{LinkedMethod, LinkedProgram}
-use Rattle.link_indexes.proofs.Filed.{AreExactly-push, AreExactly-same}
+use Rattle.lists.proofs.Exactly.{AreExactly-push, AreExactly-same}
+use Rattle.call_side.proofs.Counted.{next_before, place_is}
 use Rattle.link_sites.specs.declared.place.Place.{Place}
 use Rattle.link_sites.specs.Places.{CodeAt, ComesBefore, HasCode, before}
 use Rattle.track_rules.specs.Protocols.{ProtocolParts}
@@ -13,13 +14,6 @@ use Rattle.track_systems.specs.Events.{receiver_of}
 use Rattle.site_events.specs.declared.event_statement.EventStatement.{EventStatement}
 use Rattle.site_events.specs.declared.statements.Act.{Act}
 use Rattle.site_events.specs.EventStatements.{AreEventStatements, AreStatementsUpTo, IsAct, IsEventStatement, IsTheAct}
-
--- a place by its parts
-place_is : (x : Place) (method index : ℕ) → x.raised ≡ false → x.method ≡ method → x.index ≡ index → x ≡ before method index
-place_is x method index raised m i =
-    subst (λ (n : ℕ). x ≡ record { method = n; index = index; raised = false }) m
-    (subst (λ (k : ℕ). x ≡ record { method = x.method; index = k; raised = false }) i
-    (subst (λ (b : Bool). x ≡ record { method = x.method; index = x.index; raised = b }) raised refl))
 
 -- a statement by its parts
 statement_is : (x : EventStatement) (place : Place) (event receiver : ℕ) → x.place ≡ place → x.event ≡ event → x.receiver ≡ receiver
@@ -30,22 +24,6 @@ statement_is x place event receiver a b c =
     (subst (λ (r : ℕ). x ≡ record { place = x.place; event = x.event; receiver = r }) c refl))
 
 module _ (p : LinkedProgram) (k : ProtocolParts) (method index : ℕ) where
-  -- what comes before the next statement
-  next_before : (y : Place) → ComesBefore y (before method (index + 1)) ↔ (ComesBefore y (before method index) ⊎ ((y.method ≡ method) × (y.index ≡ index)))
-  next_before y = (
-    (λ h. elim h [
-      | inl a ↦ inl (inl a)
-      | inr b ↦ elim (cases_lt y.index index) [
-        | inl less ↦ inl (inr (b.0, less))
-        | inr more ↦ inr (b.0, let lt : y.index < index + 1 = b.1 in omega arith)
-      ]
-    ]),
-    (λ h. elim h [
-      | inl a ↦ elim a [ inl b ↦ inl b | inr b ↦ inr (b.0, let lt : y.index < index = b.1 in omega arith) ]
-      | inr b ↦ inr (b.0, let e : y.index ≡ index = b.1 in omega arith)
-    ]),
-  )
-
   -- the code at a place is one
   one_code : (c d : Code) → CodeAt p method index c → CodeAt p method index d → d ≡ c
   one_code c d here at =
@@ -81,11 +59,11 @@ module _ (p : LinkedProgram) (k : ProtocolParts) (method index : ℕ) where
   pub statements_more : (c : Code) (act : Act) (list : List EventStatement) → CodeAt p method index c → IsTheAct p k c act → AreStatementsUpTo p k method index list
       → AreStatementsUpTo p k method (index + 1) (list ++ record { place = before method index; event = act.event; receiver = act.receiver } ∷ [])
   statements_more c act list here the exact = AreExactly-push list new exact (λ y h. h.1) (λ y. (
-    (λ h. elim ((next_before y.place).0 h.1) [ inl a ↦ inl (h.0, a) | inr b ↦ inr (one y h.0 b.0 b.1) ]),
+    (λ h. elim ((next_before p method index y.place).0 h.1) [ inl a ↦ inl (h.0, a) | inr b ↦ inr (one y h.0 b.0 b.1) ]),
     (λ h. elim h [
-      | inl a ↦ (a.0, (next_before y.place).1 (inl a.1))
+      | inl a ↦ (a.0, (next_before p method index y.place).1 (inl a.1))
       | inr e ↦ subst (λ (x : EventStatement). IsEventStatement p k x × ComesBefore x.place (before method (index + 1))) (sym e)
-          (acted c act.event act.receiver here the.is, (next_before (before method index)).1 (inr (refl, refl)))
+          (acted c act.event act.receiver here the.is, (next_before p method index (before method index)).1 (inr (refl, refl)))
     ]),
   ))
     where
@@ -100,8 +78,8 @@ module _ (p : LinkedProgram) (k : ProtocolParts) (method index : ℕ) where
   pub statements_skip : (c : Code) (list : List EventStatement) → CodeAt p method index c → ((event : ℕ) → IsEventCall p k event c → ⊥)
       → AreStatementsUpTo p k method index list → AreStatementsUpTo p k method (index + 1) list
   statements_skip c list here none exact = AreExactly-same list exact (λ y. (
-    (λ h. elim ((next_before y.place).0 h.1) [ inl a ↦ (h.0, a) | inr b ↦ absurd (none y.event (acts c y here h.0 b.0 b.1).0) ]),
-    (λ h. (h.0, (next_before y.place).1 (inl h.1))),
+    (λ h. elim ((next_before p method index y.place).0 h.1) [ inl a ↦ (h.0, a) | inr b ↦ absurd (none y.event (acts c y here h.0 b.0 b.1).0) ]),
+    (λ h. (h.0, (next_before p method index y.place).1 (inl h.1))),
   ))
 
   -- the end of a method

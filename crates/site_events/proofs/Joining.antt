@@ -4,6 +4,7 @@ use Rattle.std.proofs.lemmas.Bool.{cases_order}
 use Rattle.std.proofs.lemmas.Option.{same_Some}
 use Rattle.lists.specs.Lists.{Has}
 use Rattle.lists.proofs.Places.{slice_get-below}
+use Rattle.spds_nodes.proofs.ComingBack.{is_local_arg}
 use Rattle.jim_ast.specs.declared.syntax.Mode.{Mode}
 use Rattle.link_rules.specs.declared.code.Arg.{Arg}
 use Rattle.link_rules.specs.declared.code.Arg.TheVariants as arg
@@ -37,14 +38,6 @@ module _ (p : LinkedProgram) (targets : List ℕ) where
   at_joined A B Settled Settled a b = ((a.0.0, inl a.0.1), λ v e. elim e [ inl h ↦ a.1 v h | inr h ↦ b.1 v h ])
   at_joined A B Settled Unsettled a b = (b.0, inr b.1, b.2)
   at_joined A B Unsettled y a b = (a.0, inl a.1, a.2)
-
--- the operand is the local
-arg_local : (a : Arg) (x : ℕ) → arg_var a ≡ Some (Local x) → a ≡ arg.Local x
-arg_local (arg.Local y) x is = let same : Local y ≡ Local x = same_Some (Local y) (Local x) is in let e : y ≡ x = cc (same) in ap arg.Local e
-arg_local arg.Number x is = absurd (cc (is))
-arg_local arg.Null x is = absurd (cc (is))
-arg_local (arg.Text i) x is = absurd (cc (is))
-arg_local (arg.Class i) x is = absurd (cc (is))
 
 module _ (receiver : Option ℕ) (args : List Arg) (x : ℕ) where
   -- the local is the receiver
@@ -102,7 +95,7 @@ module _ (receiver : Option ℕ) (args : List Arg) (x : ℕ) where
   passes_up_to : (v : Var) → Passes receiver args (Local x) v → IsPassedUpTo (length args) v
   passes_up_to This h = let locals = h.2 in let same : h.0 ≡ x = cc (locals) in inl (h.1 ∙ ap Some same, refl)
   passes_up_to (Param number) h =
-      let there : slice_get args number ≡ Some (arg.Local x) = h.1 ∙ ap Some (arg_local h.0 x h.2) in
+      let there : slice_get args number ≡ Some (arg.Local x) = h.1 ∙ ap Some (is_local_arg h.0 x h.2) in
       inr (number, slice_get-below args number (arg.Local x) there, there, refl)
   passes_up_to _ h = absurd h
 

@@ -1,7 +1,7 @@
 -- Where the events lead that some methods may enter, event by event.
 use Rattle.std.proofs.Common.{◌≡◌, ◌<◌, ◌↔◌, ◌⊎◌, ℕ, List, [], ◌∷◌, ◌++◌, inl, inr, refl, sym, subst}
 use Rattle.lists.specs.Lists.{Has}
-use Rattle.link_indexes.proofs.Grown.{Has-push}
+use Rattle.lists.proofs.Places.{Has-push}
 use Rattle.link_rules.specs.Linked.{LinkedProgram}
 use Rattle.link_rules.specs.WellLinked.{HasTarget}
 use Rattle.link_sites.specs.declared.place.Place.{Place}

@@ -3,9 +3,8 @@ use Rattle.std.proofs.Common.{◌≡◌, ℕ, zero, suc, ◌+◌, ◌<◌, ◌�
 use Rattle.std.proofs.lemmas.Bool.{cases_eq, cases_lt}
 use Rattle.class_tree.specs.Rows.{Sub}
 use Rattle.lists.specs.Lists.{Has}
-use Rattle.lists.proofs.Places.{slice_get-below, slice_get-set_other, slice_get-set_same}
+use Rattle.lists.proofs.Places.{slice_get-below, slice_get-set_other, slice_get-set_same, Has-push}
 use Rattle.link_rules.specs.Linked.{LinkedProgram}
-use Rattle.link_indexes.proofs.Grown.{Has-push}
 use Rattle.track_runs.specs.Events.{HasBelow}
 use Rattle.site_events.specs.EventStatements.{AreBelow, IsBelow}
 

@@ -1,11 +1,11 @@
 -- The event statements by event.
 use Rattle.std.proofs.Common.{◌≡◌, ℕ, ◌↔◌, Bool, false, List, [], ◌∷◌, ◌++◌, Some, eqb, length, map, slice_get, inl, inr, refl, sym, ap, subst, ◌∙◌}
 use Rattle.lists.specs.Lists.{Has}
-use Rattle.lists.proofs.Places.{slice_get-pushed}
-use Rattle.link_indexes.proofs.Grown.{Has-push}
-use Rattle.link_program.proofs.Found.{at_map, from_map}
+use Rattle.lists.proofs.Places.{slice_get-pushed, Has-push}
+use Rattle.link_program.proofs.Found.{at_map}
 use Rattle.lists.specs.declared.groups.Keyed.{Keyed}
 use Rattle.lists.specs.Groups.{items_with}
+use Rattle.lists.proofs.Joined.{slice_get-mapped}
 use Rattle.link_rules.specs.Linked.{LinkedProgram}
 use Rattle.link_sites.specs.declared.place.Place.{Place}
 use Rattle.link_sites.specs.declared.site.Site.{Site}
@@ -80,7 +80,7 @@ module _ (p : LinkedProgram) (k : ProtocolParts) (q : Asked) (a : Site) (stateme
   -- a statement at one of the places may be its event
   at_may : (i : ℕ) → Has places i → slice_get (map use_of statements) i ≡ Some (record { key = event; item = s }) → MayBe p k q a event s
   at_may i has there =
-      let x = from_map use_of statements i (record { key = event; item = s }) there in
+      let x = slice_get-mapped use_of statements i (record { key = event; item = s }) there in
       let y = (held i).0 has in
       let first = x.1 in
       let second = y.1 in

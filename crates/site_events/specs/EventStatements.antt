@@ -1,14 +1,13 @@
 -- The event statements of a program, and the list of them.
 use Rattle.std.specs.Prelude.{◌≡◌, ◌↔◌, ℕ, Bool, List, Option, Some, AllPairs, IsTrue, length, slice_get}
 use Rattle.class_tree.specs.Rows.{Sub}
-use Rattle.lists.specs.Lists.{Has}
+use Rattle.lists.specs.Lists.{Has, AreExactly}
 use Rattle.jim_ast.specs.declared.syntax.Mode.{Mode}
 use Rattle.link_rules.specs.declared.code.Arg.{Arg}
 use Rattle.link_rules.specs.declared.code.Code.{Code}
 use Rattle.link_rules.specs.declared.code.Code.TheVariants.{Call}
 use Rattle.link_rules.specs.Linked.{LinkedProgram}
 use Rattle.link_rules.specs.WellLinked.{IsInstantiableIn}
-use Rattle.link_indexes.specs.Rows.{AreExactly}
 use Rattle.link_sites.specs.Places.{ComesBefore, before}
 use Rattle.spds_rules.specs.declared.node.Node.{Node}
 use Rattle.spds_rules.specs.declared.node.Var.TheVariants.{Local}

@@ -29,12 +29,7 @@ use Rattle.spds_nodes.proofs.Ends.{edge}
 use Rattle.spds_nodes.proofs.Joined.{AreAll-added, AreAll-same, IsAdded-none, IsAdded-same, IsAdded-then}
 use Rattle.spds_nodes.proofs.Sources.{code_in, in_code, one_numbered}
 use Rattle.spds_nodes.proofs.Statements.{CodeAt-one}
-
--- what a call passes, it passes at a position
-pub passed_at_position : (receiver : Option ℕ) (args : List Arg) (v w : Var) → Passes receiver args v w → IsPosition w
-passed_at_position receiver args v This h = tt
-passed_at_position receiver args v (Param number) h = tt
-passed_at_position receiver args v _ h = h
+use Rattle.spds_rules.proofs.Passing.{passed_at_position}
 
 pub PassesBack-position : (c : Code) (raised : Bool) (x : ℕ) (v : Var) → PassesBack c raised x v → IsPosition v
 PassesBack-position (code.Call to mode class key receiver args targets) raised x v h = passed_at_position receiver args (Local x) v h.1
@@ -250,7 +245,7 @@ one_param args x a b v first second = let same : Param a ≡ Param b = sym first
 receiver_no_param : (receiver : Option ℕ) (args : List Arg) (x : ℕ) (v : Var) → IsReceiver receiver x v → IsParam args x v → ⊥
 receiver_no_param receiver args x v this param = let same : This ≡ Param param.0 = sym this.1 ∙ param.1.1 in cc (same)
 
-is_local_arg : (a : Arg) (x : ℕ) → arg_var a ≡ Some (Local x) → a ≡ arg.Local x
+pub is_local_arg : (a : Arg) (x : ℕ) → arg_var a ≡ Some (Local x) → a ≡ arg.Local x
 is_local_arg (arg.Local y) x h = let same : y ≡ x = cc (h) in ap arg.Local same
 is_local_arg arg.Number x h = absurd (cc (h))
 is_local_arg arg.Null x h = absurd (cc (h))

@@ -5,6 +5,7 @@ use Rattle.std.proofs.lemmas.List.Quantifiers.{all_pairs_push}
 use Rattle.std.proofs.lemmas.Option.{get_or_from_slice_get, same_Some, slice_get-get_or}
 use Rattle.lists.specs.Lists.{Has}
 use Rattle.lists.proofs.Places.{slice_get-below}
+use Rattle.lists.proofs.Joined.{slice_get-appended}
 use Rattle.link_rules.specs.declared.code.Arg.{Arg}
 use Rattle.link_rules.specs.declared.code.Code.{Code}
 use Rattle.link_rules.specs.declared.code.Code.TheVariants as code
@@ -23,7 +24,7 @@ use Rattle.spds_rules.specs.Nodes.{arg_var, at}
 use Rattle.spds_rules.specs.Stores.{StoresInto, level_var}
 use Rattle.spds_nodes.specs.Added.{IsAdded, Over}
 use Rattle.spds_nodes.specs.Stored.{IsFiled, IsInnerStore, IsLevelStore, IsLocalStore, IsStoreAt, IsStoreOf, IsStoredBy, StorePrecedes, store_at}
-use Rattle.spds_nodes.proofs.Joined.{IsAdded-none, IsAdded-one, IsAdded-same, slice_get-appended, slice_get-taken}
+use Rattle.spds_nodes.proofs.Joined.{IsAdded-none, IsAdded-one, IsAdded-same, slice_get-taken}
 use Rattle.spds_nodes.proofs.Numbered.{Below-next}
 use Rattle.spds_nodes.proofs.Parts.{HasCode-some}
 use Rattle.spds_nodes.proofs.Sources.{HasCode-weaker, code_in}

@@ -3,7 +3,7 @@ use Rattle.std.proofs.Common.{◌≡◌, ℕ, zero, suc, ◌+◌, ◌≤◌, Lis
 use Rattle.std.specs.List.{cons_option}
 use Rattle.std.proofs.lemmas.List.{take_all}
 use Rattle.std.proofs.lemmas.List.Elements.{filter_map-append}
-use Rattle.link_indexes.proofs.Grown.{take-next}
+use Rattle.lists.proofs.Places.{take-next}
 use Rattle.spds_rules.specs.Formals.{only}
 
 module _ {X Y : Type 0} (f : X → Option Y) where

@@ -5,21 +5,11 @@ use Rattle.std.proofs.lemmas.Bool.{cases_order}
 use Rattle.std.proofs.lemmas.Option.{get_or_from_slice_get, same_Some}
 use Rattle.std.specs.List.{AllPairs, Contains}
 use Rattle.lists.specs.Lists.{Has, IsApart, AreAll}
-use Rattle.lists.proofs.Places.{slice_get-append_left, slice_get-below}
-use Rattle.link_indexes.proofs.Grown.{Has-push, slice_get-read, take-next}
+use Rattle.lists.proofs.Places.{slice_get-append_left, slice_get-below, Has-push, slice_get-read, take-next}
+use Rattle.lists.proofs.Joined.{slice_get-append_right, slice_get-appended}
 use Rattle.spds_nodes.specs.Added.{IsAdded, Over}
 
 module _ {X : Type 0} where
-  -- the elements of two lists, one behind the other
-  pub slice_get-appended : (xs ys : List X) (i : ℕ) (x : X) → slice_get (xs ++ ys) i ≡ Some x → (slice_get xs i ≡ Some x) ⊎ ((j : ℕ) × (i ≡ length xs + j) × (slice_get ys j ≡ Some x))
-  slice_get-appended [] ys i x there = inr (i, omega arith, there)
-  slice_get-appended (y ∷ xs) ys zero x there = inl there
-  slice_get-appended (y ∷ xs) ys (suc i) x there = elim (slice_get-appended xs ys i x there) [ inl a ↦ inl a | inr b ↦ inr (b.0, omega (arith, b.1), b.2) ]
-
-  slice_get-append_right : (xs ys : List X) (j : ℕ) (x : X) → slice_get ys j ≡ Some x → slice_get (xs ++ ys) (length xs + j) ≡ Some x
-  slice_get-append_right [] ys j x there = let same : 0 + j ≡ j = omega arith in rw same there
-  slice_get-append_right (y ∷ xs) ys j x there = let same : suc (length xs) + j ≡ suc (length xs + j) = omega arith in rw same (slice_get-append_right xs ys j x there)
-
   -- the list of no element
   pub AreAll-none : (P : X → Type 0) → ((x : X) → P x → ⊥) → AreAll P []
   AreAll-none P none = record {
@@ -46,7 +36,7 @@ module _ {X : Type 0} where
     each = λ x has. elim (slice_get-appended xs ys has.0 x has.1) [ inl a ↦ inl (ps.each x (has.0, a)) | inr b ↦ inr (qs.each x (b.0, b.2)) ];
     all = λ x either. elim either [
       | inl p ↦ let there = ps.all x p in (there.0, slice_get-append_left xs ys there.0 x there.1)
-      | inr q ↦ let there = qs.all x q in (length xs + there.0, slice_get-append_right xs ys there.0 x there.1)
+      | inr q ↦ let there = qs.all x q in (length xs + there.0, slice_get-append_right xs ys there.0 ∙ there.1)
     ];
     apart = λ i j x a b. elim (slice_get-appended xs ys i x a) [
       | inl p ↦ elim (slice_get-appended xs ys j x b) [

@@ -2,7 +2,6 @@ pub mod Apart
 pub mod ComingBack
 pub mod Brought
 pub mod Complete
-mod Declared
 pub mod Ends
 pub mod Filed
 pub mod Flights

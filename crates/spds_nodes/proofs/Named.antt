@@ -3,13 +3,14 @@ use Rattle.std.proofs.Common.{◌≡◌, ℕ, suc, ◌<◌, List, Some, All, len
 use Rattle.std.proofs.lemmas.Option.{get_or_from_slice_get}
 use Rattle.lists.specs.Lists.{Has}
 use Rattle.lists.proofs.Places.{slice_get-below}
+use Rattle.lists.proofs.Joined.{slice_get-mapped}
 use Rattle.link_rules.specs.declared.code.Code.{Code}
 use Rattle.link_rules.specs.declared.code.Code.TheVariants as code
 use Rattle.link_rules.specs.Linked.{LinkedClass, LinkedProgram}
 use Rattle.link_rules.specs.Targets.{exception_names, nine_names}
 use Rattle.link_rules.specs.WellLinked.{FitsCode, FitsMethod, HasClass, IsInForm}
 use Rattle.link_rules.specs.Accessed.{linked_class_names}
-use Rattle.link_program.proofs.Found.{at_map, from_map}
+use Rattle.link_program.proofs.Found.{at_map}
 use Rattle.link_sites.specs.declared.site.Site.{Site}
 use Rattle.link_sites.specs.declared.site.Site.TheVariants as site
 use Rattle.link_sites.specs.Places.{CodeAt}
@@ -22,7 +23,7 @@ All-at P xs i x there all = subst P (get_or_from_slice_get xs i x x there) (all 
 -- a class that is named is there
 pub IsNamedClass-below : (p : LinkedProgram) (name : List ℕ) (class : ℕ) → IsNamedClass p name class → class < length p.classes
 IsNamedClass-below p name class is =
-    let there = from_map (λ (c : LinkedClass). c.name) p.classes class name is.holds in
+    let there = slice_get-mapped (λ (c : LinkedClass). c.name) p.classes class name is.holds in
     slice_get-below p.classes class there.0 there.1
 
 -- each of the nine names is that of a class

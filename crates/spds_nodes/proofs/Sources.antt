@@ -2,6 +2,7 @@
 use Rattle.std.proofs.Common.{◌≡◌, ℕ, ◌+◌, Some, None, true, false, slice_get, refl, sym, subst, ◌∙◌}
 use Rattle.std.proofs.lemmas.Option.{same_Some}
 use Rattle.lists.specs.Lists.{Has}
+use Rattle.lists.proofs.Joined.{slice_get-mapped}
 use Rattle.link_rules.specs.declared.code.Arg.{Arg}
 use Rattle.link_rules.specs.declared.code.Arg.TheVariants as arg
 use Rattle.link_rules.specs.declared.code.Code.{Code}
@@ -12,7 +13,7 @@ use Rattle.link_rules.specs.WellLinked.{FitsArg, FitsCode, HasTarget, IsLocalOf}
 use Rattle.link_indexes.specs.Facts.{Calls, StoresStatic as StoresInto}
 use Rattle.link_indexes.specs.Tables.{IsInMethod}
 use Rattle.link_rules.specs.Accessed.{codes_in}
-use Rattle.link_program.proofs.Found.{at_map, from_map}
+use Rattle.link_program.proofs.Found.{at_map}
 use Rattle.link_sites.specs.Places.{CodeAt, HasCode}
 use Rattle.spds_rules.specs.declared.node.Var.{Var}
 use Rattle.spds_rules.specs.declared.node.Var.TheVariants.{Local, This, Param, Caught, Thrown, Made, Nested, Raised, Text, Class}
@@ -26,7 +27,7 @@ module _ (p : LinkedProgram) (Fact : Code → Type 0) (number index : ℕ) where
   -- a statement that an index lists is one of the program
   pub in_code : IsInMethod Fact (codes_in p) number index → HasCode p number index Fact
   in_code there =
-      let method = from_map (λ (m : LinkedMethod). m.code) p.methods number there.0 there.1 in
+      let method = slice_get-mapped (λ (m : LinkedMethod). m.code) p.methods number there.0 there.1 in
       record {
         code = there.2.0;
         at = record { method = method.0; there = method.1; here = subst (λ c. slice_get c index ≡ Some there.2.0) (sym method.2) there.2.1 };

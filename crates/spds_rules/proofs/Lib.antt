@@ -1,2 +1,3 @@
 pub mod Formals
 pub mod Keys
+pub mod Passing

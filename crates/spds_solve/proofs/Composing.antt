@@ -4,8 +4,7 @@ use Rattle.std.proofs.lemmas.Bool.{cases_eq, cases_order}
 use Rattle.std.proofs.lemmas.List.{append-nil}
 use Rattle.class_tree.proofs.Listed.{slice_get-append_below}
 use Rattle.lists.specs.Lists.{Has}
-use Rattle.lists.proofs.Places.{slice_get-append_left, slice_get-below, slice_get-pushed}
-use Rattle.link_indexes.proofs.Grown.{Has-push}
+use Rattle.lists.proofs.Places.{slice_get-append_left, slice_get-below, slice_get-pushed, Has-push}
 use Rattle.link_sites.specs.declared.place.Place.{Place}
 use Rattle.post_star.specs.declared.key.Key.{Key}
 use Rattle.post_star.specs.declared.key.Key.TheVariants.{Node}

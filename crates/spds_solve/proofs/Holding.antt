@@ -3,7 +3,7 @@ use Rattle.std.proofs.Common.{◌≡◌, ◌↔◌, ◌⊎◌, ℕ, zero, suc, �
 use Rattle.std.proofs.lemmas.Bool.{eqb-false, eqb-true}
 use Rattle.demand_set.specs.Demands.{DemandParts}
 use Rattle.lists.specs.Lists.{Has, Adds}
-use Rattle.link_indexes.proofs.Grown.{Has-push, take-next}
+use Rattle.lists.proofs.Places.{Has-push, take-next}
 use Rattle.lists.specs.declared.groups.Keyed.{Keyed}
 use Rattle.lists.specs.Filings.{kept_if}
 use Rattle.lists.specs.Groups.{items_with}

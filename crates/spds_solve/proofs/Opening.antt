@@ -12,7 +12,6 @@ use Rattle.spds_solve.specs.Mets.{numbers, numbers_of}
 use Rattle.spds_solve.specs.Searches.{AllSettled, AreFoundBy, IsFound}
 use Rattle.std.proofs.lemmas.List.{map-append}
 use Rattle.spds_tables.proofs.Built.{opens_more}
-use Rattle.spds_tables.proofs.Lists.{Has-left, Has-right}
 use Rattle.spds_tables.proofs.Questions.{has_one}
 use Rattle.spds_tables.specs.declared.numbered.Met.{Met}
 use Rattle.spds_tables.specs.declared.numbered.StartAt.{StartAt}
@@ -21,6 +20,7 @@ use Rattle.spds_tables.specs.declared.tables.SiteTables.{SiteTables}
 use Rattle.spds_tables.specs.Parts.{starts_at, store_at}
 use Rattle.spds_tables.specs.Tables.{AreOpenFor, ArrivesAt, IsCallJob, Opens}
 use Rattle.weight_laws.specs.declared.reach.Reach.{Reach}
+use Rattle.lists.proofs.Joined.{Has-left, Has-right}
 
 -- a list has a front, an element and a rest
 abbrev pub IsCut : List Met → List Met → Met → List Met → Type 0

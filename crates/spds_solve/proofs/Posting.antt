@@ -1,7 +1,8 @@
 -- Posts, and what they are found by.
 use Rattle.std.proofs.Common.{◌≡◌, ℕ, ◌↔◌, ◌⊎◌, ◌++◌, List, [], ◌∷◌, refl, sym, ap, ◌∙◌, subst, inl, inr}
 use Rattle.lists.specs.Lists.{Has, Adds}
-use Rattle.link_indexes.proofs.Grown.{Has-push}
+use Rattle.lists.proofs.Places.{Has-push}
+use Rattle.lists.proofs.Joined.{Has-adds}
 use Rattle.post_star.specs.declared.key.Key.{Key}
 use Rattle.post_star.specs.declared.key.Key.TheVariants.{Node}
 use Rattle.post_star.specs.Groups.{Groups, found_at, IsAdded}
@@ -79,19 +80,9 @@ module _ (old new : Posts) (post : Post) (put : new.posts.keys ≡ old.posts.key
         );
   }
 
--- the elements of a list where one was put in, or was there
-pub adds_has : {X : Type 0} (old new : List X) (x : X) → Adds old x new → (y : X) → Has new y ↔ (Has old y ⊎ (y ≡ x))
-adds_has {X} old new x adds y = elim adds [
-  | inl there ↦ (
-    (λ has. inl (subst (λ (xs : List X). Has xs y) there.1 has)),
-    (λ either. subst (λ (xs : List X). Has xs y) (sym there.1) (elim either [ inl before ↦ before | inr e ↦ subst (Has old) (sym e) there.0 ])),
-  )
-  | inr put ↦ subst (λ (xs : List X). Has xs y ↔ (Has old y ⊎ (y ≡ x))) (sym put.1) (Has-push old x y)
-]
-
 -- what is known where a post was put in, or was there
 pub known_adds : (old new : Posts) (post : Post) → Adds old.posts.keys post new.posts.keys → (p : Post) → Knows new p ↔ (Knows old p ⊎ (p ≡ post))
-known_adds old new post adds p = adds_has old.posts.keys new.posts.keys post adds p
+known_adds old new post adds p = Has-adds old.posts.keys new.posts.keys post adds p
 
 -- posts stay found where none came
 pub posted_same : (old new : Posts) → new.posts.keys ≡ old.posts.keys → new.by_head ≡ old.by_head → new.by_store ≡ old.by_store → IsPosted old → IsPosted new

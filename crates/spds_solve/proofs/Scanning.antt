@@ -10,12 +10,12 @@ use Rattle.spds_solve.specs.declared.met.Met.{Met}
 use Rattle.spds_solve.specs.Mets.{numbers, numbers_of}
 use Rattle.spds_solve.specs.Searches.{HaveShared, IsBaseOf, IsFound, IsGrown}
 use Rattle.spds_solve.proofs.Numbering.{has_numbers, numbered_within}
-use Rattle.spds_tables.proofs.Lists.{Has-append, Has-left, Has-right}
 use Rattle.spds_tables.specs.declared.numbered.Met.{Met as Numbers}
 use Rattle.spds_tables.specs.declared.parts.Parts.{Parts}
 use Rattle.spds_tables.specs.declared.tables.SiteTables.{SiteTables}
 use Rattle.spds_tables.specs.Parts.{store_at}
 use Rattle.spds_tables.specs.Systems.{Reaches}
+use Rattle.lists.proofs.Joined.{Has-either, Has-left, Has-right}
 
 -- numbers that are the same
 pub is_met : (x y : Numbers) → x.object ≡ y.object → x.base ≡ y.base → x.store ≡ y.store → x ≡ y
@@ -39,7 +39,7 @@ module _ (p : LinkedProgram) (sites : List Site) (parts : Parts) (tables : List 
   grown_more first mid last a b = record {
     behind = a.behind ++ b.behind;
     are = b.are ∙ ap (λ (xs : List Met). xs ++ b.behind) a.are ∙ append_assoc first a.behind b.behind;
-    each = λ met has. elim (Has-append a.behind b.behind met has) [ inl x ↦ a.each met x | inr y ↦ b.each met y ];
+    each = λ met has. elim (Has-either a.behind b.behind met has) [ inl x ↦ a.each met x | inr y ↦ b.each met y ];
   }
 
   -- what was there is there

@@ -2,12 +2,10 @@
 use Rattle.std.proofs.Common.{◌≡◌, ◌⊎◌, ℕ, ◌+◌, ◌<◌, ◌^◌, ◌++◌, Bool, true, false, List, [], ◌∷◌, length, Some, slice_get, slice_set, refl, sym, ap, ◌∙◌, subst, inl, inr, arith}
 use Rattle.std.proofs.lemmas.Bool.{cases_eq}
 use Rattle.std.proofs.lemmas.List.{length-set}
-use Rattle.lists.proofs.Places.{slice_get-below, slice_get-set_other, slice_get-set_same, slice_get-there}
-use Rattle.link_indexes.proofs.Grown.{Has-push}
+use Rattle.lists.proofs.Places.{slice_get-below, slice_get-set_other, slice_get-set_same, slice_get-there, Has-push}
 use Rattle.piece_join.specs.Brought.{AllAt}
 use Rattle.piece_join.proofs.Joined.{became}
 use Rattle.post_star.specs.Jobs.{Job}
-use Rattle.spds_tables.proofs.Lists.{Has-left}
 use Rattle.spds_solve.specs.declared.refresh.Tables.{Tables}
 use Rattle.spds_solve.specs.Searches.{AllSettled, AreCompleted, AreStill, AreTaken, IsCompleted, IsStill, MayComplete, MayCompleteAll}
 use Rattle.spds_tables.proofs.Built.{met_passed, within_more}
@@ -18,6 +16,7 @@ use Rattle.spds_tables.specs.declared.tables.SiteTables.{SiteTables}
 use Rattle.spds_tables.specs.Parts.{AreLedIn}
 use Rattle.spds_tables.specs.Tables.{AreBuilt, AreSettled, IsAskedOf}
 use Rattle.weight_laws.specs.declared.reach.Reach.{Reach}
+use Rattle.lists.proofs.Joined.{Has-left}
 
 module _ (parts : Parts) (site : ℕ) (mets : List Met) (m : Met) (other : m.object ≡ site → ⊥) where
   -- the systems of a site are the same where a meet of another object comes

@@ -14,11 +14,12 @@ use Rattle.spds_solve.specs.Mets.{numbers, numbers_of}
 use Rattle.spds_solve.specs.Searches.{AllSettled, AreFoundBy, IsCandidate, IsComplete, IsGrown}
 use Rattle.spds_solve.proofs.Numbering.{has_numbers, numbered}
 use Rattle.spds_solve.proofs.Whole.{found_inside}
-use Rattle.spds_tables.proofs.Lists.{Has-append, Has-flat_map}
+use Rattle.spds_tables.proofs.Lists.{Has-flat_map}
 use Rattle.spds_tables.specs.declared.numbered.Met.{Met as Numbers}
 use Rattle.spds_tables.specs.declared.parts.Parts.{Parts}
 use Rattle.spds_tables.specs.declared.tables.SiteTables.{SiteTables}
 use Rattle.spds_tables.specs.Parts.{IsInParts}
+use Rattle.lists.proofs.Joined.{Has-either}
 
 module _ (p : LinkedProgram) (sites : List Site) (parts : Parts) (old new : List Met) (tables : List SiteTables) (settled : AllSettled parts (numbers_of old) tables)
     (grown : IsGrown p sites parts tables old new) where
@@ -26,7 +27,7 @@ module _ (p : LinkedProgram) (sites : List Site) (parts : Parts) (old new : List
   pub turn_inside : All (IsInParts parts) (numbers_of old) → All (IsInParts parts) (numbers_of new)
   turn_inside all = all_at (IsInParts parts) (numbers_of new) (λ i m there.
       let met = numbered new m (i, there) in
-      let inside : IsInParts parts (numbers met.0) = elim (Has-append old grown.behind met.0 (subst (λ (xs : List Met). Has xs met.0) grown.are met.1)) [
+      let inside : IsInParts parts (numbers met.0) = elim (Has-either old grown.behind met.0 (subst (λ (xs : List Met). Has xs met.0) grown.are met.1)) [
         | inl a ↦ let has = has_numbers old met.0 a in at_all (IsInParts parts) (numbers_of old) has.0 (numbers met.0) all has.1
         | inr b ↦ found_inside p sites parts (numbers_of old) tables settled met.0 (grown.each met.0 b)
       ] in

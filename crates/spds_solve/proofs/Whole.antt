@@ -5,9 +5,9 @@ use Rattle.call_side.specs.Bases.{AreMarks}
 use Rattle.demand_set.specs.Demands.{DemandParts, IsDemandOf}
 use Rattle.demand_set.proofs.Appended.{Has-take}
 use Rattle.lists.specs.Lists.{Has, IsApart}
-use Rattle.lists.proofs.Places.{slice_get-below, slice_get-pushed, slice_get-there}
-use Rattle.link_indexes.proofs.Grown.{Has-push}
-use Rattle.link_laws.proofs.Lists.{all_at, at_all, map_at, slice_get-appended}
+use Rattle.lists.proofs.Places.{slice_get-below, slice_get-pushed, slice_get-there, Has-push}
+use Rattle.lists.proofs.Joined.{Has-either, slice_get-appended}
+use Rattle.link_laws.proofs.Lists.{all_at, at_all, map_at}
 use Rattle.link_rules.specs.Linked.{LinkedProgram}
 use Rattle.link_sites.specs.declared.place.Place.{Place}
 use Rattle.link_sites.specs.declared.site.Site.{Site}
@@ -31,7 +31,6 @@ use Rattle.spds_solve.specs.Solved.{AreMeets, IsListed, IsSolved, StandsForMeet}
 use Rattle.spds_solve.proofs.Numbering.{has_numbers, numbered}
 use Rattle.spds_solve.proofs.Resting.{AreStored, StoresOver, calls_spelt, front_kept, listed_within, old_front, stored_found, stores_within}
 use Rattle.spds_tables.proofs.Exact.{base_is, calls_arrive, fields_are, listed_met, met_listed, may_store_exact, object_is, store_is, strings_are, strings_marked, words_spelt}
-use Rattle.spds_tables.proofs.Lists.{Has-append}
 use Rattle.spds_tables.proofs.Made.{demand_names}
 use Rattle.spds_tables.specs.declared.numbered.Met.{Met as Numbers}
 use Rattle.spds_tables.specs.declared.parts.Parts.{Parts}
@@ -77,7 +76,7 @@ module _ (p : LinkedProgram) (sites : List Site) (parts : Parts) where
   pub found_range : {mets : List Met} → AreFoundBy p sites parts mets → (met : Met) → Has mets met → IsInParts parts (numbers met)
   found_range AreFoundBy.none met has = cc has.1
   found_range (AreFoundBy.more first tables found settled grown) met has =
-      elim (Has-append first grown.behind met (subst (λ (xs : List Met). Has xs met) grown.are has)) [
+      elim (Has-either first grown.behind met (subst (λ (xs : List Met). Has xs met) grown.are has)) [
         | inl a ↦ found_range found met a
         | inr b ↦ found_inside (numbers_of first) tables settled met (grown.each met b)
       ]

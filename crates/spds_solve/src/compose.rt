@@ -10,8 +10,7 @@ ghost use Rattle.spds_solve.specs.Mets.{numbers_of};
 use super::met::Met;
 use super::mets::Mets;
 use jim_ast::List;
-use lists::NoMemory;
-use post_star::by_key::ByKey;
+use lists::{ByKey, NoMemory};
 use post_star::copies::copied;
 use post_star::key::Key;
 use spds_tables::Met as Numbers;
@@ -21,9 +20,9 @@ use std::alloc::Global;
 #[derive(Drop)]
 pub struct Ways {
     /// The places of the meets, by their object.
-    pub by_object: ByKey<usize>,
+    pub by_object: ByKey<Key, usize>,
     /// The places of those that were found by looking, by their base.
-    pub by_base: ByKey<usize>,
+    pub by_base: ByKey<Key, usize>,
     /// How many were gone through.
     pub done: usize,
 }

@@ -6,8 +6,7 @@ ghost use Rattle.spds_solve.specs.declared.posts.Post.{Post as APost};
 ghost use Rattle.spds_solve.specs.Posts.{IsPosted, key_at, Knows, post_of};
 
 use super::heads::Head;
-use lists::{NoMemory, Numbered};
-use post_star::by_key::ByKey;
+use lists::{ByKey, NoMemory, Numbered};
 use post_star::key::Key;
 use std::alloc::Global;
 
@@ -53,9 +52,9 @@ fn key_of(store: u32, head: Head) -> Key
 pub struct Posts {
     posts: Numbered<Post>,
     /// The sites by store and head.
-    by_head: ByKey<u32>,
+    by_head: ByKey<Key, u32>,
     /// The sites by store, each once for each of its heads.
-    by_store: ByKey<u32>,
+    by_store: ByKey<Key, u32>,
 }
 
 impl Posts {

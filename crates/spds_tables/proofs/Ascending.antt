@@ -6,8 +6,9 @@ use Rattle.std.specs.Cmp.Lexicographic.{slice_cmp}
 use Rattle.std.specs.Ordering.{nat_cmp, ordering_reverse}
 use Rattle.std.specs.declared.cmp.Ordering.{Ordering}
 use Rattle.std.specs.declared.cmp.Ordering.TheVariants.{Less}
-use Rattle.call_side.proofs.Order.{ComesBefore-irreflexive, ordered_at}
+use Rattle.call_side.proofs.Order.{ComesBefore-irreflexive}
 use Rattle.lists.specs.Lists.{IsApart}
+use Rattle.lists.proofs.Joined.{AllPairs-at}
 use Rattle.link_rules.specs.Linked.{LinkedProgram}
 use Rattle.link_sites.specs.declared.site.Site.{Site}
 use Rattle.link_sites.specs.declared.site.Site.TheVariants.{New, Nested, Raised, Text, Class}
@@ -32,9 +33,9 @@ Precedes-irreflexive p (Class a) h = text_once p.class_texts a h
 pub ascending_apart : (p : LinkedProgram) (sites : List Site) → AllPairs (Precedes p) sites → IsApart sites
 ascending_apart p sites ordered i j x first second =
     elim (cases_lt i j) [
-      | inl less ↦ absurd (Precedes-irreflexive p x (ordered_at (Precedes p) sites i j x x ordered less first second))
+      | inl less ↦ absurd (Precedes-irreflexive p x (AllPairs-at (Precedes p) sites i j x x ordered less first second))
       | inr more ↦ elim (cases_lt j i) [
-        | inl less ↦ absurd (Precedes-irreflexive p x (ordered_at (Precedes p) sites j i x x ordered less second first))
+        | inl less ↦ absurd (Precedes-irreflexive p x (AllPairs-at (Precedes p) sites j i x x ordered less second first))
         | inr same ↦ omega arith
       ]
     ]

@@ -4,7 +4,7 @@ use Rattle.std.specs.List.{flat_map, list_any}
 use Rattle.std.proofs.lemmas.Bool.Decides.{eqb_tells}
 use Rattle.std.proofs.lemmas.List.{append-nil, flat_map_more, take_more}
 use Rattle.demand_set.proofs.Counts.{length-IsApart}
-use Rattle.link_indexes.proofs.Grown.{Has-push}
+use Rattle.lists.proofs.Places.{Has-push}
 use Rattle.link_laws.proofs.Lists.{map_at}
 use Rattle.spds_tables.specs.declared.numbered.Jump.{Jump}
 use Rattle.auto_table.specs.declared.rule.Rule.{Rule}
@@ -19,12 +19,12 @@ use Rattle.spds_tables.specs.declared.tables.SiteTables.{SiteTables}
 use Rattle.spds_tables.specs.Parts.{AreLedIn, call_start, candidates, field_start, pushes_for, pushes_of, pushes_over, start_rows, starts_at}
 use Rattle.spds_tables.specs.Tables.{AreAdded, AreBuilt, AreBuiltWithin, AreOpenFor, AreSettled, IsAskedOf, IsCallJob, IsFieldJob, IsStoredTo, Opens, settled_of, settled_tables}
 use Rattle.call_side.proofs.Lists.{has-read}
-use Rattle.spds_tables.proofs.Lists.{Has-left, Has-right}
 use Rattle.spds_tables.proofs.Questions.{has_one}
 use Rattle.lists.proofs.Keys.{Has-list_any}
 use Rattle.spds_tables.specs.contracts.numbered.StartAtPartialEq.TheImpl.{eq-value}
 use Rattle.spds_tables.proofs.SameStart.{same, self}
 use Rattle.weight_laws.specs.declared.reach.Reach.{Reach}
+use Rattle.lists.proofs.Joined.{Has-left, Has-right}
 
 -- no start
 abbrev pub blank_job : List (Rule Reach) → List BaseStep → ℕ → Job Reach

@@ -21,9 +21,9 @@ use Rattle.spds_tables.specs.declared.parts.Parts.{Parts}
 use Rattle.spds_tables.specs.Parts.{call_cell, call_start, field_cell, field_start, open_nodes, push_to, pushes_for, pushes_of, pushes_over, start_nodes, start_rows, starts_at, store_nodes_at}
 use Rattle.spds_tables.specs.Systems.{Reaches}
 use Rattle.spds_tables.specs.Tables.{IsCallJob, IsFieldJob}
-use Rattle.spds_tables.proofs.Lists.{Has-left, Has-right}
 use Rattle.weight_laws.specs.declared.reach.Reach.{Reach}
 use Rattle.weight_laws.specs.Reach.{reach_domain}
+use Rattle.lists.proofs.Joined.{Has-left, Has-right}
 
 -- what was mapped twice
 mapped : {X Y Z : Type 0} (f : Y → Z) (g : X → Y) (h : X → Z) → ((x : X) → f (g x) ≡ h x) → (xs : List X) → map f (map g xs) ≡ map h xs

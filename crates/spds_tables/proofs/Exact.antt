@@ -35,9 +35,10 @@ use Rattle.call_side.specs.Bases.{AreMarks}
 use Rattle.spds_tables.proofs.ByCells.{call_node, calls_by_cells, field_node, fields_by_cells, jump_open, node_calls, node_fields, node_pushes, node_pushes_for, node_pushes_of, push_node, start_open}
 use Rattle.spds_tables.proofs.CallSystems.{calls_exact, calls_some, derived_marks, given_marks}
 use Rattle.spds_tables.proofs.FieldSystems.{fields_exact}
-use Rattle.spds_tables.proofs.Lists.{Has-append, Has-flat_map, Has-left, Has-right}
+use Rattle.spds_tables.proofs.Lists.{Has-flat_map}
 use Rattle.weight_laws.specs.declared.reach.Reach.{Reach}
 use Rattle.weight_laws.specs.Reach.{reach_domain}
+use Rattle.lists.proofs.Joined.{Has-either, Has-left, Has-right}
 
 -- records with the same fields
 same_triple : (x y : Triple) → x.object ≡ y.object → x.base ≡ y.base → x.store ≡ y.store → x ≡ y
@@ -163,7 +164,7 @@ module _ (p : LinkedProgram) (q : Asked) (names : Names) (are : AreNames p q nam
     steps = refl;
     last = refl;
     rules = λ r. (
-      (λ has. elim (Has-append of.field_nodes (node_pushes parts site mets) r has) [
+      (λ has. elim (Has-either of.field_nodes (node_pushes parts site mets) r has) [
         | inl a ↦ edge_rule r ((of.field_rules r).0 a)
         | inr b ↦ pushed_rule r b
       ]),

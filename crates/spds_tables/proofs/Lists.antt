@@ -1,25 +1,8 @@
--- Elements of lists that grow, and of their fronts.
-use Rattle.std.proofs.Common.{◌≡◌, ℕ, zero, suc, ◌+◌, ◌⊎◌, List, [], ◌∷◌, ◌++◌, length, slice_get, Some, sym, ◌∙◌, subst, inl, inr}
+-- Elements of joined lists.
+use Rattle.std.proofs.Common.{◌≡◌, ℕ, zero, suc, ◌+◌, List, [], ◌∷◌, ◌++◌, slice_get, Some, sym, subst}
 use Rattle.std.specs.List.{flat_map}
 use Rattle.lists.specs.Lists.{Has}
-use Rattle.lists.proofs.Places.{slice_get-append_left}
-use Rattle.link_laws.proofs.Lists.{slice_get-append_right}
-
-module _ {X : Type 0} where
-  -- the elements of two lists
-  pub Has-left : (xs ys : List X) (y : X) → Has xs y → Has (xs ++ ys) y
-  Has-left xs ys y has = (has.0, slice_get-append_left xs ys has.0 y has.1)
-
-  pub Has-right : (xs ys : List X) (y : X) → Has ys y → Has (xs ++ ys) y
-  Has-right xs ys y has = (length xs + has.0, slice_get-append_right xs ys has.0 ∙ has.1)
-
-  pub Has-append : (xs ys : List X) (y : X) → Has (xs ++ ys) y → Has xs y ⊎ Has ys y
-  Has-append [] ys y has = inr has
-  Has-append (x ∷ xs) ys y has = by has.0 has.1 (Has-append xs ys y)
-    where
-      by : (i : ℕ) → slice_get ((x ∷ xs) ++ ys) i ≡ Some y → (Has (xs ++ ys) y → Has xs y ⊎ Has ys y) → Has (x ∷ xs) y ⊎ Has ys y
-      by zero h rest = inl (0, h)
-      by (suc i) h rest = elim (rest (i, h)) [ inl a ↦ inl (suc a.0, a.1) | inr b ↦ inr b ]
+use Rattle.lists.proofs.Joined.{Has-left, Has-right}
 
 -- an element of joined lists
 pub Has-flat_map : {X Y : Type 0} (f : X → List Y) (xs : List X) (x : X) (y : Y) → Has xs x → Has (f x) y → Has (flat_map f xs) y

@@ -10,7 +10,7 @@ use Rattle.call_side.proofs.CallStrings.{IsLed-by}
 use Rattle.demand_set.specs.Demands.{DemandParts, IsDemandOf, StartsAt}
 use Rattle.lists.specs.Lists.{Has, Each, AreAll}
 use Rattle.lists.proofs.Places.{slice_get-below, slice_get-there}
-use Rattle.link_indexes.specs.Rows.{row}
+use Rattle.lists.specs.Filings.{row}
 use Rattle.link_laws.proofs.Lists.{at_map, each_left, each_right, in_flat_map, map_at}
 use Rattle.link_rules.specs.Linked.{LinkedProgram}
 use Rattle.link_sites.specs.declared.place.Place.{Place}
@@ -26,7 +26,6 @@ use Rattle.spds_rules.specs.declared.store.StoreAt.{StoreAt}
 use Rattle.demand_set.specs.declared.numbered.EdgeAt.{EdgeAt}
 use Rattle.demand_set.specs.Numbers.{AreEdgesAt, IsEdgeAt}
 use Rattle.call_side.specs.Gathered.{AreGathered}
-use Rattle.spds_tables.proofs.Lists.{Has-append}
 use Rattle.spds_rules.specs.Demand.{Asked, Demanded, EdgeIn}
 use Rattle.spds_rules.specs.Nodes.{IsNode, site_of}
 use Rattle.spds_rules.specs.Systems.{KeepsCalls, KeepsFields}
@@ -42,6 +41,7 @@ use Rattle.spds_tables.specs.Systems.{IsCallRule}
 use Rattle.spds_tables.proofs.Ascending.{ascending_apart}
 use Rattle.weight_laws.specs.declared.reach.Reach.{Reach}
 use Rattle.weight_laws.specs.Reach.{reach_domain}
+use Rattle.lists.proofs.Joined.{Has-either}
 
 -- rows of which one more is made
 pub row_more : (xs : List (Vec StartAt Global)) (x : Vec StartAt Global) (i : ℕ) → i < length xs
@@ -94,7 +94,7 @@ call_ones calls edges rules gathered r has = let g = (gathered r).0 has in by g.
     by edge.Jump from to h = absurd h
 
 -- an edge by its numbers
-is_edge : (e : EdgeAt) (from to : ℕ) (kind : EdgeKind) → e.from ≡ from → e.to ≡ to → e.kind ≡ kind → e ≡ record { from = from; to = to; kind = kind }
+pub is_edge : (e : EdgeAt) (from to : ℕ) (kind : EdgeKind) → e.from ≡ from → e.to ≡ to → e.kind ≡ kind → e ≡ record { from = from; to = to; kind = kind }
 is_edge e from to kind a b c =
     ap (λ (n : ℕ). record { from = n; to = e.to; kind = e.kind }) a ∙ ap (λ (n : ℕ). record { from = from; to = n; kind = e.kind }) b
     ∙ ap (λ (k : EdgeKind). record { from = from; to = to; kind = k }) c
@@ -311,7 +311,7 @@ module _ (p : LinkedProgram) (q : Asked) (names : Names) (are : AreNames p q nam
   pub parts_led : parts.fields.value.steps ≡ [] → parts.fields.value.last ≡ 0 → parts.calls.value.steps ≡ parts.bases.steps → parts.calls.value.last ≡ parts.bases.last → AreLedIn parts
   parts_led field_steps field_last call_steps call_last = record {
     bases = IsLed-by p parts.bases.steps [] parts.bases.last led of.last (λ s has. cc has.1);
-    starts = λ s has. elim (Has-append (flat_map (λ (starts : List StartAt). starts) (start_rows parts)) (map (λ (j : Jump). j.to) parts.jumps.items) s has) [
+    starts = λ s has. elim (Has-either (flat_map (λ (starts : List StartAt). starts) (start_rows parts)) (map (λ (j : Jump). j.to) parts.jumps.items) s has) [
       | inl a ↦ row_led s a
       | inr b ↦
           let j = at_map (λ (j : Jump). j.to) parts.jumps.items b.0 s b.1 in

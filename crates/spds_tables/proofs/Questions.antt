@@ -1,7 +1,7 @@
 -- What a call system asks for, taken one by one.
 use Rattle.std.proofs.Common.{◌≡◌, ℕ, zero, suc, ◌+◌, ◌<◌, ◌↔◌, ◌⊎◌, List, [], ◌∷◌, ◌++◌, length, get_or, take, Some, slice_get, refl, sym, ap, ◌∙◌, subst, inl, inr}
 use Rattle.lists.specs.Lists.{Has}
-use Rattle.link_indexes.proofs.Grown.{Has-push}
+use Rattle.lists.proofs.Places.{Has-push}
 use Rattle.post_star.specs.Jobs.{Job}
 use Rattle.rule_cells.specs.Renamed.{number_in}
 use Rattle.spds_tables.specs.declared.numbered.Jump.{Jump}

@@ -4,7 +4,7 @@ use Rattle.std.specs.List.{flat_map}
 use Rattle.auto_table.specs.declared.rule.Rule.{Rule}
 use Rattle.auto_table.specs.declared.rule.Rule.TheVariants.{Push}
 use Rattle.lists.specs.Lists.{Has}
-use Rattle.link_indexes.specs.Rows.{row}
+use Rattle.lists.specs.Filings.{row}
 use Rattle.post_star.specs.declared.bases.Start.{Start}
 use Rattle.post_star.specs.Derivations.{IsLed, Leads}
 use Rattle.spds_tables.specs.declared.numbered.Jump.{Jump}

@@ -5,7 +5,7 @@ ghost use Rattle.demand_set.specs.Demands.{IsDemandOf};
 ghost use Rattle.demand_set.specs.declared.numbered.EdgeAt.{EdgeAt as AnEdge};
 ghost use Rattle.demand_set.specs.Numbers.{AreEdgesAt};
 ghost use Rattle.lists.specs.Lists.{Has, Each};
-ghost use Rattle.link_indexes.specs.Rows.{row};
+ghost use Rattle.lists.specs.Filings.{row};
 ghost use Rattle.link_rules.specs.WellLinked.{IsWellLinked};
 ghost use Rattle.link_sites.specs.declared.site.Site.{Site as ASite};
 ghost use Rattle.post_star.specs.Derivations.{IsLed};

@@ -63,7 +63,7 @@ makes_array_decided (NewArray to) = inl tt
 makes_array_decided (NewMulti to levels) = inl tt
 makes_array_decided c = inr (λ h. h)
 
-level_decided : (level : ℕ) (c : Code) → IsDecided (HasLevel level c)
+pub level_decided : (level : ℕ) (c : Code) → IsDecided (HasLevel level c)
 level_decided level (NewMulti to levels) = both_decided (less_decided 0 level) (less_decided level levels)
 level_decided level c = inr (λ h. h)
 

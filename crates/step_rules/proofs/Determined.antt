@@ -5,6 +5,7 @@ use Rattle.std.proofs.lemmas.Option.{get_or_from_slice_get}
 use Rattle.class_tree.proofs.Selected.{selection_one}
 use Rattle.lists.specs.Lists.{IsLeast, AreIncreasing}
 use Rattle.lists.proofs.Places.{slice_get-below}
+use Rattle.lists.proofs.Joined.{increasing_one}
 use Rattle.jim_ast.specs.declared.syntax.Mode.{Mode}
 use Rattle.jim_ast.specs.declared.syntax.Mode.TheVariants.{Special, Virtual, Interface, Static}
 use Rattle.link_rules.specs.declared.code.Catch.{Catch}
@@ -36,18 +37,8 @@ least_one P a b x y = elim (cases_order a b) [
   | inr o ↦ elim o [ inl l ↦ absurd (y.first a l x.holds) | inr g ↦ absurd (x.first b g y.holds) ]
 ]
 
--- of increasing numbers each stands at one place
-increasing_one : (rows : List ℕ) (i j row : ℕ) → AreIncreasing rows → slice_get rows i ≡ Some row → slice_get rows j ≡ Some row → i ≡ j
-increasing_one rows i j row increasing a b = elim (cases_order i j) [
-  | inl e ↦ e
-  | inr o ↦ elim o [ inl l ↦ absurd (apart i j l a b) | inr g ↦ absurd (apart j i g b a) ]
-] where
-  apart : (i j : ℕ) → i < j → slice_get rows i ≡ Some row → slice_get rows j ≡ Some row → ⊥
-  apart i j l a b = let less = increasing i j row l (slice_get-below rows j row b) in
-      omega (arith, less, get_or_from_slice_get rows i row row a, get_or_from_slice_get rows j row row b)
-
 -- one statement stands at a place
-code_one : (p : LinkedProgram) (method index : ℕ) (c d : Code) → CodeAt p method index c → CodeAt p method index d → c ≡ d
+pub code_one : (p : LinkedProgram) (method index : ℕ) (c d : Code) → CodeAt p method index c → CodeAt p method index d → c ≡ d
 code_one p method index c d x y =
     let same : x.method ≡ y.method = same_place p.methods method x.method y.method x.there y.there in
     same_place y.method.code index c d (subst (λ (m : LinkedMethod). slice_get m.code index ≡ Some c) same x.here) y.here

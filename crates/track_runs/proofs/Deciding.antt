@@ -1,8 +1,8 @@
 -- Whether a step is an event, and whether a row allows it.
-use Rattle.std.proofs.Common.{◌≡◌, ℕ, ◌<◌, ◌⊎◌, Bool, true, false, true≢false, List, [], ◌∷◌, Option, Some, None, slice_get, refl, sym, ap, ◌∙◌, subst, inl, inr, arith}
+use Rattle.std.proofs.Common.{◌≡◌, ℕ, ◌<◌, Bool, true, false, true≢false, List, [], ◌∷◌, Option, Some, None, slice_get, refl, sym, ap, ◌∙◌, subst, inl, inr, arith}
 use Rattle.std.proofs.lemmas.Bool.{cases_eq, cases_order}
 use Rattle.class_tree.specs.Rows.{Sub}
-use Rattle.class_tree.proofs.Decided.{IsDecided, anywhere_decided, both_decided, same_decided, sub_decided, there_decided}
+use Rattle.class_tree.proofs.Decided.{IsDecided, anywhere_decided, both_decided, not_decided, same_decided, sub_decided, there_decided}
 use Rattle.link_rules.specs.declared.code.Code.{Code}
 use Rattle.link_rules.specs.declared.code.Code.TheVariants.{Call, NewArray, NewMulti}
 use Rattle.link_rules.specs.Linked.{LinkedClass, LinkedKey, LinkedMethod, LinkedProgram}
@@ -22,6 +22,7 @@ use Rattle.track_rules.specs.declared.row.ProtocolRow.{ProtocolRow}
 use Rattle.track_rules.specs.Protocols.{HasRow, ProtocolParts}
 use Rattle.track_runs.specs.Events.{CallsEvent, HasBelow, IsEventAt, IsEventCall}
 use Rattle.track_runs.specs.Monitor.{IsEvent, IsTracked}
+use Rattle.step_rules.proofs.Deciding.{level_decided}
 
 -- two texts are the same, or they aren't
 texts_decided : (xs ys : List ℕ) → IsDecided (xs ≡ ys)
@@ -63,10 +64,6 @@ module _ (p : LinkedProgram) where
   arrays_decided (NewMulti to levels) = inl tt
   arrays_decided _ = inr (λ h. h)
 
-  level_decided : (level : ℕ) (c : Code) → IsDecided (HasLevel level c)
-  level_decided level (NewMulti to levels) = both_decided (less_decided 0 level) (less_decided level levels)
-  level_decided level _ = inr (λ h. h)
-
   unraised_decided : (place : Place) (Fact : Code → Type 0) → ((c : Code) → IsDecided (Fact c)) → IsDecided (IsUnraised p place Fact)
   unraised_decided place Fact decide = both_decided (false_decided place.raised) (code_decided Fact decide place.method place.index)
 
@@ -76,10 +73,6 @@ module _ (p : LinkedProgram) where
   array_decided (site.Raised place kind) = inr (λ h. h)
   array_decided (site.Text number) = inr (λ h. h)
   array_decided (site.Class number) = inr (λ h. h)
-
-  not_decided : {P : Type 0} → IsDecided P → IsDecided (P → ⊥)
-  not_decided (inl h) = inr (λ n. n h)
-  not_decided (inr n) = inl n
 
   module _ (k : ProtocolParts) where
     tracked_decided : (object : HeapObject) → IsDecided (IsTracked p k object)

@@ -1,16 +1,23 @@
 -- A monitor misses no run.
-use Rattle.std.proofs.Common.{◌≡◌, ℕ, ◌+◌, ◌<◌, ◌≤◌, ◌-◌, ◌⊎◌, ◌++◌, List, length, length-append, length-set, replicate, slice_get, slice_set, suc, Some, refl, sym, ◌∙◌, inl, inr, arith}
+use Rattle.std.proofs.Common.{◌≡◌, ℕ, ◌≤◌, ◌-◌, ◌⊎◌, List, length, length-append, length-set, replicate, slice_get, slice_set, suc, sym, ◌∙◌, inl, inr, arith}
 use Rattle.std.proofs.lemmas.List.{length-replicate}
 use Rattle.lists.proofs.Places.{slice_get-below, slice_get-there}
 use Rattle.link_rules.specs.Linked.{LinkedProgram}
-use Rattle.step_rules.specs.Runs.{IsFirstState, Run}
+use Rattle.step_rules.specs.Runs.{Run}
 use Rattle.step_rules.specs.States.{State}
 use Rattle.step_rules.specs.Steps.{Step}
-use Rattle.track_rules.specs.Protocols.{HasRow, ProtocolParts}
+use Rattle.track_rules.specs.Protocols.{ProtocolParts}
 use Rattle.track_runs.specs.Laws.{RunsAreWatched}
 use Rattle.track_runs.specs.Monitor.{IsBroken, IsEvent, Watched, with_new}
 use Rattle.track_runs.proofs.Deciding.{event_decided, row_decided}
 use Rattle.track_runs.proofs.Growing.{call_keeps, heap_grows}
+
+-- there are as many states as objects
+pub with_new_many : (states : List ℕ) (count : ℕ) → length states ≤ count → length (with_new states count) ≡ count
+with_new_many states count h =
+    let new : List ℕ = replicate (count - length states) 0 in
+    let many : length new ≡ count - length states = length-replicate (count - length states) 0 in
+    omega (arith, length-append states new, many, h)
 
 module _ (p : LinkedProgram) (k : ProtocolParts) where
   -- it is watched, and each object has a state
@@ -27,12 +34,6 @@ module _ (p : LinkedProgram) (k : ProtocolParts) where
             inl (slice_set states o row.0, Watched.event watched step is there.1 row.1, length-set states o row.0 ∙ as_many ∙ sym (call_keeps p s next choice step is.frame is.entered))
         | inr none ↦ inr (IsBroken.here watched step is there.1 (λ to row. none (to, row)))
       ]
-
-  with_new_many : (states : List ℕ) (count : ℕ) → length states ≤ count → length (with_new states count) ≡ count
-  with_new_many states count h =
-      let new : List ℕ = replicate (count - length states) 0 in
-      let many : length new ≡ count - length states = length-replicate (count - length states) 0 in
-      omega (arith, length-append states new, many, h)
 
   begun : (s : State) → length {A = ℕ} (replicate (length s.heap) 0) ≡ length s.heap
   begun s = length-replicate (length s.heap) 0

@@ -1,5 +1,6 @@
 -- The call at which a frame stands.
 use Rattle.std.proofs.Common.{◌≡◌, ℕ, Some, false, slice_get, ap, ◌∙◌, subst, inl, inr}
+use Rattle.step_rules.proofs.Determined.{code_one}
 use Rattle.class_tree.proofs.Decided.{IsDecided}
 use Rattle.link_rules.specs.declared.code.Code.{Code}
 use Rattle.link_rules.specs.declared.code.Code.TheVariants as code
@@ -10,16 +11,6 @@ use Rattle.spds_rules.specs.declared.node.Var.{Var}
 use Rattle.step_rules.specs.Shapes.{IsCall}
 use Rattle.track_systems.specs.Events.{IsReceiver, receiver_of}
 use Rattle.track_systems.specs.Settled.{CallAt}
-
--- two statements at one place
-pub one_code : (p : LinkedProgram) (method index : ℕ) (c d : Code) → CodeAt p method index c → CodeAt p method index d → c ≡ d
-one_code p method index c d a b =
-    let one = a.there in
-    let two = b.there in
-    let same : a.method ≡ b.method = cc in
-    let first : slice_get b.method.code index ≡ Some c = subst (λ (m : LinkedMethod). slice_get m.code index ≡ Some c) same a.here in
-    let second = b.here in
-    cc
 
 -- whether a statement is a call
 pub call_decided : (c : Code) → IsDecided (IsCall c)
@@ -48,10 +39,10 @@ module _ (p : LinkedProgram) (c : Place) where
 
   -- where no call stands
   pub no_call_at : (d : Code) → CodeAt p c.method c.index d → (IsCall d → ⊥) → CallAt p c → ⊥
-  no_call_at d here not_call call = not_call (subst IsCall (one_code p c.method c.index (code_of call) d call.here here) tt)
+  no_call_at d here not_call call = not_call (subst IsCall (code_one p c.method c.index (code_of call) d call.here here) tt)
 
   -- the receiver of the place is that of the call
   pub receiver_is : (call : CallAt p c) (v : Var) (is : IsReceiver p c v) → call.receiver ≡ Some is.0
   receiver_is call v is =
-      let same = one_code p c.method c.index (code_of call) is.1.code call.here is.1.at in
+      let same = code_one p c.method c.index (code_of call) is.1.code call.here is.1.at in
       ap receiver_of same ∙ is.1.is_so

@@ -1,5 +1,6 @@
 -- A step back to the frame below: what its slots hold then is held.
 use Rattle.std.proofs.Common.{◌≡◌, ℕ, ◌⊎◌, ◌++◌, Bool, false, true, List, [], ◌∷◌, Option, Some, length, slice_get, refl, sym, ap, ◌∙◌, subst, inl, inr}
+use Rattle.step_rules.proofs.Determined.{code_one}
 use Rattle.link_laws.proofs.Lists.{at_map}
 use Rattle.link_rules.specs.declared.code.Arg.{Arg}
 use Rattle.link_rules.specs.declared.code.Code.{Code}
@@ -37,7 +38,7 @@ use Rattle.track_systems.specs.Track as track
 use Rattle.track_systems.specs.Weights.{Across}
 use Rattle.track_systems.specs.Weights as weights
 use Rattle.track_sound.specs.Formals.{HoldsFormals, IsBehind}
-use Rattle.track_sound.proofs.Calls.{code_of, one_code}
+use Rattle.track_sound.proofs.Calls.{code_of}
 use Rattle.track_sound.proofs.Entering.{places_pushed}
 use Rattle.track_sound.proofs.Held.{AreSent, AreWatched, Extends, HasPast, IsCrossed, IsHeld, Watches, kind_of, kinds_of, past_of, watches_more}
 use Rattle.track_sound.proofs.Passing.{passed_or_not}
@@ -137,7 +138,7 @@ module _ (p : LinkedProgram) (k : ProtocolParts) (q : Asked) (asked : IsAskedBy 
           by (exception raised place) = inr (record { raised = raised; at_call = place })
           by (return unraised returned place) =
               let row = edge.row in
-              let same = one_code p b.caller.method b.caller.index row.code (code_of p c call) (record { method = row.method; there = row.there; here = row.here }) call.here in
+              let same = code_one p b.caller.method b.caller.index row.code (code_of p c call) (record { method = row.method; there = row.there; here = row.here }) call.here in
               let r = ap (λ (q : Place). q.raised) place in
               let one = subst (λ (s : Bool). FlowsIn row.method row.code b.caller.index s (var_of to) b.g.index b.g.raised (var_of to)) b.unraised row.flows in
               let two : FlowsIn row.method row.code b.caller.index false (var_of to) b.g.index false (var_of to) =

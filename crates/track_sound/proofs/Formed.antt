@@ -1,7 +1,8 @@
 -- Formals hold what was passed: what each state of a run keeps of its frames.
-use Rattle.std.proofs.Common.{◌≡◌, ℕ, ◌+◌, ◌≤◌, ◌⊎◌, ◌++◌, ◌==◌, if◌then◌else◌, Option, Some, None, Bool, true, false, List, [], ◌∷◌, slice_get, refl, sym, ap, ◌∙◌, subst, inl, inr, arith}
+use Rattle.std.proofs.Common.{if◌then◌else◌, ◌≡◌, ℕ, ◌+◌, ◌≤◌, ◌⊎◌, ◌++◌, ◌==◌, Option, Some, None, Bool, true, false, List, [], ◌∷◌, slice_get, refl, sym, ap, ◌∙◌, subst, inl, inr, arith}
 use Rattle.std.proofs.lemmas.Bool.{cases_order, eqb-true}
 use Rattle.std.proofs.lemmas.Option.{same_Some}
+use Rattle.lists.proofs.Joined.{last_one}
 use Rattle.link_rules.specs.declared.code.Arg.{Arg}
 use Rattle.link_rules.specs.declared.code.Code.{Code}
 use Rattle.link_rules.specs.declared.code.Code.TheVariants as code
@@ -20,11 +21,12 @@ use Rattle.step_rules.specs.declared.parts.Value.{Value}
 use Rattle.step_rules.specs.Slots.{local_of, slot_of}
 use Rattle.step_rules.specs.States.{Frame, place_of}
 use Rattle.run_sound.specs.Frames.{var_of}
-use Rattle.run_sound.proofs.Lists.{not_empty, same_parts}
+use Rattle.run_sound.proofs.Lists.{not_empty}
 use Rattle.run_origins.specs.Origins.{GoesOnAs, TakesBy}
 use Rattle.track_systems.specs.Settled.{is_identity, is_settled}
 use Rattle.track_sound.specs.Formals.{IsBehind}
 use Rattle.track_sound.proofs.Identities.{IsEarly, settled_early}
+use Rattle.spds_rules.proofs.Passing.{passed_at_position}
 
 module _ (p : LinkedProgram) where
   -- a local formal of the frame holds what its position does, or the frame still stands at or before its identity
@@ -122,12 +124,6 @@ module _ (p : LinkedProgram) where
 
   -- ---- frames
 
-  -- the position that a call passes something at is one
-  pub position_passed : (receiver : Option ℕ) (args : List Arg) (v w : Var) → Passes receiver args v w → IsPosition w
-  position_passed receiver args v var.This passes = tt
-  position_passed receiver args v (var.Param i) passes = tt
-  position_passed receiver args v _ passes = absurd passes
-
   -- two targets of a call
   pub same_passed : (method index target : ℕ) (a b : HasTarget p method index target) → (a.receiver ≡ b.receiver) × (a.args ≡ b.args)
   same_passed method index target a b =
@@ -145,7 +141,7 @@ module _ (p : LinkedProgram) where
   formed_on (bottom {g = f} is) = λ g goes formal. bottom formal
   formed_on (above {below} {f = caller} {g = f} formed passing is) = λ g goes formal. above formed (λ target x w value passes holds.
       let fields = parts caller g.method f.method goes.method target in
-      let position = position_passed target.receiver target.args (var.Local x) (var_of w) passes in
+      let position = passed_at_position target.receiver target.args (var.Local x) (var_of w) passes in
       position_kept f g goes w position
       ∙ passing fields.0 x w value
       (subst (λ (r : Option ℕ). Passes r fields.0.args (var.Local x) (var_of w)) fields.1
@@ -180,7 +176,7 @@ module _ (p : LinkedProgram) where
   pub called_by : {all : List Frame} {g : Frame} → Formed all g → (below : List Frame) (caller : Frame) → all ≡ below ++ caller ∷ [] → IsCalled below caller g
   called_by (bottom is) = λ below caller e. absurd (not_empty below caller (sym e))
   called_by (above {below = rest} {f = last} {g} formed passing is) = λ below caller e.
-      let parts = same_parts rest below last caller e in
+      let parts = last_one rest below last caller e in
       record {
         formed = subst (λ (c : Frame). Formed below c) parts.1 (subst (λ (fs : List Frame). Formed fs last) parts.0 formed);
         passing = subst (λ (c : Frame). IsPassing c g) parts.1 passing;
@@ -211,7 +207,7 @@ module _ (p : LinkedProgram) where
         ]
   ] where
     is_position : IsPosition (var_of position)
-    is_position = position_passed target.receiver target.args (var.Local x) (var_of position) passes
+    is_position = passed_at_position target.receiver target.args (var.Local x) (var_of position) passes
 
     passed : slot_of g position ≡ Some value
     passed = called.passing target x position value passes holds

@@ -1,6 +1,7 @@
 -- A step within a frame: what its slots hold then is held.
 use Rattle.std.proofs.Common.{◌≡◌, ℕ, ◌<◌, Bool, true, false, List, Some, length, slice_get, refl, sym, ap, subst, inl, inr}
 use Rattle.lists.proofs.Places.{slice_get-below, slice_get-push}
+use Rattle.step_rules.proofs.Determined.{code_one}
 use Rattle.link_laws.proofs.Lists.{map_at}
 use Rattle.link_rules.specs.declared.code.Code.{Code}
 use Rattle.link_rules.specs.Linked.{LinkedProgram}
@@ -35,7 +36,7 @@ use Rattle.track_systems.specs.Weights.{Across, Changes, InFlight, Sends}
 use Rattle.track_systems.specs.Weights as weights
 use Rattle.class_tree.proofs.Decided.{IsDecided}
 use Rattle.step_rules.specs.Shapes.{IsCall}
-use Rattle.track_sound.proofs.Calls.{call_at, call_decided, code_of, no_call_at, one_code, receiver_is}
+use Rattle.track_sound.proofs.Calls.{call_at, call_decided, code_of, no_call_at, receiver_is}
 use Rattle.track_sound.proofs.Held.{AreHeld, AreSent, Extends, IsHeld, kind_of, kinds_of}
 use Rattle.track_sound.proofs.Passing.{not_passed, passed_or_not}
 use Rattle.track_sound.proofs.Standing.{loaded_held, made_or_not, stands_held, stands_local, top_string}
@@ -94,7 +95,7 @@ module _ (p : LinkedProgram) (k : ProtocolParts) (q : Asked) (at : Point) (e : E
           let null = w.null (code_of p c call) call.here tt call.unraised in
           let row = edge.row in
           let is_local = settled.passes.1 in
-          let same = one_code p at.top.method at.top.index row.code (code_of p c call) (record { method = row.method; there = row.there; here = row.here }) call.here in
+          let same = code_one p at.top.method at.top.index row.code (code_of p c call) (record { method = row.method; there = row.there; here = row.here }) call.here in
           let raised = ap (λ (q : Place). q.raised) null.1 in
           let one = subst (λ (r : Bool). FlowsIn row.method row.code at.top.index r v w.g.index w.g.raised (var_of to)) call.unraised row.flows in
           let two : FlowsIn row.method row.code at.top.index false v w.g.index true (var_of to) =

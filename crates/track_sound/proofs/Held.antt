@@ -1,5 +1,6 @@
 -- What each watched state keeps: the states of the objects that slots hold.
 use Rattle.std.proofs.Common.{◌≡◌, ℕ, ◌⊎◌, ◌++◌, List, [], ◌∷◌, Some, length, map, slice_get, refl, sym, subst, inl, inr}
+use Rattle.lists.proofs.Joined.{last_one}
 use Rattle.link_rules.specs.Linked.{LinkedProgram}
 use Rattle.link_rules.specs.WellLinked.{HasTarget}
 use Rattle.link_sites.specs.declared.place.Place.{Place}
@@ -13,7 +14,7 @@ use Rattle.step_rules.specs.Slots.{slot_of}
 use Rattle.step_rules.specs.States.{Frame, HeapObject, State, new_object, place_of}
 use Rattle.run_origins.specs.Origins.{IsStoredStatic}
 use Rattle.run_origins.specs.Standing.{StandsFor}
-use Rattle.run_sound.proofs.Lists.{not_empty, same_parts}
+use Rattle.run_sound.proofs.Lists.{not_empty}
 use Rattle.track_rules.specs.Protocols.{ProtocolParts}
 use Rattle.track_runs.specs.Monitor.{IsTracked}
 use Rattle.track_systems.specs.Events.{Goes}
@@ -155,7 +156,7 @@ module _ (p : LinkedProgram) (k : ProtocolParts) (q : Asked) where
       → HasPast kinds now below caller pasts callee
   past_of kinds none = λ below caller e. absurd (not_empty below caller (sym e))
   past_of kinds {now} (more {below = rest} {pasts} {f = last} {past} {callee} watches at_target held crossed) = λ below caller e.
-      let parts = same_parts rest below last caller e in
+      let parts = last_one rest below last caller e in
       subst (λ (f : Frame). HasPast kinds now below f (pasts ++ past ∷ []) callee) parts.1 (record {
         earlier = pasts;
         past = past;

@@ -1,6 +1,7 @@
 -- Each state of a run keeps its frames formed, so settled formals hold what was passed.
 use Rattle.std.proofs.Common.{◌≡◌, ℕ, ◌⊎◌, ◌++◌, Option, Some, None, false, List, [], ◌∷◌, length, slice_get, refl, sym, ap, ◌∙◌, subst, inl, inr, arith}
 use Rattle.lists.proofs.Places.{slice_get-push}
+use Rattle.lists.proofs.Joined.{last_one}
 use Rattle.link_rules.specs.declared.code.Arg.{Arg}
 use Rattle.link_rules.specs.declared.code.Code.{Code}
 use Rattle.link_rules.specs.declared.code.Code.TheVariants as code
@@ -19,7 +20,7 @@ use Rattle.step_rules.specs.Runs.{Run, begins, steps}
 use Rattle.step_rules.specs.States.{Frame, Point, State, new_frame, state_of}
 use Rattle.run_sound.specs.Frames.{var_of}
 use Rattle.run_sound.proofs.Invariant.{IsShaped}
-use Rattle.run_sound.proofs.Lists.{not_empty, same_parts}
+use Rattle.run_sound.proofs.Lists.{not_empty}
 use Rattle.run_sound.proofs.Simulating.{kept_run, tracked_at}
 use Rattle.run_origins.specs.Origins.{Origins, ends, entry, way_back, within}
 use Rattle.run_origins.proofs.Machine.{steps_originate}
@@ -39,7 +40,7 @@ module _ (p : LinkedProgram) where
   formed_at : (at : Point) → AreFormed (state_of at) → Formed p at.below at.top
   formed_at at (inl none) = absurd (not_empty at.below at.top none)
   formed_at at (inr some) =
-      let parts = same_parts at.below some.0 at.top some.1 some.2 in
+      let parts = last_one at.below some.0 at.top some.1 some.2 in
       subst (λ (top : Frame). Formed p at.below top) (sym parts.1) (subst (λ (below : List Frame). Formed p below some.1) (sym parts.0) some.3)
 
   module _ (q : Asked) (at : Point) (e : Effect) (new : State) (shapes : (number : ℕ) (f : Frame) → slice_get (state_of at).frames number ≡ Some f → IsShaped p f)
@@ -98,7 +99,7 @@ formals_held p well covered count s below caller g method x position value run f
     elim (formed_run p well covered run) [
       | inl none ↦ absurd (not_empty (below ++ caller ∷ []) g (sym frames ∙ none))
       | inr some ↦
-          let parts = same_parts (below ++ caller ∷ []) some.0 g some.1 (sym frames ∙ some.2) in
+          let parts = last_one (below ++ caller ∷ []) some.0 g some.1 (sym frames ∙ some.2) in
           let formed : Formed p (below ++ caller ∷ []) g = subst (λ (top : Frame). Formed p (below ++ caller ∷ []) top) (sym parts.1)
           (subst (λ (fs : List Frame). Formed p fs some.1) (sym parts.0) some.3) in
           held p below caller g (called_by p formed below caller refl) method there behind target x position value passes settled holds

@@ -1,8 +1,8 @@
 -- The states of objects, as steps change them.
-use Rattle.std.proofs.Common.{◌≡◌, ℕ, zero, suc, ◌+◌, ◌-◌, ◌<◌, ◌≤◌, ◌++◌, List, Some, length, length-append, replicate, slice_get, refl, sym, ap, ◌∙◌, subst, inl, inr, arith}
-use Rattle.std.proofs.lemmas.List.{length-replicate}
+use Rattle.std.proofs.Common.{◌≡◌, ℕ, zero, suc, ◌+◌, ◌-◌, ◌<◌, ◌≤◌, ◌++◌, List, Some, length, replicate, slice_get, refl, sym, ap, ◌∙◌, subst, inl, inr, arith}
 use Rattle.lists.proofs.Places.{slice_get-append_left, slice_get-below, slice_get-there}
-use Rattle.link_laws.proofs.Lists.{at_map, map_at, slice_get-append_right, slice_get-appended}
+use Rattle.lists.proofs.Joined.{slice_get-append_right, slice_get-appended}
+use Rattle.link_laws.proofs.Lists.{at_map, map_at}
 use Rattle.link_rules.specs.Linked.{LinkedProgram}
 use Rattle.spds_rules.specs.Demand.{Asked}
 use Rattle.step_rules.specs.States.{HeapObject, Point, State, new_object}
@@ -12,6 +12,7 @@ use Rattle.track_runs.specs.Monitor.{with_new}
 use Rattle.track_systems.specs.Weights.{Anywhere, Sends}
 use Rattle.track_systems.specs.Weights as weights
 use Rattle.track_sound.proofs.Held.{AreSent, Extends, kind_of, kinds_of}
+use Rattle.track_runs.proofs.Watching.{with_new_many}
 
 -- no step changes the kind of an object
 pub kinds_grow : (p : LinkedProgram) (at : Point) (next : State) → KeepsObjects p at next → Extends (kinds_of at.heap) (kinds_of next.heap)
@@ -36,10 +37,6 @@ replicated_zero (suc n) (suc i) x e = replicated_zero n i x e
 pub new_on : (states : List ℕ) (count : ℕ) → Extends states (with_new states count)
 new_on states count x i e = slice_get-append_left states (replicate (count - length states) 0) x i e
 
-pub new_many : (states : List ℕ) (count : ℕ) → length states ≤ count → length (with_new states count) ≡ count
-new_many states count few =
-    omega (arith, length-append states (replicate (count - length states) 0), length-replicate {A = ℕ} (count - length states) 0, few)
-
 -- a new one is in state 0
 pub new_fresh : (states : List ℕ) (count x : ℕ) → x ≡ length states → x < count → slice_get (with_new states count) x ≡ Some 0
 new_fresh states count x is below =
@@ -57,7 +54,7 @@ module _ (p : LinkedProgram) (k : ProtocolParts) (q : Asked) where
     | inl old ↦ let h = sent x i old in record { kind = h.kind; is_kind = grows x h.kind h.is_kind; is_so = h.is_so }
     | inr anew ↦
         let is : i ≡ 0 = replicated_zero (length next - length states) anew.0 i anew.2 in
-        let below : x < length next = omega (arith, slice_get-below (with_new states (length next)) x i e, new_many states (length next) few) in
+        let below : x < length next = omega (arith, slice_get-below (with_new states (length next)) x i e, with_new_many states (length next) few) in
         let object = slice_get-there next x below in
         record {
           kind = kind_of object.0;

@@ -1,9 +1,10 @@
 -- Each watched state of a run keeps that what its slots hold is held.
-use Rattle.std.proofs.Common.{◌≡◌, ◌≢◌, ℕ, zero, suc, ◌+◌, ◌<◌, ◌≤◌, ◌⊎◌, ◌++◌, List, [], ◌∷◌, Some, None, length, length-append, replicate, slice_get, sym, ap, ◌∙◌, subst, inl, inr, arith}
+use Rattle.std.proofs.Common.{◌≡◌, ◌≢◌, ℕ, ◌+◌, ◌<◌, ◌≤◌, ◌⊎◌, ◌++◌, List, [], ◌∷◌, Some, None, length, length-append, replicate, slice_get, sym, ap, ◌∙◌, subst, inl, inr, arith}
 use Rattle.std.specs.List.{slice_set}
 use Rattle.std.proofs.lemmas.Bool.Decides.{eqb_tells}
-use Rattle.std.proofs.lemmas.List.{length-replicate}
+use Rattle.std.proofs.lemmas.List.{length-replicate, length-set}
 use Rattle.lists.proofs.Places.{slice_get-below, slice_get-push, slice_get-set_other, slice_get-set_same, slice_get-there}
+use Rattle.lists.proofs.Joined.{last_one}
 use Rattle.link_laws.proofs.Lists.{at_map, map_at}
 use Rattle.link_rules.specs.Linked.{LinkedProgram}
 use Rattle.link_rules.specs.WellLinked.{IsWellLinked}
@@ -11,7 +12,7 @@ use Rattle.run_covers.specs.Covers.{IsCovered}
 use Rattle.spds_rules.specs.Demand.{Asked}
 use Rattle.step_rules.specs.declared.parts.Slot.{Slot}
 use Rattle.step_rules.specs.declared.parts.Slot.TheVariants as slot
-use Rattle.step_rules.specs.declared.parts.Value.TheVariants.{Null, Object}
+use Rattle.step_rules.specs.declared.parts.Value.TheVariants.{Object}
 use Rattle.step_rules.specs.Runs.{IsFirstState, Run}
 use Rattle.step_rules.specs.Slots.{slot_of}
 use Rattle.step_rules.specs.States.{Frame, HeapObject, Point, State, new_frame, place_of, state_of}
@@ -21,7 +22,7 @@ use Rattle.run_sound.specs.Frames.{places_of, string_of}
 use Rattle.run_sound.proofs.Agreeing.{agrees}
 use Rattle.run_sound.proofs.Calling.{unset}
 use Rattle.run_sound.proofs.Invariant.{AreSlots, IsKept, IsShaped, sites_of}
-use Rattle.run_sound.proofs.Lists.{length-slice_set, not_empty, same_parts, slice_get-slice_set}
+use Rattle.run_sound.proofs.Lists.{not_empty, slice_get-slice_set}
 use Rattle.run_sound.proofs.Simulating.{kept_run, tracked_at}
 use Rattle.run_origins.specs.Origins.{IsEntry, IsStoredStatic, KeepsObjects, Origins, ends, entry, way_back, within}
 use Rattle.run_origins.specs.Standing.{node_at}
@@ -33,7 +34,7 @@ use Rattle.track_runs.proofs.Growing.{call_keeps, heap_grows}
 use Rattle.track_systems.specs.Events.{Goes, IsAskedBy}
 use Rattle.track_systems.specs.Findings.{IsFinding}
 use Rattle.track_systems.specs.Track.{Tracks}
-use Rattle.track_systems.specs.Weights.{Anywhere, IsInside, May, Owns, Sends}
+use Rattle.track_systems.specs.Weights.{Anywhere, May, Owns, Sends}
 use Rattle.track_systems.specs.Weights as weights
 use Rattle.track_sound.specs.Recalled.{recalled, recalled_over}
 use Rattle.track_sound.proofs.ComingBack.{back_watched, past}
@@ -41,10 +42,12 @@ use Rattle.track_sound.proofs.Entering.{HasAfter, entry_watched}
 use Rattle.track_sound.proofs.Going.{within_held}
 use Rattle.track_sound.proofs.Held.{AreSent, AreWatched, Changes, Extends, IsWatched, Watches, kind_of, kinds_of, none, watches_event, watches_more}
 use Rattle.track_sound.proofs.Holding.{formals_held}
-use Rattle.track_sound.proofs.Later.{kinds_grow, new_fresh, new_many, new_on, new_sent, replicated_zero}
+use Rattle.track_sound.proofs.Later.{kinds_grow, new_fresh, new_on, new_sent, replicated_zero}
 use Rattle.track_sound.proofs.Owning.{goes_by, may_be, owns_nothing, receiver_of_event}
 use Rattle.track_sound.proofs.Standing.{stands_held}
 use Rattle.track_sound.proofs.Recalling.{as_many_pasts, recalled_back, recalled_more, recalled_same}
+use Rattle.track_runs.proofs.Watching.{with_new_many}
+use Rattle.run_sound.proofs.Beginning.{no_object}
 
 module _ (p : LinkedProgram) (k : ProtocolParts) (q : Asked) (asked : IsAskedBy p k q) (well : IsWellLinked p) (covered : IsCovered p) where
   module _ {count choice : ℕ} {s next : State} (run : Run p count s) (step : Step p s choice next) (states : List ℕ) (pasts : List (List ℕ))
@@ -81,7 +84,7 @@ module _ (p : LinkedProgram) (k : ProtocolParts) (q : Asked) (asked : IsAskedBy 
     at_point = elim there.frames [
       | inl gone ↦ absurd (not_empty at.below at.top gone)
       | inr some ↦
-          let parts = same_parts at.below some.0 at.top some.1 some.2 in
+          let parts = last_one at.below some.0 at.top some.1 some.2 in
           subst (λ (top : Frame). AreWatched p k q at.heap states at.below top pasts) (sym parts.1)
           (subst (λ (below : List Frame). AreWatched p k q at.heap states below some.1 pasts) (sym parts.0) some.3)
     ]
@@ -194,7 +197,7 @@ module _ (p : LinkedProgram) (k : ProtocolParts) (q : Asked) (asked : IsAskedBy 
       few = omega (arith, there.as_many, heap_grows p s next choice step, ap (λ (t : State). length t.heap) step.stands)
 
       many_later : length later ≡ length next.heap
-      many_later = new_many states (length next.heap) few
+      many_later = with_new_many states (length next.heap) few
 
       sent_later : AreSent p k q (kinds_of next.heap) later
       sent_later = new_sent p k q at.heap next.heap states grows few there.sent
@@ -239,7 +242,7 @@ module _ (p : LinkedProgram) (k : ProtocolParts) (q : Asked) (asked : IsAskedBy 
       then = slice_set states o to
 
       then_many : length then ≡ length next.heap
-      then_many = length-slice_set states o to ∙ there.as_many ∙ ap (λ (t : State). length t.heap) (sym step.stands) ∙ sym (call_keeps p s next choice step is.frame is.entered)
+      then_many = length-set states o to ∙ there.as_many ∙ ap (λ (t : State). length t.heap) (sym step.stands) ∙ sym (call_keeps p s next choice step is.frame is.entered)
 
       module _ (n : IsEntry p q.reach at step.effect next) where
         may : May p k q is.object.site (place_of at.top)
@@ -319,11 +322,6 @@ module _ (p : LinkedProgram) (k : ProtocolParts) (q : Asked) (asked : IsAskedBy 
       event_watched = record { frames = frames_then (event_entry event o is); as_many = then_many; sent = sent_then (event_entry event o is); statics = statics }
 
   -- ---- the first state
-
-  no_object : (n field x : ℕ) → slice_get (replicate n Null) field ≡ Some (Object x) → ⊥
-  no_object zero field x e = cc (e)
-  no_object (suc n) zero x e = cc (e)
-  no_object (suc n) (suc field) x e = no_object n field x e
 
   first_watched : (s : State) → IsFirstState p s → IsWatched p k q s (replicate (length s.heap) 0) []
   first_watched s first = record {

@@ -5,8 +5,7 @@ use Rattle.call_side.specs.Trails.{AreKept}
 use Rattle.demand_set.specs.Demands.{DemandParts}
 use Rattle.track_tables.specs.Held.{AreHeldAt}
 use Rattle.lists.specs.Lists.{Has}
-use Rattle.lists.proofs.Places.{slice_get-below}
-use Rattle.link_indexes.proofs.Grown.{Has-push}
+use Rattle.lists.proofs.Places.{slice_get-below, Has-push}
 use Rattle.link_rules.specs.Linked.{LinkedProgram}
 use Rattle.link_sites.specs.declared.site.Site.{Site}
 use Rattle.post_star.specs.declared.bases.BaseStep.{BaseStep}

@@ -8,52 +8,16 @@ use Rattle.auto_table.specs.Cells.{AreMeant, Cells, IsListed, IsRow, by_weight, 
 use Rattle.call_side.specs.Gathered.{AreGathered}
 use Rattle.call_side.proofs.Lists.{Has-take_more}
 use Rattle.lists.specs.Lists.{Has}
-use Rattle.link_indexes.proofs.Grown.{Has-push}
+use Rattle.lists.proofs.Places.{Has-push}
 use Rattle.lists.specs.declared.groups.Keyed.{Keyed}
 use Rattle.lists.specs.Filings.{kept_if}
 use Rattle.lists.specs.Groups.{Grouped, found_at, items_with}
+use Rattle.lists.proofs.Joined.{Has-cons}
+use Rattle.site_events.proofs.Calling.{Has-items_with}
 use Rattle.post_star.specs.Sweeps.{AreEntriesAt}
 use Rattle.weight_laws.specs.declared.rel.Rel.{Rel}
 use Rattle.weight_laws.specs.Rel.{rel_domain}
 use Rattle.track_tables.specs.ByNode.{AreByNode, AreCells, IsCell, IsCellOf}
-
--- the elements of a list with one in front
-has_cons : {Y : Type 0} (x y : Y) (xs : List Y) → Has (x ∷ xs) y ↔ ((y ≡ x) ⊎ Has xs y)
-has_cons {Y} x y xs = ((λ has. by has.0 has.1), (λ either. elim either [ inl e ↦ (0, ap Some (sym e)) | inr has ↦ (suc has.0, has.1) ]))
-  where
-    by : (i : ℕ) → slice_get (x ∷ xs) i ≡ Some y → (y ≡ x) ⊎ Has xs y
-    by zero at = inl cc
-    by (suc i) at = inr (i, at)
-
-module _ {X : Type 0} where
-  -- the items with a key are those listed with it
-  pub Has-items_with : (xs : List (Keyed ℕ X)) (key : ℕ) (u : X) → Has (items_with eqb xs key) u ↔ Has xs (record { key = key; item = u })
-  Has-items_with [] key u = ((λ has. cc has.1), (λ has. cc has.1))
-  Has-items_with (x ∷ xs) key u = by (Has-items_with xs key u) (eqb x.key key) refl
-    where
-      cons : Has (x ∷ xs) (record { key = key; item = u }) ↔ ((record { key = key; item = u } ≡ x) ⊎ Has xs (record { key = key; item = u }))
-      cons = has_cons x (record { key = key; item = u }) xs
-
-      by : (Has (items_with eqb xs key) u ↔ Has xs (record { key = key; item = u })) → (b : Bool) → eqb x.key key ≡ b
-          → Has (items_with eqb (x ∷ xs) key) u ↔ Has (x ∷ xs) (record { key = key; item = u })
-      by rest true e =
-          let one = has_cons x.item u (items_with eqb xs key) in
-          let same : x.key ≡ key = eqb-true x.key key e in
-          let is : items_with eqb (x ∷ xs) key ≡ x.item ∷ items_with eqb xs key = ap (λ t. kept_if t x.item (items_with eqb xs key)) e in (
-            (λ has. cons.1 (elim (one.0 (subst (λ ys. Has ys u) is has)) [
-              | inl a ↦ inl (ap (λ (y : X). record { key = key; item = y }) a ∙ ap (λ (n : ℕ). record { key = n; item = x.item }) (sym same))
-              | inr b ↦ inr (rest.0 b)
-            ])),
-            (λ has. subst (λ ys. Has ys u) (sym is) (one.1 (elim (cons.0 has) [ inl a ↦ inl (ap (λ (y : Keyed ℕ X). y.item) a) | inr b ↦ inr (rest.1 b) ]))),
-          )
-      by rest false e =
-          let is : items_with eqb (x ∷ xs) key ≡ items_with eqb xs key = ap (λ t. kept_if t x.item (items_with eqb xs key)) e in (
-            (λ has. cons.1 (inr (rest.0 (subst (λ ys. Has ys u) is has)))),
-            (λ has. subst (λ ys. Has ys u) (sym is) (elim (cons.0 has) [
-              | inl a ↦ absurd (eqb-false x.key key e (sym (ap (λ (y : Keyed ℕ X). y.key) a)))
-              | inr b ↦ rest.1 b
-            ])),
-          )
 
 -- the cell is that of one of these weights of the entry
 abbrev pub IsAmong : Entry → List (Reached Rel) → Keyed ℕ Entry → Type 0

@@ -4,7 +4,7 @@ use Rattle.std.proofs.lemmas.Bool.{cases_eq}
 use Rattle.call_side.specs.Indexed.{IsFiledBy}
 use Rattle.demand_set.specs.declared.numbered.EdgeAt.{EdgeAt}
 use Rattle.lists.specs.Lists.{Has}
-use Rattle.link_indexes.proofs.Grown.{Has-push}
+use Rattle.lists.proofs.Places.{Has-push}
 use Rattle.post_star.specs.declared.key.Key.TheVariants as key
 use Rattle.post_star.specs.Groups.{Groups, IsAdded, found_at}
 use Rattle.track_tables.specs.declared.returns.Return.{Return}

@@ -5,8 +5,7 @@ use Rattle.auto_table.specs.declared.rule.Rule.{Rule}
 use Rattle.auto_table.specs.declared.rule.Rule.TheVariants as rule
 use Rattle.call_side.specs.Trails.{AreKept}
 use Rattle.lists.specs.Lists.{Adds, Has}
-use Rattle.lists.proofs.Places.{slice_get-append_left, slice_get-below, slice_get-there}
-use Rattle.link_indexes.proofs.Grown.{Has-push}
+use Rattle.lists.proofs.Places.{slice_get-append_left, slice_get-below, slice_get-there, Has-push}
 use Rattle.post_star.specs.Measures.{to_of}
 use Rattle.track_tables.specs.declared.growth.Growth.{Growth}
 use Rattle.track_tables.specs.Making.{IsGrown, IsOpenFor, IsPast}

@@ -35,12 +35,13 @@ use Rattle.track_tables.specs.declared.parts.TrackParts.{TrackParts}
 use Rattle.track_tables.specs.declared.returns.Return.{Return}
 use Rattle.track_tables.specs.Begun.{IsBegun, IsFirstWeight}
 use Rattle.track_tables.specs.Making.{AreAnswering, AreOf, AreOpenFrom, AreTrackParts, HasBegun, HasStepBy, IsEdgeOf, IsGrown, IsOnward, IsRuleBy, IsRuleOf, IsStartAt, IsTaken}
-use Rattle.track_tables.specs.Systems.{Begins, HasStart, HasStep, IsBeginning, IsEdgeStep, IsReached, IsTrackSystem}
+use Rattle.track_tables.specs.Systems.{Begins, HasStart, HasStep, IsBeginning, IsEdgeStep, IsTrackSystem}
 use Rattle.track_tables.specs.Systems as systems
 use Rattle.track_tables.proofs.Growing.{kept_has}
 use Rattle.track_tables.proofs.Upward.{in_more}
 use Rattle.weight_laws.specs.declared.rel.Rel.{Rel}
 use Rattle.weight_laws.specs.Rel.{Relates, rel_domain}
+use Rattle.spds_tables.proofs.Made.{is_edge}
 
 -- a flow is of an edge of its kind, and so on
 flow_of : (calls : List Place) (kind : EdgeKind) (first last from to : ℕ) (weight w : Rel) → IsRuleBy calls kind first last weight (rule.Flow from to w)
@@ -73,12 +74,6 @@ pop_of calls (edge.Return call) first last from mark to weight w h =
 pop_of calls (edge.Load field) first last from mark to weight w h = absurd h
 pop_of calls edge.Jump first last from mark to weight w h = absurd h
 
--- an edge by its numbers
-edge_is : (e : EdgeAt) (from to : ℕ) (kind : EdgeKind) → e.from ≡ from → e.to ≡ to → e.kind ≡ kind → e ≡ record { from = from; to = to; kind = kind }
-edge_is e from to kind a b c =
-    ap (λ (n : ℕ). record { from = n; to = e.to; kind = e.kind }) a ∙ ap (λ (n : ℕ). record { from = from; to = n; kind = e.kind }) b
-    ∙ ap (λ (k : EdgeKind). record { from = from; to = to; kind = k }) c
-
 module _ (p : LinkedProgram) (q : Asked) (d : DemandParts) (demand : IsDemandOf p q d) (edges : List EdgeAt) (numbered : AreEdgesAt d.nodes d.edges edges) where
   -- a numbered edge is one of the demand
   edge_at : (e : EdgeAt) → Has edges e → (b n : Node) → slice_get d.nodes e.from ≡ Some b → slice_get d.nodes e.to ≡ Some n → EdgeIn p q b e.kind n
@@ -103,7 +98,7 @@ module _ (p : LinkedProgram) (q : Asked) (d : DemandParts) (demand : IsDemandOf 
       let x : Edge = record { from = b; to = n; kind = kind } in
       let has = demand.edges.all x known in
       let e = each_left (IsEdgeAt d.nodes) d.edges edges has.0 x numbered has.1 in
-      let same = edge_is e.0 from to kind (demand.nodes.apart e.0.from from b e.2.from_is from_is) (demand.nodes.apart e.0.to to n e.2.to_is to_is) e.2.kind_is in
+      let same = is_edge e.0 from to kind (demand.nodes.apart e.0.from from b e.2.from_is from_is) (demand.nodes.apart e.0.to to n e.2.to_is to_is) e.2.kind_is in
       subst (Has edges) same (has.0, e.1)
 
 -- a start of a node from a base

@@ -7,7 +7,7 @@ use Rattle.lists.specs.declared.groups.Keyed.{Keyed}
 use Rattle.lists.specs.Filings.{kept_if}
 use Rattle.lists.specs.Groups.{items_with}
 use Rattle.link_indexes.specs.Rows.{AreTheIndexes}
-use Rattle.link_indexes.proofs.Filed.{AreExactly-push, AreExactly-same}
+use Rattle.lists.proofs.Exactly.{AreExactly-push, AreExactly-same}
 use Rattle.track_tables.specs.Noted.{noted_at}
 
 -- the items with a key of two lists, one behind the other

@@ -18,8 +18,7 @@ use call_side::{Calls, bases};
 use demand_set::{Demand, EdgeAt};
 use indexmap::IndexSet;
 use link_program::Linked;
-use lists::NoMemory;
-use post_star::by_key::ByKey;
+use lists::{ByKey, NoMemory};
 use post_star::key::Key;
 use post_star::{BaseStep, Common};
 use spds_rules::EdgeKind;
@@ -36,9 +35,9 @@ pub struct TrackParts {
     /// The call strings of methods, and no rules.
     strings: Arc<Common<Rel>>,
     /// The steps of these strings, by their bases.
-    steps: ByKey<BaseStep>,
+    steps: ByKey<Key, BaseStep>,
     /// The edges that don't come back from calls, by the numbers of their sources.
-    onward: ByKey<EdgeAt>,
+    onward: ByKey<Key, EdgeAt>,
     /// Those that do.
     returns: Returns,
     /// The numbers of the nodes that edges load, and of those that static fields come to.
@@ -66,7 +65,7 @@ fn is_onward(kind: EdgeKind) -> bool
 }
 
 /// Files the edge under its source, if it doesn't come back from a call.
-fn add_onward(edge: EdgeAt, onward: &mut ByKey<EdgeAt>) -> Result<(), NoMemory>
+fn add_onward(edge: EdgeAt, onward: &mut ByKey<Key, EdgeAt>) -> Result<(), NoMemory>
     ensures { OnOk result ((number : ℕ) (e : AnEdge) → Has (found_at onward.new (key.Node number)) e
         ↔ (Has (found_at onward.old (key.Node number)) e ⊎ IsOnwardFrom number edge e)) }
 {
@@ -77,7 +76,7 @@ fn add_onward(edge: EdgeAt, onward: &mut ByKey<EdgeAt>) -> Result<(), NoMemory>
 }
 
 /// The edges that don't come back from calls, by their sources.
-fn all_onward(alloc: Global, edges: &[EdgeAt]) -> Result<ByKey<EdgeAt>, NoMemory>
+fn all_onward(alloc: Global, edges: &[EdgeAt]) -> Result<ByKey<Key, EdgeAt>, NoMemory>
     ensures { IfOk result (AreOnward edges.now) }
 {
     let mut onward = ByKey::new(alloc);
@@ -88,7 +87,7 @@ fn all_onward(alloc: Global, edges: &[EdgeAt]) -> Result<ByKey<EdgeAt>, NoMemory
 }
 
 /// The base steps by their bases.
-fn by_base(alloc: Global, steps: &[BaseStep]) -> Result<ByKey<BaseStep>, NoMemory>
+fn by_base(alloc: Global, steps: &[BaseStep]) -> Result<ByKey<Key, BaseStep>, NoMemory>
     ensures { IfOk result (IsFiledBy base_key steps.now) }
 {
     let mut filed = ByKey::new(alloc);
@@ -123,7 +122,7 @@ fn all_loaded(alloc: Global, edges: &[EdgeAt]) -> Result<IndexSet<u32>, NoMemory
 #[derive(Drop)]
 struct Strings {
     common: Arc<Common<Rel>>,
-    steps: ByKey<BaseStep>,
+    steps: ByKey<Key, BaseStep>,
 }
 
 /// The call strings of methods, and no rules.
@@ -148,7 +147,7 @@ fn strings_of(alloc: Global, linked: &Linked, calls: &Calls) -> Result<Strings, 
 // Edges by what they are looked for by.
 #[derive(Drop)]
 struct Edges {
-    onward: ByKey<EdgeAt>,
+    onward: ByKey<Key, EdgeAt>,
     returns: Returns,
     loaded: IndexSet<u32>,
 }

@@ -6,8 +6,7 @@ ghost use Rattle.track_tables.specs.Returns.{AreReturns, AreReturnsFiled, IsRetu
 
 use call_side::Calls;
 use demand_set::EdgeAt;
-use lists::NoMemory;
-use post_star::by_key::ByKey;
+use lists::{ByKey, NoMemory};
 use post_star::key::Key;
 use spds_rules::EdgeKind;
 use std::alloc::Global;
@@ -24,9 +23,9 @@ pub struct Return {
 #[derive(Drop)]
 pub struct Returns {
     all: Vec<Return>,
-    by_source: ByKey<Return>,
-    by_mark: ByKey<Return>,
-    by_both: ByKey<Return>,
+    by_source: ByKey<Key, Return>,
+    by_mark: ByKey<Key, Return>,
+    by_both: ByKey<Key, Return>,
 }
 
 impl Model for Returns {
@@ -76,9 +75,9 @@ fn returns_among(alloc: Global, calls: &Calls, edges: &[EdgeAt]) -> Result<Vec<R
 /// Files the edges under all three keys.
 fn file(
     returns: &[Return],
-    by_source: &mut ByKey<Return>,
-    by_mark: &mut ByKey<Return>,
-    by_both: &mut ByKey<Return>,
+    by_source: &mut ByKey<Key, Return>,
+    by_mark: &mut ByKey<Key, Return>,
+    by_both: &mut ByKey<Key, Return>,
 ) -> Result<(), NoMemory>
     requires { AreReturnsFiled [] by_source.old by_mark.old by_both.old }
     ensures { OnOk result (AreReturnsFiled returns.now by_source.new by_mark.new by_both.new) }

@@ -1,10 +1,8 @@
 //! Sub-classing and look-ups, over rows of which the answers were found by hand.
 ghost use Rattle.std.specs.Prelude.{◌≡◌, ◌^◌, ◌<◌, length, All, IfOk};
 
-use class_tree::{
-    BodyKind, ClassRow, Defaults, FieldRow, MethodRow, PathRows, Tree, TreeError, build,
-};
-use std::alloc::{AllocError, Global};
+use class_tree::{BodyKind, ClassRow, Defaults, FieldRow, MethodRow, Tree, TreeError, build};
+use std::alloc::Global;
 use std::test::Fail;
 
 const TOP: ClassRow = ClassRow {
@@ -376,7 +374,7 @@ fn defaults(rt: HostRuntime) -> Result<(), Fail> {
     Ok(())
 }
 
-const FIRST_AND_FIFTH: [MethodRow; 2] = [
+const ALONG_THE_CHAIN: [MethodRow; 3] = [
     MethodRow {
         class: 0,
         key: 7,
@@ -385,6 +383,11 @@ const FIRST_AND_FIFTH: [MethodRow; 2] = [
     MethodRow {
         class: 5,
         key: 8,
+        body: BodyKind::Plain,
+    },
+    MethodRow {
+        class: 3,
+        key: 7,
         body: BodyKind::Plain,
     },
 ];
@@ -408,42 +411,81 @@ fn of_chain(alloc: Global) -> Result<Tree, TreeError>
         class(10),
         class(0),
     ];
-    build(alloc, &chain, &[], &FIRST_AND_FIFTH, &[])
+    build(alloc, &chain, &[], &ALONG_THE_CHAIN, &[])
 }
 
-// The way from 11 is long, and that of the others ends where it is kept or is short.
-fn long_ways_hold(alloc: Global, tree: &Tree) -> Result<bool, AllocError>
+// The class 12 stands after the chain in the order of numbers, and below its top alone.
+fn is_found_along(tree: &Tree) -> bool
     requires { length tree.now.classes ≡ 13 }
 {
-    let mut kept = PathRows::new(alloc);
-    let last = tree.on_kept_path(&mut kept, 11, 7)? == Some(0);
-    let on_the_way = kept.get(1) == Some(Some(0)) && kept.get(0).is_none();
-    let kept_then = tree.on_kept_path(&mut kept, 10, 7)? == Some(0);
-    let short = tree.on_kept_path(&mut kept, 12, 7)? == Some(0) && kept.get(12).is_none();
-    kept.keep(12, Some(0))?;
-    let by_hand = kept.get(12) == Some(Some(0));
-    Ok(last && on_the_way && kept_then && short && by_hand)
+    let below = tree.on_path(11, 7) == Some(2) && tree.on_path(3, 7) == Some(2);
+    let above = tree.on_path(2, 7) == Some(0) && tree.on_path(12, 7) == Some(0);
+    let fifth = tree.on_path(11, 8) == Some(1) && tree.on_path(5, 8) == Some(1);
+    let not_there = tree.on_path(4, 8).is_none() && tree.on_path(12, 8).is_none();
+    below && above && fifth && not_there && tree.on_path(11, 9).is_none()
 }
 
-// The method of 5 is found from below it, and not from above.
-fn way_ends_hold(alloc: Global, tree: &Tree) -> Result<bool, AllocError>
-    requires { length tree.now.classes ≡ 13 }
-{
-    let mut kept = PathRows::new(alloc);
-    let below = tree.on_kept_path(&mut kept, 11, 8)? == Some(1);
-    let above = tree.on_kept_path(&mut kept, 4, 8)?.is_none();
-    let mut of_none = PathRows::new(alloc);
-    let nowhere = tree.on_kept_path(&mut of_none, 11, 9)?.is_none() && of_none.get(3) == Some(None);
-    Ok(below && above && nowhere)
-}
-
-fn long_chain_holds(alloc: Global) -> Result<bool, TreeError> {
-    let tree = of_chain(alloc)?;
-    Ok(long_ways_hold(alloc, &tree)? && way_ends_hold(alloc, &tree)?)
+fn long_ways_hold(alloc: Global) -> Result<bool, TreeError> {
+    match of_chain(alloc) {
+        Ok(tree) => Ok(is_found_along(&tree)),
+        Err(error) => Err(error),
+    }
 }
 
 #[test]
 fn long_ways(rt: HostRuntime) -> Result<(), Fail> {
-    assert!(rt; long_chain_holds(rt.alloc())?);
+    assert!(rt; long_ways_hold(rt.alloc())?);
+    Ok(())
+}
+
+const IN_A_FOREST: [FieldRow; 6] = [
+    FieldRow { class: 0, key: 30 },
+    FieldRow { class: 2, key: 30 },
+    FieldRow { class: 3, key: 30 },
+    FieldRow { class: 4, key: 31 },
+    FieldRow { class: 6, key: 31 },
+    FieldRow { class: 0, key: 31 },
+];
+
+// Two chains, 0 to 2 and 3 to 5. The interface 6 stands alone, and 7 is below 2 and implements it.
+fn of_forest(alloc: Global) -> Result<Tree, TreeError>
+    ensures { IfOk result (λ tree. length tree.classes ≡ 8) }
+{
+    let forest = [
+        TOP,
+        class(0),
+        class(1),
+        TOP,
+        class(3),
+        class(4),
+        TOP,
+        class(2),
+    ];
+    build(alloc, &forest, &[(7, 6)], &[], &IN_A_FOREST)
+}
+
+// No interface has a field with the key 30, one has a field with the key 31, and nothing has the
+// key 32.
+fn is_found_in_forest(tree: &Tree) -> bool
+    requires { length tree.now.classes ≡ 8 }
+{
+    let hidden = tree.field(7, 30) == Some(1) && tree.field(2, 30) == Some(1);
+    let above = tree.field(1, 30) == Some(0) && tree.field(5, 30) == Some(2);
+    let interface = tree.field(7, 31) == Some(4) && tree.field(2, 31) == Some(5);
+    let other = tree.field(5, 31) == Some(3) && tree.field(3, 31).is_none();
+    let nowhere = tree.field(6, 30).is_none() && tree.field(7, 32).is_none();
+    hidden && above && interface && other && nowhere
+}
+
+fn forest_holds(alloc: Global) -> Result<bool, TreeError> {
+    match of_forest(alloc) {
+        Ok(tree) => Ok(is_found_in_forest(&tree)),
+        Err(error) => Err(error),
+    }
+}
+
+#[test]
+fn forests(rt: HostRuntime) -> Result<(), Fail> {
+    assert!(rt; forest_holds(rt.alloc())?);
     Ok(())
 }

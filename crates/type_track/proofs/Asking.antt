@@ -5,6 +5,7 @@ use Rattle.demand_set.specs.Numbers.{IsEdgeAt}
 use Rattle.track_tables.specs.Held.{AreOfDemand}
 use Rattle.lists.specs.Lists.{Has}
 use Rattle.lists.proofs.Places.{slice_get-below}
+use Rattle.query_core.proofs.OneWay.{statements_one_way}
 use Rattle.link_program.proofs.Found.{at_map}
 use Rattle.link_rules.specs.declared.code.Code.{Code}
 use Rattle.link_rules.specs.declared.code.Code.TheVariants as code
@@ -52,13 +53,6 @@ event_node p k form n (event, on) =
           (subst (λ (v : Var). HasVar at.method c false v) (sym on.receiver.2) below);
     }
 
--- no statement comes before one that comes before it
-pub one_way : (a b : Place) → ComesBefore a b → ComesBefore b a → ⊥
-one_way a b (inl p) (inl q) = omega arith
-one_way a b (inl p) (inr q) = omega arith
-one_way a b (inr p) (inl q) = omega arith
-one_way a b (inr p) (inr q) = omega arith
-
 -- a query by its parts
 asked_is : (q r : Asked) → q.targets ≡ r.targets → q.reach ≡ r.reach → q ≡ r
 asked_is q r targets reach =
@@ -68,7 +62,7 @@ asked_is q r targets reach =
 -- what a protocol asks of a program is one query
 pub query_one : (p : LinkedProgram) (k : ProtocolParts) (q r : Asked) → IsQuery p k q → IsQuery p k r → q ≡ r
 query_one p k q r one two =
-    let targets = ordered_one (λ (a b : Node). ComesBefore a.place b.place) (λ a b. one_way a.place b.place) q.targets r.targets one.ordered two.ordered
+    let targets = ordered_one (λ (a b : Node). ComesBefore a.place b.place) (λ a b. statements_one_way a.place b.place) q.targets r.targets one.ordered two.ordered
     (λ n has. (two.asked.receivers n).1 ((one.asked.receivers n).0 has)) (λ n has. (one.asked.receivers n).1 ((two.asked.receivers n).0 has)) in
     asked_is q r targets (one.asked.tracked ∙ sym two.asked.tracked)
 

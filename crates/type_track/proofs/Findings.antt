@@ -2,6 +2,7 @@
 use Rattle.std.proofs.Common.{◌≡◌, ◌↔◌, ℕ, ◌<◌, List, [], Some, None, Bool, All, length, map, refl, sym, ap, ◌∙◌, subst, arith}
 use Rattle.lists.specs.Lists.{Has}
 use Rattle.lists.proofs.Places.{slice_get-below}
+use Rattle.step_rules.proofs.Determined.{code_one}
 use Rattle.demand_set.specs.Demands.{DemandParts, IsDemandOf}
 use Rattle.demand_set.proofs.Standing.{node_site}
 use Rattle.link_laws.proofs.Lists.{all_at}
@@ -25,7 +26,6 @@ use Rattle.site_events.specs.declared.event_statement.EventStatement.{EventState
 use Rattle.site_events.specs.EventStatements.{AreEventStatements, IsEventStatement, receiver_node}
 use Rattle.track_rules.specs.Protocols.{IsProtocol, ProtocolParts}
 use Rattle.track_runs.specs.Events.{IsEventCall}
-use Rattle.track_sound.proofs.Calls.{one_code}
 use Rattle.track_systems.specs.Events.{IsEventOn, IsReceiver, IsTrackedSite, receiver_of}
 use Rattle.track_systems.specs.Findings.{AreFindings, HasNoFinding, IsFinding}
 use Rattle.track_systems.specs.Track.{Tracks}
@@ -47,7 +47,7 @@ module _ (p : LinkedProgram) (k : ProtocolParts) where
   -- a call has one receiver
   pub receiver_one : (c : Place) (v w : Var) → IsReceiver p c v → IsReceiver p c w → v ≡ w
   receiver_one c v w one two =
-      let same = one_code p c.method c.index one.1.code two.1.code one.1.at two.1.at in
+      let same = code_one p c.method c.index one.1.code two.1.code one.1.at two.1.at in
       let first : receiver_of two.1.code ≡ Some one.0 = subst (λ (d : Code). receiver_of d ≡ Some one.0) same one.1.is_so in
       let second = two.1.is_so in
       let x : one.0 ≡ two.0 = cc in

@@ -4,9 +4,9 @@ use Rattle.std.specs.List.{AllPairs}
 use Rattle.std.proofs.lemmas.Bool.{cases_lt}
 use Rattle.std.proofs.lemmas.List.{append-nil, append_assoc, get_or-append_right, get_or_append_left}
 use Rattle.std.proofs.lemmas.Option.{slice_get-get_or}
-use Rattle.lists.specs.Lists.{Has}
-use Rattle.link_indexes.specs.Rows.{AreExactly}
-use Rattle.demand_set.proofs.Appended.{Has-append_left, Has-append_right, Has-appended, Has-one}
+use Rattle.lists.specs.Lists.{Has, AreExactly}
+use Rattle.lists.proofs.Joined.{Has-either, Has-left, Has-right}
+use Rattle.demand_set.proofs.Appended.{Has-one}
 use Rattle.type_track.specs.Growing.{GrowsBy}
 
 module _ {X : Type 0} (Precedes : X → X → Type 0) where
@@ -67,10 +67,10 @@ module _ {X : Type 0} (Precedes : X → X → Type 0) where
     grown = two.grown ∙ ap (λ xs. xs ++ two.added) one.grown ∙ append_assoc old one.added two.added;
     exact = record {
       each = λ x. (
-        (λ has. (either x).1 (elim (Has-appended one.added two.added x has) [ inl a ↦ inl ((one.exact.each x).0 a) | inr b ↦ inr ((two.exact.each x).0 b) ])),
+        (λ has. (either x).1 (elim (Has-either one.added two.added x has) [ inl a ↦ inl ((one.exact.each x).0 a) | inr b ↦ inr ((two.exact.each x).0 b) ])),
         (λ h. elim ((either x).0 h) [
-          | inl a ↦ Has-append_left one.added two.added x ((one.exact.each x).1 a)
-          | inr b ↦ Has-append_right one.added two.added x ((two.exact.each x).1 b)
+          | inl a ↦ Has-left one.added two.added x ((one.exact.each x).1 a)
+          | inr b ↦ Has-right one.added two.added x ((two.exact.each x).1 b)
         ]),
       );
       ordered = AllPairs-append one.added two.added one.exact.ordered two.exact.ordered

@@ -2,9 +2,8 @@
 use Rattle.std.proofs.Common.{◌≡◌, ◌<◌, ℕ, false, List, [], ◌∷◌, ◌++◌, Some, length, slice_get, inl, inr, refl, sym, ap, ◌∙◌, subst}
 use Rattle.std.proofs.lemmas.List.{map-append}
 use Rattle.lists.specs.Lists.{Has}
-use Rattle.lists.proofs.Places.{slice_get-below}
-use Rattle.link_indexes.proofs.Grown.{Has-push}
-use Rattle.link_program.proofs.Found.{from_map}
+use Rattle.lists.proofs.Places.{slice_get-below, Has-push}
+use Rattle.lists.proofs.Joined.{slice_get-mapped}
 use Rattle.spds_rules.specs.declared.node.Node.{Node}
 use Rattle.site_events.specs.declared.event_statement.EventStatement.{EventStatement}
 use Rattle.site_events.specs.EventStatements.{receiver_node}
@@ -27,7 +26,7 @@ module _ (nodes : List Node) where
   pub receivers_below : (statements : List EventStatement) (receivers : List Receiver) → AreReceivers nodes statements receivers → (number : ℕ) → Has (numbers_of receivers) number
       → number < length nodes
   receivers_below statements receivers are number has =
-      let r = from_map (λ (x : Receiver). x.node) receivers has.0 number has.1 in
+      let r = slice_get-mapped (λ (x : Receiver). x.node) receivers has.0 number has.1 in
       slice_get-below nodes number (receiver_node r.0.statement) (subst (λ (n : ℕ). slice_get nodes n ≡ Some (receiver_node r.0.statement)) r.2 (are.numbered r.0 (has.0, r.1)))
 
 -- what is read where no receiver is

@@ -4,7 +4,8 @@ use Rattle.std.specs.Global.{Vec}
 use Rattle.std.proofs.lemmas.Option.{get_or_from_slice_get}
 use Rattle.lists.specs.Lists.{Has}
 use Rattle.lists.specs.Groups.{found_at}
-use Rattle.link_program.proofs.Found.{at_map, from_map}
+use Rattle.lists.proofs.Joined.{slice_get-mapped}
+use Rattle.link_program.proofs.Found.{at_map}
 use Rattle.link_rules.specs.Linked.{LinkedProgram}
 use Rattle.link_sites.specs.declared.place.Place.{Place}
 use Rattle.link_sites.specs.declared.site.Site.{Site}
@@ -66,7 +67,7 @@ module _ (q : Asked) (s : Search) (posed : IsPosed q s) where
       held : (e : EventStatement) → Has posed.statements e → IsAnswered p q (receiver_node e) a → ⊥
       held e has answered =
           let listed : slice_get (map (λ (x : Receiver). x.statement) s.receivers.now) has.0 ≡ Some e = subst (λ (ss : List EventStatement). slice_get ss has.0 ≡ Some e) (sym posed.receivers.in_order) has.1 in
-          let r = from_map (λ (x : Receiver). x.statement) s.receivers.now has.0 e listed in
+          let r = slice_get-mapped (λ (x : Receiver). x.statement) s.receivers.now has.0 e listed in
           none r.0 (has.0, r.1) (subst (λ (x : EventStatement). IsAnswered p q (receiver_node x) a) (sym r.2) answered)
 
   -- nor where the protocol doesn't speak of its objects
@@ -78,7 +79,7 @@ module _ (q : Asked) (s : Search) (posed : IsPosed q s) where
     pub held_at : (i : ℕ) → Has (found_at eqb s.held.now number) i → (r : Receiver) × (slice_get s.receivers.now i ≡ Some r) × IsAnswered p q (receiver_node r.statement) a
     held_at i has =
         let is = ((posed.held number a there).each i).0 has in
-        let r = from_map (λ (x : Receiver). x.node) s.receivers.now i is.number is.here in
+        let r = slice_get-mapped (λ (x : Receiver). x.node) s.receivers.now i is.number is.here in
         let node = posed.receivers.numbered r.0 (i, r.1) in
         let read = subst (λ (n : ℕ). slice_get s.given.demand.now.nodes n ≡ Some is.node) (sym r.2) is.there in
         let same : is.node ≡ receiver_node r.0.statement = cc in
@@ -100,7 +101,7 @@ module _ (q : Asked) (s : Search) (posed : IsPosed q s) where
       (λ has. let r = held_at i has in (r.0.statement, at_statement i r.0 r.1, r.2)),
       (λ h.
           let listed : slice_get (map (λ (x : Receiver). x.statement) s.receivers.now) i ≡ Some h.0 = subst (λ (ss : List EventStatement). slice_get ss i ≡ Some h.0) (sym posed.receivers.in_order) h.1 in
-          let r = from_map (λ (x : Receiver). x.statement) s.receivers.now i h.0 listed in
+          let r = slice_get-mapped (λ (x : Receiver). x.statement) s.receivers.now i h.0 listed in
           at_held i r.0 r.1 (subst (λ (x : EventStatement). IsAnswered p q (receiver_node x) a) (sym r.2) h.2)),
     )
 

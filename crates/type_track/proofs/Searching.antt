@@ -4,18 +4,16 @@ use Rattle.std.specs.Global.{Vec}
 use Rattle.std.specs.List.{AllPairs, flat_map}
 use Rattle.std.proofs.lemmas.List.{flat_map_more, length-map, take_all}
 use Rattle.std.proofs.lemmas.Option.{get_or_from_slice_get}
-use Rattle.lists.specs.Lists.{Has}
-use Rattle.lists.proofs.Places.{slice_get-there}
-use Rattle.link_indexes.specs.Rows.{AreExactly}
-use Rattle.link_indexes.proofs.Grown.{Has-push, take-next}
-use Rattle.link_program.proofs.Found.{at_map, from_map}
+use Rattle.lists.specs.Lists.{Has, AreExactly}
+use Rattle.lists.proofs.Places.{slice_get-there, Has-push, take-next}
+use Rattle.lists.proofs.Joined.{AllPairs-at, slice_get-mapped}
+use Rattle.link_program.proofs.Found.{at_map}
 use Rattle.link_rules.specs.Linked.{LinkedProgram}
 use Rattle.link_sites.specs.declared.place.Place.{Place}
 use Rattle.link_sites.specs.declared.site.Site.{Site}
 use Rattle.link_sites.specs.Places.{ComesBefore}
 use Rattle.link_sites.specs.Sites.{Precedes}
-use Rattle.query_core.proofs.OneWay.{sites_one_way}
-use Rattle.query_core.proofs.Ordered.{AllPairs-at}
+use Rattle.query_core.proofs.OneWay.{sites_one_way, statements_one_way}
 use Rattle.spds_laws.proofs.Found.{slice_get-taken}
 use Rattle.spds_rules.specs.Answers.{IsAnswered}
 use Rattle.spds_rules.specs.Demand.{Asked}
@@ -28,7 +26,6 @@ use Rattle.track_verdicts.specs.Found.{found_of}
 use Rattle.type_track.specs.declared.receivers.Receiver.{Receiver}
 use Rattle.type_track.specs.Growing.{GrowsBy}
 use Rattle.type_track.specs.Findings.{IsKeptBefore, IsOneFinding, IsFindingAt, IsFindingOf}
-use Rattle.type_track.proofs.Asking.{one_way}
 use Rattle.type_track.proofs.Findings.{answered_at, found_at}
 use Rattle.type_track.proofs.Growing.{grows_more, grows_none, grows_same, grown_exactly}
 
@@ -38,7 +35,7 @@ earlier : (receivers : List Receiver) (statements : List EventStatement) → map
 earlier receivers statements in_order ordered i j r x less there here =
     let first : slice_get statements i ≡ Some r.statement = subst (λ (ss : List EventStatement). slice_get ss i ≡ Some r.statement) in_order (at_map (λ (y : Receiver). y.statement) receivers i r there) in
     let second : slice_get statements j ≡ Some x.statement = subst (λ (ss : List EventStatement). slice_get ss j ≡ Some x.statement) in_order (at_map (λ (y : Receiver). y.statement) receivers j x here) in
-    AllPairs-at StandsBefore (λ a b. one_way a.place b.place) statements i j r.statement x.statement ordered less first second
+    AllPairs-at StandsBefore statements i j r.statement x.statement ordered less first second
 
 module _ (p : LinkedProgram) (k : ProtocolParts) (q : Asked) (a : Site) (receivers : List Receiver) where
   -- a finding of the site at one of the event statements at these places
@@ -83,7 +80,7 @@ module _ (p : LinkedProgram) (k : ProtocolParts) (q : Asked) (a : Site) (receive
           before : (f g : Finding) → IsFindingAmong (take index places) f → IsFindingAt p k q a x.statement g → IsKeptBefore p f g
           before f g h h' =
               let was = slice_get-taken index places h.has.0 h.place h.has.1 in
-              let less = AllPairs-at (λ i j. i < j) (λ i j u v. omega (arith, u, v)) places h.has.0 index h.place i increasing was.0 was.1 at in
+              let less = AllPairs-at (λ i j. i < j) places h.has.0 index h.place i increasing was.0 was.1 at in
               let stands = earlier receivers statements in_order are.ordered h.place i h.receiver x less h.there here in
               let first : ComesBefore f.place x.statement.place = subst (λ (c : Place). ComesBefore c x.statement.place) (sym h.is_at.place) stands in
               inr (h.is_at.site ∙ sym h'.site, inl (subst (λ (c : Place). ComesBefore f.place c) (sym h'.place) first))
@@ -95,7 +92,7 @@ module _ (p : LinkedProgram) (k : ProtocolParts) (q : Asked) (a : Site) (receive
         (λ h.
             let s = found_at p k q statements are a f h.0 h.1 in
             let there : slice_get (map (λ (y : Receiver). y.statement) receivers) s.1.0 ≡ Some s.0 = subst (λ (ss : List EventStatement). slice_get ss s.1.0 ≡ Some s.0) (sym in_order) s.1.1 in
-            let r = from_map (λ (y : Receiver). y.statement) receivers s.1.0 s.0 there in
+            let r = slice_get-mapped (λ (y : Receiver). y.statement) receivers s.1.0 s.0 there in
             let is_at = subst (λ (x : EventStatement). IsFindingAt p k q a x f) (sym r.2) s.2 in
             record {
               place = s.1.0;
@@ -126,7 +123,7 @@ module _ (p : LinkedProgram) (k : ProtocolParts) (q : Asked) where
       before : (f g : Finding) → IsFindingIn (take i sites) f → IsFindingOf p k q a g → IsKeptBefore p f g
       before f g h h' =
           let there = slice_get-taken i sites h.1.0 f.site h.1.1 in
-          let precedes = AllPairs-at (Precedes p) (sites_one_way p) sites h.1.0 i f.site a ordered there.0 there.1 here in
+          let precedes = AllPairs-at (Precedes p) sites h.1.0 i f.site a ordered there.0 there.1 here in
           inl (subst (λ (b : Site). Precedes p f.site b) (sym h'.1) precedes)
 
       more : (f : Finding) → IsFindingIn (take i sites ++ a ∷ []) f ↔ (IsFindingIn (take i sites) f ⊎ IsFindingOf p k q a f)
@@ -167,7 +164,7 @@ module _ (p : LinkedProgram) (k : ProtocolParts) (q : Asked) where
   named findings exact = record {
     each = λ f. (
       (λ has.
-          let x = from_map found_of findings has.0 f has.1 in
+          let x = slice_get-mapped found_of findings has.0 f has.1 in
           let is : IsFound p k q (found_of x.0) = (exact.each x.0).0 (has.0, x.1) in
           subst (IsFound p k q) x.2 is),
       (λ is.

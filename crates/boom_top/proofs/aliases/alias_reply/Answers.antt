@@ -15,11 +15,11 @@ aliased-requires-clause-sites g c =
 pub returns-in-Ok : goal.returns-in-Ok
 returns-in-Ok g c =
     let a = c.in-Ok.ensures.answer in
-    alias_told c.args.linked.now (alias_of c.args.asked.now) c.aliased.result a.0 a.1 c.in-Ok.shared.sites c.in-Ok.shared.demanded a.2 a.3 c.in-Ok.ensures.within
+    alias_told c.args.linked.now (alias_of c.args.asked.now c.args.second.now) c.aliased.result a.0 a.1 c.in-Ok.shared.sites c.in-Ok.shared.demanded a.2 a.3 c.in-Ok.ensures.within
     c.aliased.ensures.done c.aliased.ensures.text
 
 pub returns-in-Err : goal.returns-in-Err
 returns-in-Err g c =
-    alias_refused c.args.linked.now (alias_of c.args.asked.now) c.not_answered.result c.in-Err.error
+    alias_refused c.args.linked.now (alias_of c.args.asked.now c.args.second.now) c.not_answered.result c.in-Err.error
     (record { missing = c.not_answered.ensures.missing; over = c.not_answered.ensures.over; no_memory = c.not_answered.ensures.no_memory })
     (λ which e. (c.in-Err.ensures.missing which).0 (ap Err e)) (λ spent e. c.in-Err.ensures.over spent (ap Err e))

@@ -26,7 +26,7 @@ returns-in-Ok g c =
           demanded = demanded;
           answer = c.in-Ok.ensures.answer;
           affordable = c.in-Ok.ensures.within;
-          told = subst (λ (x : List ℕ). IsPathText c.args.linked.now c.args.node c.args.asked.now.fields.now sites demanded x) t.text_is t;
+          told = subst (λ (x : List ℕ). IsPathText c.args.linked.now c.args.node c.args.path.now sites demanded x) t.text_is t;
         },
         done,
       ),
@@ -37,5 +37,5 @@ pub returns-in-Err-OverBudget : goal.returns-in-Err-OverBudget
 returns-in-Err-OverBudget g c =
     let spent = c.in-Err-OverBudget.budget in
     let a = c.in-Err-OverBudget.ensures.over spent (ap Err c.in-Err-OverBudget.field-0-is) in
-    told (IsFieldsReply c.args.linked.now (paths_of c.args.asked.now) c.args.node c.args.fields.now) c.refused.result (status.OverBudget spent) (rw c.in-Err-OverBudget.field-0-is at c.refused.ensures)
+    told (IsFieldsReply c.args.linked.now (paths_of c.args.asked.now c.args.path.now) c.args.node c.args.fields.now) c.refused.result (status.OverBudget spent) (rw c.in-Err-OverBudget.field-0-is at c.refused.ensures)
     (inl (a.1, (ap status.OverBudget a.0, ap (λ b. refusal (status.OverBudget b) ∷ []) a.0)))

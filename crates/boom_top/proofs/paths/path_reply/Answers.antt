@@ -12,10 +12,10 @@ node_reply-requires-clause-node g c κs within =
 
 pub returns-in-Ok : goal.returns-in-Ok
 returns-in-Ok g c =
-    passed (IsPathFrom c.args.linked.now (paths_of c.args.asked.now) c.in-Ok.node) (IsPathReply c.args.linked.now (paths_of c.args.asked.now)) c.node_reply.result
+    passed (IsPathFrom c.args.linked.now (paths_of c.args.asked.now c.args.path.now) c.in-Ok.node) (IsPathReply c.args.linked.now (paths_of c.args.asked.now c.args.path.now)) c.node_reply.result
     (λ s lines h. inr (c.in-Ok.node, c.in-Ok.ensures.ok, h)) c.node_reply.ensures
 
 pub returns-in-Err : goal.returns-in-Err
 returns-in-Err g c =
-    told (IsPathReply c.args.linked.now (paths_of c.args.asked.now)) c.refused.result (status.NoSuchPlace c.in-Err.which) c.refused.ensures
+    told (IsPathReply c.args.linked.now (paths_of c.args.asked.now c.args.path.now)) c.refused.result (status.NoSuchPlace c.in-Err.which) c.refused.ensures
     (inl (c.in-Err.which, c.in-Err.ensures.missing, (refl, refl)))

@@ -21,7 +21,7 @@ refined_answer-requires-clause-target g c =
 
 pub refined_answer-requires-clause-sites : goal.refined_answer-requires-clause-sites
 refined_answer-requires-clause-sites g c =
-    refined_sites_stand c.args.linked.now c.requires.well c.args.asked.now.rounds c.args.asked.now.budget c.args.node c.in-Ok.answer.narrowed c.in-Ok.answer.sites
+    refined_sites_stand c.args.linked.now c.requires.well c.args.rounds c.args.asked.now.budget c.args.node c.in-Ok.answer.narrowed c.in-Ok.answer.sites
     c.in-Ok.answer.demanded c.in-Ok.ensures.answer
 
 pub returns-in-Ok : goal.returns-in-Ok
@@ -47,5 +47,5 @@ pub returns-in-Err-OverBudget : goal.returns-in-Err-OverBudget
 returns-in-Err-OverBudget g c =
     let spent = c.in-Err-OverBudget.budget in
     let a = c.in-Err-OverBudget.ensures.over spent (ap Err c.in-Err-OverBudget.field-0-is) in
-    told (IsRefinedNodeReply c.args.linked.now (refined_of c.args.asked.now) c.args.node) c.refused.result (status.OverBudget spent) (rw c.in-Err-OverBudget.field-0-is at c.refused.ensures)
+    told (IsRefinedNodeReply c.args.linked.now (refined_of c.args.asked.now c.args.rounds) c.args.node) c.refused.result (status.OverBudget spent) (rw c.in-Err-OverBudget.field-0-is at c.refused.ensures)
     (inl (a.1, (ap status.OverBudget a.0, ap (λ b. refusal (status.OverBudget b) ∷ []) a.0)))

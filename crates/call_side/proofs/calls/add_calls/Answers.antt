@@ -1,6 +1,5 @@
 use Rattle.std.proofs.Common.{◌≡◌, ◌≤◌, ◌+◌, ◌++◌, ◌∷◌, [], ℕ, false, true, Some, length, slice_get, refl, sym, subst}
-use Rattle.lists.proofs.Places.{slice_get-there}
-use Rattle.link_indexes.proofs.Grown.{slice_get-read}
+use Rattle.lists.proofs.Places.{slice_get-there, slice_get-read}
 use Rattle.link_sites.specs.Places.{before}
 use Rattle.call_side.specs.Calls.{AreCallsUpTo}
 use Rattle.call_side.proofs.Counted.{calls_end, calls_more, calls_skip}

@@ -2,7 +2,7 @@ use Rattle.cert_work.proofs.Growing.{added_more, held_more, there_more}
 use Rattle.cert_work.proofs.along.enter.Goals as goal
 
 pub link-requires-clause-held : goal.link-requires-clause-held
-link-requires-clause-held c = held_more c.args.view.now.linked.now c.args.view.now.target c.in_ok-pass.ensures.added c.args.held c.requires.held
+link-requires-clause-held c = held_more c.args.view.now.linked.now c.args.view.now.target c.in_ok-pass.ensures.added c.args.held.now c.requires.held
 
 pub returns-clause-added : goal.returns-clause-added
 returns-clause-added c = added_more c.args.view.now.linked.now c.args.view.now.target c.in_ok-pass.ensures.added c.in_ok-link.ensures.added

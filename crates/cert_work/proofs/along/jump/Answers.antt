@@ -2,4 +2,4 @@ use Rattle.cert_work.proofs.Giving.{jump_gives}
 use Rattle.cert_work.proofs.along.jump.Goals as goal
 
 pub add-requires-clause-gives : goal.add-requires-clause-gives
-add-requires-clause-gives c = jump_gives c.args.view.now c.args.written.now c.args.held c.requires.held c.args.edge c.requires.edge c.requires.from c.requires.side c.requires.kind
+add-requires-clause-gives c = jump_gives c.args.view.now c.args.written.now c.args.held.now c.requires.held c.args.edge.now c.requires.edge c.requires.from c.requires.side c.requires.kind

@@ -2,7 +2,7 @@ use Rattle.std.proofs.Common.{ℕ, List, arith, ◌∙◌, subst, sym}
 use Rattle.std.proofs.lemmas.List.{take_all}
 use Rattle.std.proofs.lemmas.Option.{slice_get-get_or}
 use Rattle.lists.specs.Lists.{Has}
-use Rattle.cert_laws.proofs.Givens.{slice_get-taken}
+use Rattle.lists.proofs.Joined.{slice_get-taken}
 use Rattle.spds_rules.specs.declared.edge.Edge.{Edge}
 use Rattle.cert_work.specs.Roads.{EdgeOf}
 use Rattle.cert_work.specs.Rules.{IsPopped}
@@ -34,9 +34,9 @@ loop-taker-preserved c =
     let new = c.pop_taker.new.written in
     record {
       added = added_more c.args.view.now.linked.now c.args.view.now.target was.added now.added;
-      there = each_next (λ (i : ℕ). (e : Edge) → EdgeOf c.args.view.now e → IsPopped new i c.args.below.number e) c.args.takers.now c.loop-taker.taker-index _
+      there = each_next (λ (i : ℕ). (e : Edge) → EdgeOf c.args.view.now e → IsPopped new i c.args.below.now.number e) c.args.takers.now c.loop-taker.taker-index _
           (slice_get-get_or _ _ _ c.loop-taker-test.true)
-          (λ i has. λ e along. popped_more c.args.view.now.linked.now c.args.view.now.target now.added i c.args.below.number e (let a = cites_low c.args.written.now.given i _ ((c.requires.takers i (has.0, slice_get-taken c.loop-taker.taker-index c.args.takers.now has.0 i has.1)).1) in let b = many_more c.args.view.now.linked.now c.args.view.now.target was.added in omega arith) (let a = cites_low c.args.written.now.given c.args.below.number _ (c.requires.below) in let b = many_more c.args.view.now.linked.now c.args.view.now.target was.added in omega arith) (was.there i has e along)) now.there;
+          (λ i has. λ e along. popped_more c.args.view.now.linked.now c.args.view.now.target now.added i c.args.below.now.number e (let a = cites_low c.args.written.now.given i _ ((c.requires.takers i (has.0, slice_get-taken c.loop-taker.taker-index c.args.takers.now has.0 i has.1)).1) in let b = many_more c.args.view.now.linked.now c.args.view.now.target was.added in omega arith) (let a = cites_low c.args.written.now.given c.args.below.now.number _ (c.requires.below) in let b = many_more c.args.view.now.linked.now c.args.view.now.target was.added in omega arith) (was.there i has e along)) now.there;
     }
 
 pub returns-clause-there : goal.returns-clause-there

@@ -2,7 +2,7 @@ use Rattle.std.proofs.Common.{ℕ, List, arith, subst, sym}
 use Rattle.std.proofs.lemmas.List.{take_all}
 use Rattle.std.proofs.lemmas.Option.{slice_get-get_or}
 use Rattle.lists.specs.Lists.{Has}
-use Rattle.cert_laws.proofs.Givens.{slice_get-taken}
+use Rattle.lists.proofs.Joined.{slice_get-taken}
 use Rattle.link_sites.specs.declared.site.Site.{Site}
 use Rattle.spds_rules.specs.declared.node.Node.{Node}
 use Rattle.cert_work.specs.Roads.{StartOf}
@@ -22,7 +22,7 @@ pub put_met-requires-clause-met : goal.put_met-requires-clause-met
 put_met-requires-clause-met c = stored_kept c.args.view.now.linked.now c.args.view.now.target c.loop-met.invariant.added _ _ (c.requires.mets _ (c.loop-met.met-index, slice_get-get_or _ _ _ c.loop-met-test.true))
 
 pub put_met-requires-clause-held : goal.put_met-requires-clause-held
-put_met-requires-clause-held c = held_more c.args.view.now.linked.now c.args.view.now.target c.loop-met.invariant.added c.args.held c.requires.held
+put_met-requires-clause-held c = held_more c.args.view.now.linked.now c.args.view.now.target c.loop-met.invariant.added c.args.held.now c.requires.held
 
 pub loop-met-preserved : goal.loop-met-preserved
 loop-met-preserved c =
@@ -32,9 +32,9 @@ loop-met-preserved c =
     let new = c.put_met.new.written in
     record {
       added = added_more c.args.view.now.linked.now c.args.view.now.target was.added now.added;
-      there = each_next (λ (i : ℕ). (base : Site) (n : Node) → StartOf c.args.view.now base n → IsPut new c.args.held.number i base n) c.args.mets.now c.loop-met.met-index _
+      there = each_next (λ (i : ℕ). (base : Site) (n : Node) → StartOf c.args.view.now base n → IsPut new c.args.held.now.number i base n) c.args.mets.now c.loop-met.met-index _
           (slice_get-get_or _ _ _ c.loop-met-test.true)
-          (λ i has. λ base n start. put_more c.args.view.now.linked.now c.args.view.now.target now.added c.args.held.number i base n (let a = cites_low c.args.written.now.given c.args.held.number _ (c.requires.held.gives) in let b = many_more c.args.view.now.linked.now c.args.view.now.target was.added in omega arith) (let a = cites_low c.args.written.now.given i _ ((c.requires.mets i (has.0, slice_get-taken c.loop-met.met-index c.args.mets.now has.0 i has.1)).3) in let b = many_more c.args.view.now.linked.now c.args.view.now.target was.added in omega arith) (was.there i has base n start)) now.there;
+          (λ i has. λ base n start. put_more c.args.view.now.linked.now c.args.view.now.target now.added c.args.held.now.number i base n (let a = cites_low c.args.written.now.given c.args.held.now.number _ (c.requires.held.gives) in let b = many_more c.args.view.now.linked.now c.args.view.now.target was.added in omega arith) (let a = cites_low c.args.written.now.given i _ ((c.requires.mets i (has.0, slice_get-taken c.loop-met.met-index c.args.mets.now has.0 i has.1)).3) in let b = many_more c.args.view.now.linked.now c.args.view.now.target was.added in omega arith) (was.there i has base n start)) now.there;
     }
 
 pub returns-clause-there : goal.returns-clause-there

@@ -2,7 +2,7 @@ use Rattle.std.proofs.Common.{ℕ, List, arith, subst, sym}
 use Rattle.std.proofs.lemmas.List.{take_all}
 use Rattle.std.proofs.lemmas.Option.{slice_get-get_or}
 use Rattle.lists.specs.Lists.{Has}
-use Rattle.cert_laws.proofs.Givens.{slice_get-taken}
+use Rattle.lists.proofs.Joined.{slice_get-taken}
 use Rattle.link_sites.specs.declared.site.Site.{Site}
 use Rattle.spds_rules.specs.declared.node.Node.{Node}
 use Rattle.cert_work.specs.Roads.{StartOf}
@@ -32,9 +32,9 @@ loop-object-preserved c =
     let new = c.put_object.new.written in
     record {
       added = added_more c.args.view.now.linked.now c.args.view.now.target was.added now.added;
-      there = each_next (λ (i : ℕ). (base : Site) (n : Node) → StartOf c.args.view.now base n → IsPut new i c.args.meeting.number base n) c.args.objects.now c.loop-object.object-index _
+      there = each_next (λ (i : ℕ). (base : Site) (n : Node) → StartOf c.args.view.now base n → IsPut new i c.args.meeting.now.number base n) c.args.objects.now c.loop-object.object-index _
           (slice_get-get_or _ _ _ c.loop-object-test.true)
-          (λ i has. λ base n start. put_more c.args.view.now.linked.now c.args.view.now.target now.added i c.args.meeting.number base n (let a = cites_low c.args.written.now.given i _ ((c.requires.objects i (has.0, slice_get-taken c.loop-object.object-index c.args.objects.now has.0 i has.1)).2) in let b = many_more c.args.view.now.linked.now c.args.view.now.target was.added in omega arith) (let a = cites_low c.args.written.now.given c.args.meeting.number _ (c.requires.meets) in let b = many_more c.args.view.now.linked.now c.args.view.now.target was.added in omega arith) (was.there i has base n start)) now.there;
+          (λ i has. λ base n start. put_more c.args.view.now.linked.now c.args.view.now.target now.added i c.args.meeting.now.number base n (let a = cites_low c.args.written.now.given i _ ((c.requires.objects i (has.0, slice_get-taken c.loop-object.object-index c.args.objects.now has.0 i has.1)).2) in let b = many_more c.args.view.now.linked.now c.args.view.now.target was.added in omega arith) (let a = cites_low c.args.written.now.given c.args.meeting.now.number _ (c.requires.meets) in let b = many_more c.args.view.now.linked.now c.args.view.now.target was.added in omega arith) (was.there i has base n start)) now.there;
     }
 
 pub returns-clause-there : goal.returns-clause-there

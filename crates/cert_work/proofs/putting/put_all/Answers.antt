@@ -18,10 +18,10 @@ loop-start-init c = record {
 }
 
 pub put-requires-clause-held : goal.put-requires-clause-held
-put-requires-clause-held c = held_more c.args.view.now.linked.now c.args.view.now.target c.loop-start.invariant.added c.args.held c.requires.held
+put-requires-clause-held c = held_more c.args.view.now.linked.now c.args.view.now.target c.loop-start.invariant.added c.args.held.now c.requires.held
 
 pub put-requires-clause-meeting : goal.put-requires-clause-meeting
-put-requires-clause-meeting c = meeting_more c.args.view.now.linked.now c.args.view.now.target c.loop-start.invariant.added c.args.held c.args.meeting c.requires.meeting
+put-requires-clause-meeting c = meeting_more c.args.view.now.linked.now c.args.view.now.target c.loop-start.invariant.added c.args.held.now c.args.meeting.now c.requires.meeting
 
 pub put-requires-clause-start : goal.put-requires-clause-start
 put-requires-clause-start c = (c.starts-starts.ensures _).0 (c.loop-start.start-index, slice_get-get_or _ _ _ c.loop-start-test.true)
@@ -32,15 +32,15 @@ loop-start-preserved c =
     let now = c.in_ok-put.ensures in
     record {
       added = added_more c.args.view.now.linked.now c.args.view.now.target was.added now.added;
-      there = each_next (λ (y : Node). GoesInto c.put.new.written c.args.held.length c.args.held.side c.args.held.site c.args.held.entry c.args.meeting.store.field y) c.starts-starts.result.now c.loop-start.start-index _ (slice_get-get_or _ _ _ c.loop-start-test.true)
-          (λ y has. goes_into_more c.args.view.now.linked.now c.args.view.now.target now.added c.args.held.length c.args.held.side c.args.held.site c.args.held.entry c.args.meeting.store.field y (was.there y has)) now.there;
+      there = each_next (λ (y : Node). GoesInto c.put.new.written c.args.held.now.length c.args.held.now.side c.args.held.now.site c.args.held.now.entry c.args.meeting.now.store.field y) c.starts-starts.result.now c.loop-start.start-index _ (slice_get-get_or _ _ _ c.loop-start-test.true)
+          (λ y has. goes_into_more c.args.view.now.linked.now c.args.view.now.target now.added c.args.held.now.length c.args.held.now.side c.args.held.now.site c.args.held.now.entry c.args.meeting.now.store.field y (was.there y has)) now.there;
     }
 
 pub returns-clause-there : goal.returns-clause-there
 returns-clause-there c =
     let all = take_all c.loop-start.start-index c.starts-starts.result.now (omega arith) in
     let added = c.loop-start.invariant.added in
-    λ base n start. put_of c.loop-start.written c.args.held (held_more c.args.view.now.linked.now c.args.view.now.target added c.args.held c.requires.held) c.args.meeting
-    (meeting_more c.args.view.now.linked.now c.args.view.now.target added c.args.held c.args.meeting c.requires.meeting) base n
+    λ base n start. put_of c.loop-start.written c.args.held.now (held_more c.args.view.now.linked.now c.args.view.now.target added c.args.held.now c.requires.held) c.args.meeting.now
+    (meeting_more c.args.view.now.linked.now c.args.view.now.target added c.args.held.now c.args.meeting.now c.requires.meeting) base n
     (λ into. c.loop-start.invariant.there n (subst (λ (xs : List Node). Has xs n) (sym all)
     ((c.starts-starts.ensures n).1 (subst (λ (o : Site). StartOf c.args.view.now o n) (sym into) start))))

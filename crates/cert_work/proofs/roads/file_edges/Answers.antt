@@ -13,7 +13,7 @@ pub loop-edge-preserved : goal.loop-edge-preserved
 loop-edge-preserved c =
     edges_next c.args.edges.now c.loop-edge.edge-index _ (slice_get-get_or _ _ _ c.loop-edge-test.true)
     (λ (n : Node) (e : Edge). Has (found_at of_node.eq-value.it c.loop-edge.files n) e) (λ (n : Node) (e : Edge). Has (found_at of_node.eq-value.it c.add.new.self n) e)
-    c.in_ok-add.ensures c.loop-edge.invariant
+    c.in_ok-add.ensures.has c.loop-edge.invariant
 
 pub returns : goal.returns
 returns c =

@@ -13,4 +13,4 @@ returns c =
     let is : IsNode c.args.linked.now c.args.node = c.is_node.ensures.0 (search rules) in
     let at : site_of c.args.node ≡ Some c.in-Some.site = cc (c.site_of.ensures, c.in-Some.is) in
     start_one c.args.linked.now c.args.node c.in-Some.site is at (λ (k : Origin) (n : Node). Has (found_at origin.eq-value.it c.args.files.now k) n)
-    (λ (k : Origin) (n : Node). Has (found_at origin.eq-value.it c.add.new.self k) n) c.in_ok-add.ensures
+    (λ (k : Origin) (n : Node). Has (found_at origin.eq-value.it c.add.new.self k) n) c.in_ok-add.ensures.has

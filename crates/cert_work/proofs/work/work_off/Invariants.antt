@@ -1,12 +1,12 @@
 use Rattle.std.proofs.Common.{◌-◌, ◌^◌}
 use Rattle.cert_work.specs.Roads.{AreAddedIn}
-use Rattle.cert_work.specs.Work.{IsWorkOf}
+use Rattle.cert_work.specs.Work.{IsWorkingOf}
 use Rattle.cert_work.proofs.work.work_off.Given as goal
 
 abbrev pub invariant-loop-work : goal.invariant-loop-work
 invariant-loop-work l = record {
   added : AreAddedIn l.view l.fn.work.written l.work.written;
-  work : IsWorkOf l.view l.work;
+  work : IsWorkingOf l.view l.work;
 }
 
 abbrev pub decreases-loop-work : goal.decreases-loop-work

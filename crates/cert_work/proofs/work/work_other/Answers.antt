@@ -30,17 +30,17 @@ returns-clause-work c =
     let p = c.args.view.now.linked.now in
     let t = c.args.view.now.target in
     let wants = c.args.view.now.wants.now in
-    let low = cites_low c.args.work.now.written.given c.args.held.number _ c.requires.held.gives in
+    let low = cites_low c.args.work.now.written.given c.args.held.now.number _ c.requires.held.gives in
     let added = c.in_ok-follow.ensures.added in
     let many = many_more p t added in
-    let held = held_more p t added c.args.held c.requires.held in
-    let none : (f : Edge) → EdgeOf c.args.view.now f → f.from ≡ c.args.held.node → Takes c.args.held.side c.args.held.entry f.kind → ⊥
+    let held = held_more p t added c.args.held.now c.requires.held in
+    let none : (f : Edge) → EdgeOf c.args.view.now f → f.from ≡ c.args.held.now.node → Takes c.args.held.now.side c.args.held.now.entry f.kind → ⊥
     = λ f edge from. c.requires.untaken f ((c.requires.edges f).1 (from, edge)) in
-    turn_at p t wants c.args.work.now c.requires.work c.follow.new.written added c.args.held.number c.requires.number (omega arith) c.args.held refl held
-    (word_of c.args.held) refl c.spot-spot.result c.spot-spot.ensures c.requires.end c.args.work.now.takers c.file_object.new.spots
-    (takers_other p t wants c.args.work.now c.requires.work c.follow.new.written added c.args.held.number c.requires.number (omega arith) c.args.held refl held
-    (word_of c.args.held) refl c.spot-spot.result c.spot-spot.ensures none)
+    turn_at p t wants c.args.work.now c.requires.work c.follow.new.written added c.args.held.now.number c.requires.number (omega arith) c.args.held.now refl held
+    (word_of c.args.held.now) refl c.spot-spot.result c.spot-spot.ensures c.requires.end c.args.work.now.takers c.file_object.new.spots
+    (takers_other p t wants c.args.work.now c.requires.work c.follow.new.written added c.args.held.now.number c.requires.number (omega arith) c.args.held.now refl held
+    (word_of c.args.held.now) refl c.spot-spot.result c.spot-spot.ensures none)
     c.in_ok-file_object.ensures (λ wanted. c.in_ok-follow.ensures.along)
-    (λ wanted i has f edge. popped_other p t wants c.args.work.now c.requires.work c.follow.new.written added c.args.held.number c.requires.number (omega arith) c.args.held refl
-    held (word_of c.args.held) refl c.spot-spot.result c.spot-spot.ensures none i f edge)
+    (λ wanted i has f edge. popped_other p t wants c.args.work.now c.requires.work c.follow.new.written added c.args.held.now.number c.requires.number (omega arith) c.args.held.now refl
+    held (word_of c.args.held.now) refl c.spot-spot.result c.spot-spot.ensures none i f edge)
     (λ wanted i has. c.in_ok-follow.ensures.put i ((c.mets_at-mets.ensures i).1 has))

@@ -32,16 +32,16 @@ returns-clause-work c =
     let p = c.args.view.now.linked.now in
     let t = c.args.view.now.target in
     let wants = c.args.view.now.wants.now in
-    let low = cites_low c.args.work.now.written.given c.args.held.number _ c.requires.held.gives in
+    let low = cites_low c.args.work.now.written.given c.args.held.now.number _ c.requires.held.gives in
     let added = c.in_ok-follow.ensures.added in
     let many = many_more p t added in
-    let held = held_more p t added c.args.held c.requires.held in
+    let held = held_more p t added c.args.held.now c.requires.held in
     let e = c.requires.taken.0 in
     let at = (c.requires.edges e).0 c.requires.taken.1 in
-    turn_at p t wants c.args.work.now c.requires.work c.follow.new.written added c.args.held.number c.requires.number (omega arith) c.args.held refl held
+    turn_at p t wants c.args.work.now c.requires.work c.follow.new.written added c.args.held.now.number c.requires.number (omega arith) c.args.held.now refl held
     c.word-word.result c.word-word.ensures c.spot-spot.result c.spot-spot.ensures c.requires.end c.add.new.self c.file_object.new.spots
-    (takers_next p t wants c.args.work.now c.requires.work c.follow.new.written added c.args.held.number c.requires.number (omega arith) c.args.held refl held
-    c.word-word.result c.word-word.ensures c.spot-spot.result c.spot-spot.ensures c.add.new.self c.in_ok-add.ensures c.requires.wanted e (second at) (first at) c.requires.taken.2)
+    (takers_next p t wants c.args.work.now c.requires.work c.follow.new.written added c.args.held.now.number c.requires.number (omega arith) c.args.held.now refl held
+    c.word-word.result c.word-word.ensures c.spot-spot.result c.spot-spot.ensures c.add.new.self c.in_ok-add.ensures.has c.requires.wanted e (second at) (first at) c.requires.taken.2)
     c.in_ok-file_object.ensures (λ wanted. c.in_ok-follow.ensures.along)
     (λ wanted i has. c.in_ok-follow.ensures.popped i (subst (λ (xs : List ℕ). Has xs i) (sym c.at-links.ensures) has))
     (λ wanted i has. c.in_ok-follow.ensures.put i ((c.mets_at-mets.ensures i).1 has))

@@ -1,6 +1,6 @@
 use Rattle.std.proofs.Common.{◌<◌, length, length-set, get_or, arith, ◌∙◌}
 use Rattle.std.proofs.lemmas.List.Elements.{Contains-get_or}
-use Rattle.std.proofs.lemmas.Option.{slice_get-get_or}
+use Rattle.std.proofs.lemmas.Option.{slice_get-get_or, slice_get_within}
 use Rattle.class_tree.proofs.Placed.{placed_more, places_done}
 use Rattle.class_tree.proofs.Searches.{settled_bound}
 use Rattle.class_tree.proofs.places.places_of.Goals as goal
@@ -19,5 +19,8 @@ loop-at-preserved c = record {
   placed = placed_more c.args.below.now c.args.order.now c.loop-at.places.items c.loop-at.at _ _ c.requires.order.settled c.loop-at.invariant.len (slice_get-get_or c.args.order.now c.loop-at.at 0 c.loop-at-test.true) (omega arith) c.loop-at.invariant.placed;
 }
 
-pub returns : goal.returns
-returns c = places_done _ _ _ c.loop-at.at c.requires.known c.requires.order c.loop-at.invariant.len c.loop-at-test.false c.loop-at.invariant.placed
+pub returns-clause-places : goal.returns-clause-places
+returns-clause-places c = places_done _ _ _ c.loop-at.at c.requires.known c.requires.order c.loop-at.invariant.len c.loop-at-test.false c.loop-at.invariant.placed
+
+pub returns-clause-each : goal.returns-clause-each
+returns-clause-each c = λ i k e. c.loop-at.invariant.placed.placed i k (omega (arith, slice_get_within c.args.order.now i k e, c.loop-at-test.false)) e

@@ -1,8 +1,8 @@
-use Rattle.std.proofs.Common.{◌≡◌, ℕ, ◌↔◌, List, length, subst, inr, ◌∙◌}
+use Rattle.std.proofs.Common.{◌≡◌, ℕ, ◌↔◌, List, length, subst, inl, inr, ◌<◌, ◌≤◌, ◌⊎◌, ◌∙◌, arith}
 use Rattle.class_tree.specs.declared.rows.ClassRow.{ClassRow}
-use Rattle.class_tree.specs.Rows.{rows_of, HasInterface, IsOwnAncestor, Step}
+use Rattle.class_tree.specs.Rows.{rows_of, HasInterface, HasParent, IsOwnAncestor, NamesUnknown, Step}
 use Rattle.class_tree.specs.Tables.{ArePlaces, IsReach, Under}
-use Rattle.class_tree.proofs.Building.{step-below, interfaces_known, reach_map, acyclic_from_places, tells_declared, tells_near}
+use Rattle.class_tree.proofs.Building.{proper_map, step-below, interfaces_known, reach_map, acyclic_from_places, tells_declared, tells_near}
 use Rattle.class_tree.proofs.Held.{tells_holders}
 use Rattle.class_tree.proofs.tree.indexed.Goals as goal
 
@@ -32,6 +32,25 @@ acyclic : (classes : List ClassRow) (implements : List (ℕ × ℕ)) (below : Li
     → (a : ℕ) → IsOwnAncestor classes implements a → ⊥
 acyclic classes implements below places steps p = acyclic_from_places (Step classes implements) places (λ a b s. p.falls a b ((steps a b).1 s))
 
+parents_known : (classes : List ClassRow) (implements : List (ℕ × ℕ)) → ((a : ℕ) → NamesUnknown classes implements a → ⊥) → (a b : ℕ) → HasParent classes a b → b < length classes
+parents_known classes implements known a b named = elim (below_or b (length classes)) [ inl h ↦ h | inr h ↦ absurd (known a (b, inl named, h)) ]
+  where
+    below_or : (a b : ℕ) → (a < b) ⊎ (b ≤ a)
+    below_or a b = grind arith
+
+pub new-requires-2-clause-known : goal.new-requires-2-clause-known
+new-requires-2-clause-known c = parents_known c.args.classes.now c.args.implements.now c.requires.known
+
+pub new-requires-2-clause-acyclic : goal.new-requires-2-clause-acyclic
+new-requires-2-clause-acyclic c = λ a p. acyclic _ _ _ _ c.requires.steps c.in_ok-places.ensures.places a
+    (proper_map (HasParent c.args.classes.now) (Step c.args.classes.now c.args.implements.now) (λ x y named. inl named) a a p)
+
+pub new-requires-2-clause-bodies : goal.new-requires-2-clause-bodies
+new-requires-2-clause-bodies c = c.in_ok-members.ensures.bodies
+
+pub new-requires-2-clause-own_fields : goal.new-requires-2-clause-own_fields
+new-requires-2-clause-own_fields c = c.in_ok-members.ensures.own_fields
+
 pub invariant_of-result : goal.invariant_of-result
 invariant_of-result c =
     let reached = reach_map (Under c.args.below) (Step c.args.classes.now c.args.implements.now) _ _ c.in_ok-places.places.items c.in_ok-reach.reach
@@ -39,8 +58,8 @@ invariant_of-result c =
     let near = subst (λ n. IsReach (HasInterface c.args.implements.now) n c.in_ok-places.places.items c.in_ok-near.near) c.requires.len (rw c.as_slice-2.ensures.value at c.in_ok-near.ensures) in
     rw c.in_ok-rows.ensures (record {
       named = c.requires.named;
-      hierarchy = record { known = c.requires.known; acyclic = acyclic _ _ _ _ c.requires.steps c.in_ok-places.ensures };
-      placed = record { len = c.in_ok-places.ensures.len ∙ c.requires.len; falls = λ a b s. c.in_ok-places.ensures.falls a b ((c.requires.steps a b).1 s) };
+      hierarchy = record { known = c.requires.known; acyclic = acyclic _ _ _ _ c.requires.steps c.in_ok-places.ensures.places };
+      placed = record { len = c.in_ok-places.ensures.places.len ∙ c.requires.len; falls = λ a b s. c.in_ok-places.ensures.places.falls a b ((c.requires.steps a b).1 s) };
       few = c.requires.classes;
       below_len = c.requires.len;
       below_are = c.requires.steps;
@@ -54,7 +73,8 @@ invariant_of-result c =
       holders_len = c.in_ok-members.ensures.holders.len;
       holders = tells_holders (rows_of c.args.classes.now c.args.implements.now c.args.methods.now c.args.fields.now) _ c.in_ok-members.ensures.holders;
       fields = c.in_ok-members.ensures.own_fields;
+      along = c.in_ok-inherited.ensures;
     })
 
 pub returns-clause-acyclic : goal.returns-clause-acyclic
-returns-clause-acyclic c = acyclic _ _ _ _ c.requires.steps c.in_ok-places.ensures
+returns-clause-acyclic c = acyclic _ _ _ _ c.requires.steps c.in_ok-places.ensures.places

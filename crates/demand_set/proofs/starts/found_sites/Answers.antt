@@ -2,9 +2,9 @@ use Rattle.std.proofs.Common.{arith, sym}
 use Rattle.std.proofs.lemmas.List.{take_all}
 use Rattle.link_sites.specs.contracts.site.SitePartialEq.TheImpl.{eq-value}
 use Rattle.lists.proofs.Keys.{Adds-insert_key}
+use Rattle.lists.proofs.Joined.{Has-adds}
 use Rattle.demand_set.proofs.Filed.{HasStart-more, HasStart-plain}
 use Rattle.demand_set.proofs.SameSite.{same_site, self_site}
-use Rattle.demand_set.proofs.Whole.{Has-adds}
 use Rattle.demand_set.proofs.starts.found_sites.Goals as goal
 use Rattle.demand_set.proofs.starts.found_sites.Goals.{in-Some+in_ok-insert, in_default}
 

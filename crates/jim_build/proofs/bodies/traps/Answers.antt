@@ -7,8 +7,8 @@ use Rattle.jim_grammar.specs.Grammar.{trap}
 use Rattle.jim_stmts.specs.Leads.{lead_at}
 use Rattle.jim_build.specs.Bodies.{trap_of}
 use Rattle.jim_build.proofs.Loops.{through_more, through_end}
-use Rattle.jim_build.proofs.Begins.{lead_at-some}
 use Rattle.jim_build.proofs.bodies.traps.Goals as goal
+use Rattle.jim_stmts.proofs.Drops.{left_where_lead}
 
 pub loop-traps-init : goal.loop-traps-init
 loop-traps-init c = record {
@@ -19,7 +19,7 @@ loop-traps-init c = record {
 pub loop-traps-smaller : goal.loop-traps-smaller
 loop-traps-smaller c =
     let next : lead_at c.loop-traps.reader ≡ lead.Catch = c.is_at.ensures.0 c.loop-traps-test.true in
-    omega (arith, lead_at-some c.loop-traps.reader (λ e. cc (e, next)), c.trap.ensures.shorter)
+    omega (arith, left_where_lead c.loop-traps.reader (λ e. cc (e, next)), c.trap.ensures.shorter)
 
 pub loop-traps-preserved : goal.loop-traps-preserved
 loop-traps-preserved c =
@@ -28,7 +28,7 @@ loop-traps-preserved c =
           (through_more (spell trap) (map trap_of) (λ t. trap_of t ∷ []) x r _ _ _ _ (λ y ys. refl) (c.loop-traps.invariant.through x r h n)
           (λ e. n (sym (ap lead_at e) ∙ next))
           (λ y w e. ap (λ (t : Trap). c.loop-traps.traps.items ++ t ∷ []) (c.trap.ensures.trap y w e)) c.trap.ensures.rest);
-      no_longer = omega (arith, lead_at-some c.loop-traps.reader (λ e. cc (e, next)), c.trap.ensures.shorter);
+      no_longer = omega (arith, left_where_lead c.loop-traps.reader (λ e. cc (e, next)), c.trap.ensures.shorter);
     }
 
 pub returns-clause-traps : goal.returns-clause-traps

@@ -6,15 +6,16 @@ use Rattle.jim_grammar.specs.Grammar.{class}
 use Rattle.jim_stmts.specs.Leads.{lead_at}
 use Rattle.jim_build.specs.Classes.{class_of}
 use Rattle.jim_build.proofs.Loops.{through_more, through_end}
-use Rattle.jim_build.proofs.Begins.{class_begins, lead_at-some}
+use Rattle.jim_build.proofs.Begins.{class_begins}
 use Rattle.jim_build.proofs.classes.build.Goals as goal
+use Rattle.jim_stmts.proofs.Drops.{left_where_lead}
 
 pub loop-reader-init : goal.loop-reader-init
 loop-reader-init c = λ x h. record { left = x; is_next = c.new-reader.ensures ∙ sym h; is_found = rw c.new-classes.ensures.items refl }
 
 pub loop-reader-smaller : goal.loop-reader-smaller
 loop-reader-smaller c =
-    omega (arith, lead_at-some c.loop-reader.reader (λ e. false≢true (sym c.loop-reader-test.true ∙ c.is_at.ensures.1 e)), c.in_ok-class.ensures.shorter)
+    omega (arith, left_where_lead c.loop-reader.reader (λ e. false≢true (sym c.loop-reader-test.true ∙ c.is_at.ensures.1 e)), c.in_ok-class.ensures.shorter)
 
 pub loop-reader-preserved : goal.loop-reader-preserved
 loop-reader-preserved c = λ x h. rw c.in_ok-push.ensures.items

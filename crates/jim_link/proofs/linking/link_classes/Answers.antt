@@ -1,5 +1,5 @@
 use Rattle.std.proofs.Common.{◌≡◌, sym, ap, subst, ◌∙◌}
-use Rattle.std.proofs.lemmas.Result.{IfOk-weaker}
+use Rattle.std.proofs.lemmas.Result.{err_from_is_err_and, IfOk-weaker}
 use Rattle.link_program.specs.Parts.{program_of}
 use Rattle.link_rules.specs.Linked.{IsLinkOf}
 use Rattle.link_rules.specs.declared.refusal.LinkError.TheVariants.{NoMemory}
@@ -21,3 +21,8 @@ pub returns-clause-err : goal.returns-clause-err
 returns-clause-err c =
     let w = c.args.classes.world in
     on_error c.whole.result (λ e. e ≡ NoMemory) (TellsFirst w) (λ e is. subst (TellsFirst w) (sym is) tt) c.whole.ensures.err
+
+pub returns-in_err-parts-clause-err : goal.returns-in_err-parts-clause-err
+returns-in_err-parts-clause-err c =
+    let p = err_from_is_err_and c.from_residual.result c.from_residual.ensures.1 in
+    rw (p.1, p.2) c.in_err-parts.ensures.err

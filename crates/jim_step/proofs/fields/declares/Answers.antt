@@ -1,6 +1,6 @@
 use Rattle.std.proofs.Common.{◌∙◌, arith, ap, length, sym}
 use Rattle.class_tree.specs.Rows.{Rows}
-use Rattle.jim_step.proofs.Declared.{class_within}
+use Rattle.link_program.proofs.Declared.{class_within}
 use Rattle.jim_step.proofs.fields.declares.Goals as goal
 
 pub sub-requires-clause-b : goal.sub-requires-clause-b

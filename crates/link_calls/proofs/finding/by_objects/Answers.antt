@@ -2,7 +2,6 @@ use Rattle.std.proofs.Common.{◌≡◌, ◌<◌, ◌↔◌, ℕ, Some, get_or, 
 use Rattle.std.specs.List.{AllPairs, Contains}
 use Rattle.std.proofs.lemmas.List.Elements.{Contains-get_or}
 use Rattle.std.proofs.lemmas.Option.{slice_get-get_or}
-use Rattle.class_tree.specs.PathRows.{ArePathRows}
 use Rattle.class_tree.specs.Rows.{Sub}
 use Rattle.lists.specs.Lists.{Adds}
 use Rattle.link_calls.specs.Selected.{IsSelected}
@@ -12,13 +11,10 @@ use Rattle.link_calls.proofs.finding.by_objects.Goals as goal
 use Rattle.link_calls.proofs.finding.by_objects.Goals.{in-Method+in_ok-insert-in-Method, in-Several, in-Nothing}
 
 pub loop-receiver-init : goal.loop-receiver-init
-loop-receiver-init c = record {
-  kept = c.new-kept.ensures c.args.classes.now.world.rows c.args.key;
-  looked_at = rw c.new-rows.ensures.empty (looked_at_none c.args.classes.now.world c.args.class c.args.key c.as_slice-receiver-items.result.now);
-}
+loop-receiver-init c = rw c.new-rows.ensures.empty (looked_at_none c.args.classes.now.world c.args.class c.args.key c.as_slice-receiver-items.result.now)
 
-pub selected-requires-clause-receiver : goal.selected-requires-clause-receiver
-selected-requires-clause-receiver c =
+pub selected-requires : goal.selected-requires
+selected-requires c =
     let lt = rw c.as_slice-receiver-items.ensures.value at c.loop-receiver-test.true in
     let known = c.in_ok-below.ensures.known c.loop-receiver.receiver-index 0 lt in
     let items = ap (λ xs. get_or xs c.loop-receiver.receiver-index 0) c.as_slice-receiver-items.ensures.value in
@@ -37,21 +33,20 @@ loop-receiver-preserved c =
     let ascending = subst (AllPairs (λ a b. a < b)) (sym c.as_slice-receiver-items.ensures.value) c.in_ok-below.ensures.ascending in
     let there : slice_get below at.receiver-index ≡ Some receiver = slice_get-get_or below at.receiver-index 0 c.loop-receiver-test.true in
     let sub : Sub w0.rows receiver class = (each receiver).0 (Contains-get_or below at.receiver-index 0 c.loop-receiver-test.true) in
-    let before = selected_before w0 class key below each ascending at.receiver-index receiver there at.rows.keys at.several at.invariant.looked_at in
-    let next = looked_at_next w0 class key below each ascending at.receiver-index receiver there at.rows.keys at.several at.invariant.looked_at in
-    let kept : ArePathRows w0.rows key c.selected.new.kept = c.in_ok-selection.ensures.kept in
-    elim c.match-selection.branch [
+    let before = selected_before w0 class key below each ascending at.receiver-index receiver there at.rows.keys at.several at.invariant in
+    let next = looked_at_next w0 class key below each ascending at.receiver-index receiver there at.rows.keys at.several at.invariant in
+    elim c.match-selected.branch [
       | in-Method+in_ok-insert-in-Method w ↦
           let adds : Adds at.rows.keys w.in-Method.row w.insert.new.self.keys =
           subst (Adds at.rows.keys w.in-Method.row) (sym w.in_ok-insert-in-Method.ensures.keys) (Adds-insert_key eqb eqb-true (λ x. eq-eqb x x refl) at.rows.keys w.in-Method.row) in
-          let selects = subst (IsSelected w0 class key receiver) w.in-Method.is (c.in_ok-selection.ensures.selected class sub) in
-          record { kept = kept; looked_at = rw (w.rows-is, w.several-is) (next _ _ (selected_next w0 class key receiver w.in-Method.row at.rows.keys w.insert.new.self.keys at.several before selects.0 adds selects.1)) }
+          let selects = subst (IsSelected w0 class key receiver) w.in-Method.is (c.selected.ensures class sub) in
+          rw (w.rows-is, w.several-is) (next _ _ (selected_next w0 class key receiver w.in-Method.row at.rows.keys w.insert.new.self.keys at.several before selects.0 adds selects.1))
       | in-Several w ↦
-          let selects = subst (IsSelected w0 class key receiver) w.in-Several.is (c.in_ok-selection.ensures.selected class sub) in
-          record { kept = kept; looked_at = rw (w.rows-is, w.several-is) (next _ _ (selected_several w0 class key receiver at.rows.keys at.several selects before)) }
+          let selects = subst (IsSelected w0 class key receiver) w.in-Several.is (c.selected.ensures class sub) in
+          rw (w.rows-is, w.several-is) (next _ _ (selected_several w0 class key receiver at.rows.keys at.several selects before))
       | in-Nothing w ↦
-          let selects = subst (IsSelected w0 class key receiver) w.in-Nothing.is (c.in_ok-selection.ensures.selected class sub) in
-          record { kept = kept; looked_at = rw (w.rows-is, w.several-is) (next _ _ (selected_same w0 class key receiver at.rows.keys at.several selects before)) }
+          let selects = subst (IsSelected w0 class key receiver) w.in-Nothing.is (c.selected.ensures class sub) in
+          rw (w.rows-is, w.several-is) (next _ _ (selected_same w0 class key receiver at.rows.keys at.several selects before))
     ]
 
 pub returns : goal.returns
@@ -62,5 +57,5 @@ returns c =
     let each : (a : ℕ) → Contains below a ↔ Sub w0.rows a c.args.class =
     subst (λ xs. (a : ℕ) → Contains xs a ↔ Sub w0.rows a c.args.class) (sym c.as_slice-receiver-items.ensures.value) (rw c.tree.ensures.rows at c.in_ok-below.ensures.each) in
     let ascending = subst (AllPairs (λ a b. a < b)) (sym c.as_slice-receiver-items.ensures.value) c.in_ok-below.ensures.ascending in
-    let all = looked_at_all w0 c.args.class c.args.key below each ascending at.receiver-index at.rows.keys at.several c.loop-receiver-test.false at.invariant.looked_at in
+    let all = looked_at_all w0 c.args.class c.args.key below each ascending at.receiver-index at.rows.keys at.several c.loop-receiver-test.false at.invariant in
     found_of_all w0 c.args.class c.args.key all.0 at.rows.keys at.several _ all.1 all.2 (c.in_ok-rows.ensures.items ∙ c.as_slice.ensures.keys) refl

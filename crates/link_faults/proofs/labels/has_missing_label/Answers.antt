@@ -1,7 +1,8 @@
 use Rattle.std.proofs.Common.{get_or}
+use Rattle.lists.proofs.Joined.{none_from, some_from}
 use Rattle.link_rules.specs.Bodies.{HasNoLabel}
 use Rattle.link_faults.proofs.FirstLabels.{no_label, some_label}
-use Rattle.link_faults.proofs.Scans.{found, none_found, none_from, none_more, some_from}
+use Rattle.link_faults.proofs.Scans.{found, none_found, none_more}
 use Rattle.link_faults.proofs.labels.has_missing_label.Goals as goal
 
 pub returns-then-is_none : goal.returns-then-is_none

@@ -1,9 +1,8 @@
 use Rattle.std.proofs.Common.{◌≡◌, ℕ}
 use Rattle.std.proofs.lemmas.List.{take_all}
 use Rattle.std.proofs.lemmas.Result.{IfOk-weaker}
-use Rattle.link_indexes.specs.Filings.{items_under}
-use Rattle.link_indexes.specs.Rows.{row}
-use Rattle.link_indexes.proofs.Grown.{slice_get-read}
+use Rattle.lists.specs.Filings.{items_under, row}
+use Rattle.lists.proofs.Places.{slice_get-read}
 use Rattle.link_indexes.proofs.Listed.{ArePredecessors-more}
 use Rattle.link_indexes.proofs.before.predecessors.Goals as goal
 

@@ -1,5 +1,5 @@
 use Rattle.std.proofs.Common.{take}
-use Rattle.link_indexes.specs.Filings.{items_under}
+use Rattle.lists.specs.Filings.{items_under}
 use Rattle.link_indexes.specs.Tables.{ArePredecessors}
 use Rattle.link_indexes.proofs.before.predecessors.Given as goal
 

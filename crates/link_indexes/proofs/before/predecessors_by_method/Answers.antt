@@ -1,6 +1,6 @@
 use Rattle.std.proofs.Common.{take, ◌∙◌, sym, arith, length-append, [], ◌∷◌}
 use Rattle.link_indexes.specs.Tables.{codes_of}
-use Rattle.link_indexes.proofs.Grown.{length-taken, slice_get-read, take-next}
+use Rattle.lists.proofs.Places.{length-taken, slice_get-read, take-next}
 use Rattle.link_indexes.proofs.Listed.{ArePredecessorsBy-push, codes_of-all, codes_of-there}
 use Rattle.link_indexes.proofs.before.predecessors_by_method.Goals as goal
 

@@ -2,7 +2,7 @@ use Rattle.std.proofs.Common.{ap, map, take, ◌∙◌, sym, arith, length-appen
 use Rattle.std.proofs.lemmas.List.{length-map, map-append}
 use Rattle.link_indexes.specs.Facts.{IsOfKind}
 use Rattle.link_indexes.specs.Tables.{codes_of}
-use Rattle.link_indexes.proofs.Grown.{length-taken, slice_get-read, take-next}
+use Rattle.lists.proofs.Places.{length-taken, slice_get-read, take-next}
 use Rattle.link_indexes.proofs.Listed.{AreIndexesBy-push, codes_of-all, codes_of-there}
 use Rattle.link_indexes.proofs.listing.indexes_by_method.Goals as goal
 

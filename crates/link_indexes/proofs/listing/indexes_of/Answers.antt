@@ -1,5 +1,5 @@
 use Rattle.std.proofs.Common.{◌∙◌, sym, true≢false}
-use Rattle.link_indexes.proofs.Grown.{slice_get-read}
+use Rattle.lists.proofs.Places.{slice_get-read}
 use Rattle.link_indexes.proofs.Listed.{AreTheIndexes-push, AreTheIndexes-skip}
 use Rattle.link_indexes.proofs.listing.indexes_of.Goals as goal
 use Rattle.link_indexes.proofs.listing.indexes_of.Goals.{then-is_of_kind+in_ok-number_of+in_ok-push, else-is_of_kind}

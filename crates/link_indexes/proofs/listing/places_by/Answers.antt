@@ -2,11 +2,10 @@ use Rattle.std.proofs.Common.{◌≡◌, ℕ, take, sym, ◌∙◌}
 use Rattle.std.proofs.lemmas.List.{take_all}
 use Rattle.std.proofs.lemmas.Result.{IfOk-weaker}
 use Rattle.link_indexes.specs.Facts.{HasKey}
-use Rattle.link_indexes.specs.Filings.{items_under}
-use Rattle.link_indexes.specs.Rows.{row}
+use Rattle.lists.specs.Filings.{items_under, row}
 use Rattle.link_indexes.specs.Tables.{codes_of}
 use Rattle.link_indexes.proofs.Filed.{IsFiled-same}
-use Rattle.link_indexes.proofs.Grown.{length-taken, slice_get-read, take-next}
+use Rattle.lists.proofs.Places.{length-taken, slice_get-read, take-next}
 use Rattle.link_indexes.proofs.Listed.{ArePlacesBy-begin, ArePlacesBy-more, codes_of-all, codes_of-there}
 use Rattle.link_indexes.proofs.listing.places_by.Goals as goal
 

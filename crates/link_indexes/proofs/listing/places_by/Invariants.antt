@@ -1,6 +1,6 @@
 use Rattle.std.proofs.Common.{take, ◌++◌, ◌∷◌, []}
 use Rattle.link_indexes.specs.Facts.{HasKey}
-use Rattle.link_indexes.specs.Filings.{items_under}
+use Rattle.lists.specs.Filings.{items_under}
 use Rattle.link_indexes.specs.Tables.{ArePlacesBy, codes_of}
 use Rattle.link_indexes.proofs.listing.places_by.Given as goal
 

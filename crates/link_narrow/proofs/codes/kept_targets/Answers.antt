@@ -1,6 +1,6 @@
 use Rattle.std.proofs.Common.{get_or}
 use Rattle.std.proofs.lemmas.Option.{slice_get-get_or}
-use Rattle.link_indexes.proofs.Grown.{take-next}
+use Rattle.lists.proofs.Places.{take-next}
 use Rattle.narrow_rules.specs.Narrowed.{IsKept, StaysIn}
 use Rattle.link_narrow.proofs.Filled.{those_one, those_other}
 use Rattle.link_narrow.proofs.Stays.{those_end, those_start}

@@ -1,7 +1,7 @@
 use Rattle.std.proofs.Common.{◌≡◌, ◌≤◌, List, [], ◌∷◌, Some, length, get_or, slice_get, refl, sym, ◌∙◌, subst, true≢false}
 use Rattle.std.proofs.lemmas.Bool.{ltb-false, ltb-true}
 use Rattle.lists.specs.Lists.{Has}
-use Rattle.link_indexes.proofs.Grown.{slice_get-read}
+use Rattle.lists.proofs.Places.{slice_get-read}
 use Rattle.link_sites.specs.declared.site.Site.{Site}
 use Rattle.link_sites.specs.Sites.{HasField}
 use Rattle.spds_rules.specs.Answers.{IsAnswered}

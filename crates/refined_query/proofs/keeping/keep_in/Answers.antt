@@ -1,6 +1,5 @@
 use Rattle.std.proofs.Common.{◌≡◌, ℕ, ◌+◌, ◌≤◌, List, Some, length, slice_get, sym, subst}
-use Rattle.lists.proofs.Places.{slice_get-there}
-use Rattle.link_indexes.proofs.Grown.{slice_get-read}
+use Rattle.lists.proofs.Places.{slice_get-there, slice_get-read}
 use Rattle.link_rules.specs.declared.code.Code.{Code}
 use Rattle.link_sites.specs.Places.{CodeAt}
 use Rattle.refined_query.specs.Keeping.{AreKeptBefore}

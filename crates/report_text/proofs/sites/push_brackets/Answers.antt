@@ -1,7 +1,7 @@
 use Rattle.std.proofs.Common.{◌++◌, codes, sym, ap, ◌∙◌, append_assoc}
 use Rattle.std.specs.String.{string_bytes}
 use Rattle.link_rules.specs.Names.{brackets}
-use Rattle.report_text.proofs.Growing.{brackets_more}
+use Rattle.link_rules.proofs.Dimensions.{brackets_more}
 use Rattle.report_text.proofs.sites.push_brackets.Goals as goal
 
 pub loop-preserved : goal.loop-preserved

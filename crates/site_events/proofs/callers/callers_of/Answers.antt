@@ -2,7 +2,7 @@ use Rattle.std.proofs.Common.{◌≡◌, [], ℕ, List, slice_index_or, subst}
 use Rattle.std.proofs.lemmas.List.{take_all}
 use Rattle.std.proofs.lemmas.Option.{slice_get-get_or}
 use Rattle.link_indexes.specs.declared.method.Place.{Place}
-use Rattle.link_indexes.proofs.Grown.{take-next}
+use Rattle.lists.proofs.Places.{take-next}
 use Rattle.site_events.proofs.Calling.{AreAdded, added_more, added_none, callers_all}
 use Rattle.site_events.proofs.callers.callers_of.Goals as goal
 

@@ -1,7 +1,7 @@
 use Rattle.std.proofs.Common.{slice_index_or, ◌↔◌, ◌<◌, ℕ, List, subst, sym}
 use Rattle.std.proofs.lemmas.List.{take_all}
 use Rattle.std.proofs.lemmas.Option.{slice_get-get_or}
-use Rattle.link_indexes.proofs.Grown.{take-next}
+use Rattle.lists.proofs.Places.{take-next}
 use Rattle.weight_laws.specs.Rel.{Relates, rel_domain}
 use Rattle.site_events.specs.declared.inner.Inner.{Inner}
 use Rattle.site_events.proofs.Led.{IsLedBy, led_more, led_none, led_skip}

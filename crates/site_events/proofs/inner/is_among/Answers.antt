@@ -2,7 +2,7 @@ use Rattle.std.proofs.Common.{slice_index_or, ℕ, List, inl, inr, refl, sym, su
 use Rattle.std.proofs.lemmas.List.{take_all}
 use Rattle.std.proofs.lemmas.Option.{slice_get-get_or}
 use Rattle.lists.specs.Lists.{Has}
-use Rattle.link_indexes.proofs.Grown.{Has-push, take-next}
+use Rattle.lists.proofs.Places.{Has-push, take-next}
 use Rattle.site_events.proofs.inner.is_among.Goals as goal
 
 pub returns-then-is_loud : goal.returns-then-is_loud

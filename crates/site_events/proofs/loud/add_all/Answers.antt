@@ -1,7 +1,7 @@
 use Rattle.std.proofs.Common.{◌≡◌, ℕ, List, slice_index_or, subst}
 use Rattle.std.proofs.lemmas.List.{take_all}
 use Rattle.std.proofs.lemmas.Option.{slice_get-get_or}
-use Rattle.link_indexes.proofs.Grown.{take-next}
+use Rattle.lists.proofs.Places.{take-next}
 use Rattle.site_events.proofs.Calling.{AreAdded, added_itself, added_more}
 use Rattle.site_events.proofs.loud.add_all.Goals as goal
 

@@ -1,7 +1,6 @@
 use Rattle.std.proofs.Common.{IsTrue, inl, inr, rules}
 use Rattle.std.proofs.lemmas.Option.{slice_get-get_or}
-use Rattle.lists.proofs.Places.{slice_get-pushed}
-use Rattle.link_indexes.proofs.Grown.{take-next}
+use Rattle.lists.proofs.Places.{slice_get-pushed, take-next}
 use Rattle.site_events.proofs.settled.are_settled.Goals as goal
 
 pub loop-target-preserved : goal.loop-target-preserved

@@ -1,7 +1,7 @@
 use Rattle.std.proofs.Common.{List, slice_index_or, sym, subst, ◌∙◌, arith}
 use Rattle.std.proofs.lemmas.List.{take_all}
 use Rattle.std.proofs.lemmas.Option.{slice_get-get_or}
-use Rattle.link_indexes.proofs.Grown.{take-next}
+use Rattle.lists.proofs.Places.{take-next}
 use Rattle.track_rules.specs.declared.row.ProtocolRow.{ProtocolRow}
 use Rattle.site_events.proofs.Closing.{IsEventBy, no_row, rows_all, rows_more, rows_skip}
 use Rattle.site_events.proofs.star.event_relation.Goals as goal

@@ -1,7 +1,6 @@
 use Rattle.std.proofs.Common.{◌≡◌, ◌≤◌, ◌+◌, ◌++◌, ◌∷◌, [], ℕ, Some, length, slice_get, sym, subst, ◌∙◌}
-use Rattle.lists.proofs.Places.{slice_get-there}
+use Rattle.lists.proofs.Places.{slice_get-there, slice_get-read}
 use Rattle.link_rules.specs.WellLinked.{FitsCode, FitsMethod}
-use Rattle.link_indexes.proofs.Grown.{slice_get-read}
 use Rattle.link_sites.specs.Places.{before}
 use Rattle.step_rules.proofs.Listing.{at_all}
 use Rattle.site_events.specs.EventStatements.{AreStatementsUpTo}

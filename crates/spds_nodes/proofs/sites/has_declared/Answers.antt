@@ -1,6 +1,6 @@
 use Rattle.std.proofs.Common.{◌∙◌, arith, ap, length, sym}
 use Rattle.class_tree.specs.Rows.{Rows}
-use Rattle.spds_nodes.proofs.Declared.{class_within}
+use Rattle.link_program.proofs.Declared.{class_within}
 use Rattle.spds_nodes.proofs.sites.has_declared.Goals as goal
 
 pub sub-requires-clause-b : goal.sub-requires-clause-b

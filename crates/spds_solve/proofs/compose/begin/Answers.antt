@@ -33,5 +33,5 @@ pub returns-clause-composed : goal.returns-clause-composed
 returns-clause-composed c =
     let at = (goal.at.returns-clause-composed c).After-at in
     composed_begun c.args.mets.now c.lead.new.mets (joined_longer c.args.mets.now c.in_ok-lead.ensures.joined) c.args.ways.now c.requires.composed c.args.at (met at)
-    (there at) c.add.new.self (rw c.as_slice.ensures.value at c.in_ok-add.ensures)
+    (there at) c.add.new.self (rw c.as_slice.ensures.value at c.in_ok-add.ensures.last)
     (λ next has. c.in_ok-lead.ensures.there next (subst (λ (xs : List ℕ). Has xs next) (sym (nexts_are at)) has))

@@ -28,5 +28,5 @@ pub returns-clause-composed : goal.returns-clause-composed
 returns-clause-composed c =
     let at = (goal.at.returns-clause-composed c).After-at in
     composed_passed c.args.mets.now c.follow.new.mets (joined_longer c.args.mets.now c.in_ok-follow.ensures.joined) c.args.ways.now c.requires.composed (met at) (there at)
-    c.add.new.self (rw c.as_slice.ensures.value at c.in_ok-add.ensures)
+    c.add.new.self (rw c.as_slice.ensures.value at c.in_ok-add.ensures.last)
     (λ first has. c.in_ok-follow.ensures.there first (subst (λ (xs : List ℕ). Has xs first) (sym (firsts_are at)) has))

@@ -1,5 +1,5 @@
 use Rattle.std.proofs.Common.{◌≡◌, Some, slice_get, arith}
-use Rattle.link_indexes.proofs.Grown.{slice_get-read}
+use Rattle.lists.proofs.Places.{slice_get-read}
 use Rattle.spds_solve.proofs.Arriving.{arrived_all, arrived_more, arrived_none}
 use Rattle.spds_solve.proofs.solver.all_arrivals.Goals as goal
 use Rattle.spds_solve.proofs.solver.all_arrivals.Goals.{After-index-tables-site}

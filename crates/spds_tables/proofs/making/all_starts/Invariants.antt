@@ -1,6 +1,6 @@
 use Rattle.std.proofs.Common.{◌≡◌, ◌<◌, ◌↔◌, ℕ, Some, length, map, slice_get}
 use Rattle.lists.specs.Lists.{Has}
-use Rattle.link_indexes.specs.Rows.{row}
+use Rattle.lists.specs.Filings.{row}
 use Rattle.link_sites.specs.declared.site.Site.{Site}
 use Rattle.spds_tables.specs.declared.numbered.StartAt.{StartAt}
 use Rattle.spds_tables.specs.Making.{IsStartHere}

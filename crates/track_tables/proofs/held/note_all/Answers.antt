@@ -1,8 +1,7 @@
 use Rattle.std.proofs.Common.{◌≡◌, ◌↔◌, ◌<◌, ℕ, List, Some, eqb, ap, length, slice_get, slice_index_or, sym, subst, ◌∙◌, arith}
 use Rattle.std.proofs.lemmas.Option.{slice_get-get_or}
 use Rattle.lists.specs.Lists.{Has, IsApart}
-use Rattle.lists.proofs.Places.{slice_get-below, slice_get-there}
-use Rattle.link_indexes.proofs.Grown.{slice_get-read}
+use Rattle.lists.proofs.Places.{slice_get-below, slice_get-there, slice_get-read}
 use Rattle.track_tables.specs.Held.{IsHeldAt}
 use Rattle.track_tables.proofs.There.{held_there}
 use Rattle.track_tables.proofs.Noting.{AreFirst, first_all, first_next, first_none}

@@ -3,7 +3,7 @@ use Rattle.track_tables.proofs.Filing.{onward_added}
 use Rattle.track_tables.proofs.parts.add_onward.Goals as goal
 
 pub returns-in_ok-add : goal.returns-in_ok-add
-returns-in_ok-add c = onward_added c.args.onward.now c.add.new.self c.args.edge c.in_ok-add.ensures (c.is_onward.ensures.0 c.if-is_onward.true)
+returns-in_ok-add c = onward_added c.args.onward.now c.add.new.self c.args.edge c.in_ok-add.ensures.last (c.is_onward.ensures.0 c.if-is_onward.true)
 
 pub returns-else-is_onward : goal.returns-else-is_onward
 returns-else-is_onward c = λ number e. (

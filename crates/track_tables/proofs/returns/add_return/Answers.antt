@@ -1,5 +1,5 @@
 use Rattle.std.proofs.Common.{◌≡◌, ℕ, Some, ap, ◌∙◌, sym, inl, inr}
-use Rattle.link_indexes.proofs.Grown.{Has-push}
+use Rattle.lists.proofs.Places.{Has-push}
 use Rattle.demand_set.specs.declared.numbered.EdgeAt.{EdgeAt}
 use Rattle.track_tables.specs.declared.returns.Return.{Return}
 use Rattle.track_tables.proofs.returns.add_return.Goals as goal

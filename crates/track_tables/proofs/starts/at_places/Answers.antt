@@ -1,7 +1,7 @@
 use Rattle.std.proofs.Common.{ℕ, List, slice_index_or, sym, subst, take, ◌∙◌}
 use Rattle.std.proofs.lemmas.List.{take_all}
 use Rattle.std.proofs.lemmas.Option.{slice_get-get_or}
-use Rattle.link_indexes.proofs.Grown.{take-next}
+use Rattle.lists.proofs.Places.{take-next}
 use Rattle.site_events.specs.Events.{AreAtPlaces}
 use Rattle.site_events.proofs.Used.{at_more, at_none, at_skip}
 use Rattle.track_tables.proofs.starts.at_places.Goals as goal

@@ -1,7 +1,7 @@
 use Rattle.std.proofs.Common.{ℕ, Option, false, slice_index_or, refl, sym, subst}
 use Rattle.std.specs.Option.{IsSome}
 use Rattle.std.proofs.lemmas.Option.{slice_get-get_or}
-use Rattle.link_indexes.proofs.Grown.{take-next}
+use Rattle.lists.proofs.Places.{take-next}
 use Rattle.site_events.specs.declared.event_statement.EventStatement.{EventStatement}
 use Rattle.type_track.proofs.Numbering.{receivers_more, receivers_none}
 use Rattle.type_track.proofs.receivers.receivers_in.Goals as goal

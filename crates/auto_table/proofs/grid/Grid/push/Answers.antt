@@ -1,9 +1,9 @@
 use Rattle.std.proofs.Common.{◌∙◌, ◌++◌, ◌∷◌, [], ◌-◌, ap, length, map, subst, sym, arith}
 use Rattle.std.specs.List.{slice_set}
-use Rattle.std.proofs.lemmas.List.{get_or-map, map-set}
+use Rattle.std.proofs.lemmas.List.{get_or-map, length-map, map-set}
 use Rattle.std.proofs.lemmas.Result.{err_from_is_err_and}
 use Rattle.lists.specs.Lists.{Has}
-use Rattle.auto_table.proofs.Filed.{length_map, length_push, set_row-same}
+use Rattle.auto_table.proofs.Filed.{length_push, set_row-same}
 use Rattle.auto_table.proofs.grid.Grid.push.Goals as goal
 use Rattle.auto_table.proofs.grid.Grid.push.Goals.{then-place-eq0, else-place-eq0}
 
@@ -26,7 +26,7 @@ pub returns-in_err-reserve-clause-err : goal.returns-in_err-reserve-clause-err
 returns-in_err-reserve-clause-err g c = let p = err_from_is_err_and c.from_residual-in_err-reserve.result c.from_residual-in_err-reserve.ensures.1 in rw (p.1, c.room.ensures.keys, c.reserve.ensures.items) c.self.view_is
 
 pub index_mut-cells-requires : goal.index_mut-cells-requires
-index_mut-cells-requires g c = (let low = rw (← c.self.view_is) at c.requires.row in omega (arith, low, c.self.inside.rows.ok.0, length_map (λ v. v.items) c.self.inside.rows.items))
+index_mut-cells-requires g c = (let low = rw (← c.self.view_is) at c.requires.row in omega (arith, low, c.self.inside.rows.ok.0, length-map c.self.inside.rows.items (λ v. v.items)))
 
 pub invariant_of-self-in_err-reserve-2 : goal.invariant_of-self-in_err-reserve-2
 invariant_of-self-in_err-reserve-2 g c = rw (c.room.ensures.keys, c.reserve.ensures.items) c.self.invariant
@@ -54,7 +54,7 @@ returns-in_err-reserve-2-clause-ok g c = let p = err_from_is_err_and c.from_resi
 
 pub returns-in_err-reserve-2-clause-err : goal.returns-in_err-reserve-2-clause-err
 returns-in_err-reserve-2-clause-err g c =
-    let same = (get_or-map (λ v. v.items) c.self.inside.rows.items c.args.row c.index_mut-cells.result.now [] (let low = rw (← c.self.view_is) at c.requires.row in omega (arith, low, length_map (λ v. v.items) c.self.inside.rows.items)) ∙ ap (λ v. v.items) (sym c.index_mut-cells.ensures.value)) in
+    let same = (get_or-map (λ v. v.items) c.self.inside.rows.items c.args.row c.index_mut-cells.result.now [] (let low = rw (← c.self.view_is) at c.requires.row in omega (arith, low, length-map c.self.inside.rows.items (λ v. v.items))) ∙ ap (λ v. v.items) (sym c.index_mut-cells.ensures.value)) in
     let p = err_from_is_err_and c.from_residual-in_err-reserve-2.result c.from_residual-in_err-reserve-2.ensures.1 in
     rw (p.1, ← c.self.view_is) (λ i. record {
       rows = (map-set (λ v. v.items) c.self.inside.rows.items c.args.row c.reserve-2.new.self ∙ ap (slice_set (map (λ v. v.items) c.self.inside.rows.items) c.args.row) (c.reserve-2.ensures.items ∙ sym same) ∙ set_row-same (map (λ v. v.items) c.self.inside.rows.items) c.args.row) i;
@@ -65,7 +65,7 @@ returns-in_err-reserve-2-clause-err g c =
 
 pub returns-clause-ok : goal.returns-clause-ok
 returns-clause-ok g c =
-    let same = (get_or-map (λ v. v.items) c.self.inside.rows.items c.args.row c.index_mut-cells.result.now [] (let low = rw (← c.self.view_is) at c.requires.row in omega (arith, low, length_map (λ v. v.items) c.self.inside.rows.items)) ∙ ap (λ v. v.items) (sym c.index_mut-cells.ensures.value)) in
+    let same = (get_or-map (λ v. v.items) c.self.inside.rows.items c.args.row c.index_mut-cells.result.now [] (let low = rw (← c.self.view_is) at c.requires.row in omega (arith, low, length-map c.self.inside.rows.items (λ v. v.items))) ∙ ap (λ v. v.items) (sym c.index_mut-cells.ensures.value)) in
     rw (← c.self.view_is) (λ i. record {
       rows = (map-set (λ v. v.items) c.self.inside.rows.items c.args.row c.push_reserved.new.self ∙ ap (slice_set (map (λ v. v.items) c.self.inside.rows.items) c.args.row) (c.push_reserved.ensures.items ∙ ap (λ xs. xs ++ c.args.cell ∷ []) (c.reserve-2.ensures.items ∙ sym same))) i;
       keys = (c.put.ensures.keys ∙ ap (λ ks. ks ++ c.args.key ∷ []) c.room.ensures.keys) i;

@@ -2,10 +2,10 @@ use Rattle.std.proofs.Common.{◌≡◌, ◌<◌, Some, slice_get, refl, sym, su
 use Rattle.lists.specs.Lists.{Has}
 use Rattle.lists.proofs.Places.{slice_get-read}
 use Rattle.cert_lines.specs.Noted.{GivesAt, noted_by, noted_fact}
-use Rattle.cert_lines.proofs.Groups.{length_map}
 use Rattle.cert_lines.specs.Spread.{known_of}
 use Rattle.cert_lines.proofs.Notes.{best_there, last_gives, last_there, none_there, not_there, noted_new, noted_same, note_length, pushed_new, pushed_same, shortest}
 use Rattle.cert_lines.proofs.written.Written.add.Goals as goal
+use Rattle.std.proofs.lemmas.List.{length-map}
 
 pub index-last-requires : goal.index-last-requires
 index-last-requires c =
@@ -79,7 +79,7 @@ returns-in-Some-clause-number c =
     rw c.in_ok-at.ensures.notes
     (subst (λ n. GivesAt n c.in_ok-at.at c.args.fact) (sym (noted_same w.lines.items w.facts.keys w.notes.items w.best.items c.self.invariant c.args.line c.args.fact number last c.args.length note named best there
     (omega (arith, c.if-index-length.false)) c.in_ok-at.ensures.few))
-    (last_gives whole c.args.line c.args.fact c.args.length c.in_ok-at.at (c.in_ok-at.ensures.number ∙ sym c.self.invariant.as_many ∙ sym (length_map (noted_fact w.facts.keys) w.notes.items))))
+    (last_gives whole c.args.line c.args.fact c.args.length c.in_ok-at.at (c.in_ok-at.ensures.number ∙ sym c.self.invariant.as_many ∙ sym (length-map w.notes.items (noted_fact w.facts.keys)))))
 
 pub returns-in-Some-clause-ok : goal.returns-in-Some-clause-ok
 returns-in-Some-clause-ok c =
@@ -112,7 +112,7 @@ returns-clause-number c =
     let whole = noted_by w.lines.items w.facts.keys w.notes.items in
     rw (c.in_ok-at-2.ensures.notes, c.put.ensures.keys, c.of-known.ensures, c.len.ensures.value, c.in_ok-room.ensures.keys)
     (subst (λ n. GivesAt n c.in_ok-at-2.at c.args.fact) (sym (noted_new w.lines.items w.facts.keys w.notes.items w.best.items c.self.invariant c.args.line c.args.fact c.args.length none c.in_ok-at-2.ensures.few))
-    (last_gives whole c.args.line c.args.fact c.args.length c.in_ok-at-2.at (c.in_ok-at-2.ensures.number ∙ sym c.self.invariant.as_many ∙ sym (length_map (noted_fact w.facts.keys) w.notes.items))))
+    (last_gives whole c.args.line c.args.fact c.args.length c.in_ok-at-2.at (c.in_ok-at-2.ensures.number ∙ sym c.self.invariant.as_many ∙ sym (length-map w.notes.items (noted_fact w.facts.keys)))))
 
 pub returns-clause-ok : goal.returns-clause-ok
 returns-clause-ok c =

@@ -3,4 +3,4 @@ use Rattle.class_tree.proofs.Lowest.{IsDefaultOf}
 use Rattle.class_tree.proofs.tree.Tree.defaults.Given as goal
 
 abbrev pub invariant-loop-interface : goal.invariant-loop-interface
-invariant-loop-interface l = AreDefaults (IsDefaultOf l.self l.class l.key l.interface-items l.interface-index) l.found
+invariant-loop-interface l = AreDefaults (IsDefaultOf l.self l.class l.key l.reached l.interface-index) l.found

@@ -1,31 +1,19 @@
-use Rattle.std.proofs.Common.{Some, None, inl, ◌∙◌}
-use Rattle.class_tree.specs.Lookups.{found, further, ended}
-use Rattle.class_tree.specs.Rows.{HasParent, HasNoParent}
-use Rattle.class_tree.proofs.TreeFacts.{row_parent, row_no_parent, step-above}
+use Rattle.std.proofs.Common.{arith, sym, subst}
+use Rattle.class_tree.specs.Lookups.{OnPath}
 use Rattle.class_tree.proofs.tree.Tree.on_path.Goals as goal
 
-pub returns-in-Some : goal.returns-in-Some
-returns-in-Some c =
+pub find-requires-clause-class : goal.find-requires-clause-class
+find-requires-clause-class c =
     let ix = rw c.self.view_is at c.self.invariant in
-    c.loop-row.invariant.goes_on (Some c.in-Some.row) (found (c.in-Some.ensures ∙ ix.bodies c.loop-row.at c.args.key))
+    omega (arith, c.requires, ix.along.methods.numbers)
 
-pub loop-row-smaller : goal.loop-row-smaller
-loop-row-smaller c =
-    let ix = rw c.self.view_is at c.self.invariant in
-    let named : HasParent c.args.self.now.classes c.loop-row.at c.in-Some-parent.parent = row_parent _ _ _ _ _ c.self.view_is c.loop-row.invariant.within c.index.ensures c.in-Some-parent.is in
-    ix.placed.falls _ _ (inl named)
+pub find-requires-clause-len : goal.find-requires-clause-len
+find-requires-clause-len c = c.self.invariant.along.methods.len
 
-pub loop-row-preserved : goal.loop-row-preserved
-loop-row-preserved c =
-    let ix = rw c.self.view_is at c.self.invariant in
-    let named : HasParent c.args.self.now.classes c.loop-row.at c.in-Some-parent.parent = row_parent _ _ _ _ _ c.self.view_is c.loop-row.invariant.within c.index.ensures c.in-Some-parent.is in
-    record {
-      within = step-above _ ix.hierarchy _ _ (inl named);
-      goes_on = λ r above. c.loop-row.invariant.goes_on r (further (c.in_default.ensures ∙ ix.bodies c.loop-row.at c.args.key) named above);
-    }
+pub find-requires-clause-rising : goal.find-requires-clause-rising
+find-requires-clause-rising c = c.self.invariant.along.methods.rising c.args.key
 
-pub returns-in-None : goal.returns-in-None
-returns-in-None c =
+pub returns : goal.returns
+returns c =
     let ix = rw c.self.view_is at c.self.invariant in
-    let named : HasNoParent c.args.self.now.classes c.loop-row.at = row_no_parent _ _ _ _ c.self.view_is c.loop-row.invariant.within c.index.ensures c.in-None.is in
-    c.loop-row.invariant.goes_on None (ended (c.in_default.ensures ∙ ix.bodies c.loop-row.at c.args.key) named)
+    subst (OnPath c.args.self.now c.args.class c.args.key) (sym c.find.ensures) (ix.along.methods.exact c.args.class c.args.key c.requires)

@@ -1,20 +1,20 @@
 use Rattle.auto_table.specs.declared.entry.Entry.TheVariants.{Pushed}
 use Rattle.post_star.proofs.Applies.{progress_more}
 use Rattle.post_star.proofs.Parted.{parted_between}
-use Rattle.post_star.proofs.Scopes.{has_left, has_right}
+use Rattle.lists.proofs.Joined.{Has-left, Has-right}
 use Rattle.post_star.proofs.rise.Rising.work_between.Goals as goal
 
 pub work_part_between-requires-clause-own : goal.work_part_between-requires-clause-own
 work_part_between-requires-clause-own g c = (_, c.requires.index.common)
 
 pub work_part_between-requires-clause-listed : goal.work_part_between-requires-clause-listed
-work_part_between-requires-clause-listed g c = has_left c.args.system.now.common.rules.now c.args.system.now.own.rules.now
+work_part_between-requires-clause-listed g c = Has-left c.args.system.now.common.rules.now c.args.system.now.own.rules.now
 
 pub work_part_between-requires-2-clause-own : goal.work_part_between-requires-2-clause-own
 work_part_between-requires-2-clause-own g c = (_, c.requires.index.own)
 
 pub work_part_between-requires-2-clause-listed : goal.work_part_between-requires-2-clause-listed
-work_part_between-requires-2-clause-listed g c = has_right c.args.system.now.common.rules.now c.args.system.now.own.rules.now
+work_part_between-requires-2-clause-listed g c = Has-right c.args.system.now.common.rules.now c.args.system.now.own.rules.now
 
 pub returns-clause-progress : goal.returns-clause-progress
 returns-clause-progress g c = progress_more g.met.W.Weight.laws _ c.requires.told c.requires.sound c.in_ok-work_part_between.ensures.progress c.in_ok-work_part_between-2.ensures.progress

@@ -1,6 +1,5 @@
 use Rattle.std.proofs.Common.{arith}
-use Rattle.lists.proofs.Places.{slice_get-below}
-use Rattle.link_indexes.proofs.Grown.{slice_get-read}
+use Rattle.lists.proofs.Places.{slice_get-below, slice_get-read}
 use Rattle.site_events.proofs.Told.{one_number, told_where}
 use Rattle.site_events.proofs.relations.Relations.find.Goals as goal
 

@@ -1,6 +1,5 @@
 use Rattle.std.proofs.Common.{◌≡◌, ℕ, List, [], ◌∷◌, ◌++◌, Option, None, Some, sym, ap, ◌∙◌, arith}
-use Rattle.lists.proofs.Places.{slice_get-below}
-use Rattle.link_indexes.proofs.Grown.{slice_get-read}
+use Rattle.lists.proofs.Places.{slice_get-below, slice_get-read}
 use Rattle.site_events.specs.declared.statement.Statement.{Statement}
 use Rattle.site_events.proofs.Told.{one_number, raised_as, raised_new, raised_old}
 use Rattle.site_events.proofs.relations.Relations.raise.Goals as goal

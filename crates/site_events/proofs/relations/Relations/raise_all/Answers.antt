@@ -2,7 +2,7 @@ use Rattle.std.proofs.Common.{◌≡◌, List, [], slice_index_or, subst}
 use Rattle.std.proofs.lemmas.List.{take_all}
 use Rattle.std.proofs.lemmas.Option.{slice_get-get_or}
 use Rattle.lists.specs.Lists.{Has}
-use Rattle.link_indexes.proofs.Grown.{Has-push, take-next}
+use Rattle.lists.proofs.Places.{Has-push, take-next}
 use Rattle.site_events.specs.declared.statement.Statement.{Statement}
 use Rattle.site_events.specs.Tables.{AreRaised}
 use Rattle.site_events.proofs.Told.{raised_none, raised_then}

@@ -1,8 +1,8 @@
 use Rattle.std.proofs.Common.{◌≡◌, ◌<◌, ◌⊎◌, ◌↔◌, ℕ, List, [], ◌∷◌, ◌++◌, false, length, map, inl, inr, refl, sym, subst, ◌∙◌}
 use Rattle.std.specs.Bool.{◌==◌}
 use Rattle.lists.specs.Lists.{Has, AreAll}
-use Rattle.link_indexes.proofs.Grown.{Has-push}
-use Rattle.link_program.proofs.Found.{from_map}
+use Rattle.lists.proofs.Places.{Has-push}
+use Rattle.lists.proofs.Joined.{slice_get-mapped}
 use Rattle.link_rules.specs.Linked.{LinkedProgram}
 use Rattle.site_events.specs.Callers.{AreMethods}
 use Rattle.site_events.specs.Loud.{IsLoud}
@@ -24,7 +24,7 @@ has_some (s ∷ rest) other = (s, (0, refl))
 methods_in : (p : LinkedProgram) (statements : List Statement) (told : List ℕ) → told ≡ map (λ (s : Statement). s.method) statements → AreInMethods p statements → AreMethods p told
 methods_in p statements told is among m has =
     let listed = subst (λ (xs : List ℕ). Has xs m) is has in
-    let x = from_map (λ (s : Statement). s.method) statements listed.0 m listed.1 in
+    let x = slice_get-mapped (λ (s : Statement). s.method) statements listed.0 m listed.1 in
     subst (λ (n : ℕ). n < length p.methods) x.2 (among x.0 (listed.0, x.1))
 
 -- the methods from which a run may come to one of the statements are entered exactly where it may

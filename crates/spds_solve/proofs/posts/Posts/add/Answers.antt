@@ -18,4 +18,4 @@ pub returns-clause-posted : goal.returns-clause-posted
 returns-clause-posted c was =
     let put : c.add.new.self.keys ≡ c.args.self.now.posts.keys ++ c.args.post ∷ [] =
     elim c.in_ok-is_new.ensures.keys [ inl old ↦ absurd (true≢false (sym c.if-not-is_new.false ∙ c.in_ok-is_new.ensures.there.1 old.0)) | inr new ↦ new.1 ] in
-    posted_put c.args.self.now _ c.args.post put (rw c.key_of.ensures at c.in_ok-add.ensures) c.in_ok-add-2.ensures was
+    posted_put c.args.self.now _ c.args.post put (rw c.key_of.ensures at c.in_ok-add.ensures.last) c.in_ok-add-2.ensures.last was

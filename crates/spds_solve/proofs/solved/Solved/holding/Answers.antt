@@ -2,7 +2,7 @@ use Rattle.std.proofs.Common.{◌≡◌, ◌↔◌, ℕ, List, slice_index_or, s
 use Rattle.std.proofs.lemmas.List.{take_all}
 use Rattle.std.proofs.lemmas.Option.{slice_get-get_or}
 use Rattle.lists.specs.Lists.{Has}
-use Rattle.link_indexes.proofs.Grown.{take-next}
+use Rattle.lists.proofs.Places.{take-next}
 use Rattle.rule_cells.specs.Renamed.{number_in}
 use Rattle.spds_solve.specs.declared.arrivals.Arrival.{Arrival}
 use Rattle.spds_solve.proofs.Holding.{AreAsked, asked_all, asked_more, asked_none}

@@ -1,7 +1,6 @@
 use Rattle.std.proofs.Common.{◌≡◌, ◌<◌, ◌≤◌, List, [], Some, map, slice_get, length, sym, subst, arith}
 use Rattle.std.proofs.lemmas.Bool.{ltb-true, ltb-false}
-use Rattle.lists.proofs.Places.{slice_get-below}
-use Rattle.link_indexes.proofs.Grown.{slice_get-read}
+use Rattle.lists.proofs.Places.{slice_get-below, slice_get-read}
 use Rattle.link_laws.proofs.Lists.{at_map, map_at}
 use Rattle.spds_solve.specs.Solved.{IsOfBases, SolvedParts, SpellsFields}
 use Rattle.spds_solve.proofs.Celled.{answered_else, answered_then}

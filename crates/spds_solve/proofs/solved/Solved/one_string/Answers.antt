@@ -1,6 +1,6 @@
 use Rattle.std.proofs.Common.{◌≡◌, List, Some, slice_get, sym, subst, arith}
 use Rattle.std.proofs.lemmas.Bool.{ltb-true}
-use Rattle.link_indexes.proofs.Grown.{slice_get-read}
+use Rattle.lists.proofs.Places.{slice_get-read}
 use Rattle.link_laws.proofs.Lists.{map_at}
 use Rattle.spds_solve.specs.Solved.{IsOfBases, SpellsCalls}
 use Rattle.spds_solve.proofs.Celled.{strings_shared}

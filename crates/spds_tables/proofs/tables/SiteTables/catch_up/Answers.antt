@@ -3,8 +3,8 @@ use Rattle.std.proofs.lemmas.List.{append-nil, take_all}
 use Rattle.spds_tables.specs.declared.numbered.Met.{Met}
 use Rattle.spds_tables.specs.Tables.{AreBuiltWithin}
 use Rattle.spds_tables.proofs.Built.{caught_more, within_more}
-use Rattle.spds_tables.proofs.Lists.{Has-left}
 use Rattle.spds_tables.proofs.tables.SiteTables.catch_up.Goals as goal
+use Rattle.lists.proofs.Joined.{Has-left}
 
 pub loop-met-init : goal.loop-met-init
 loop-met-init c = record {
