@@ -2,9 +2,14 @@
 //! table of certificates.
 #![tactic(auto)]
 
+pub mod graph;
 #[cfg(test)]
 mod programs;
 #[cfg(test)]
 mod replays;
 #[cfg(test)]
 mod texts;
+#[cfg(test)]
+mod ways;
+#[cfg(test)]
+mod works;
