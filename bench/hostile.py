@@ -229,6 +229,20 @@ def calls_on_a_chain(count):
     return main_of(f'{last} x;', f'x = new {last};\n' + ''.join(f'virtualinvoke x.<C{i}: void m()>();\n' for i in range(count)), made)
 
 
+def keys_on_a_chain(count):
+    """Calls of many methods of the first class of a chain, on an object of it."""
+    made, last = chain(count, ' { ' + ''.join(f'void m{i}() {{ return; }}\n' for i in range(count)) + ' }')
+    return main_of('C0 x;', f'x = new {last};\n' + ''.join(f'virtualinvoke x.<C0: void m{i}()>();\n' for i in range(count)), made)
+
+
+def keys_of_an_interface(count):
+    """Calls of many methods on an interface that every second of the classes below one implements, which has the methods."""
+    made = 'class A { ' + ''.join(f'void m{i}() {{ return; }}\n' for i in range(count)) + ' }\n'
+    made += 'interface I { ' + ''.join(f'void m{i}();\n' for i in range(count)) + ' }\n'
+    made += ''.join(f'class C{i} extends A{" implements I" * (i % 2)} {{ }}\n' for i in range(count))
+    return main_of('I x;', 'x = new C1;\n' + ''.join(f'interfaceinvoke x.<I: void m{i}()>();\n' for i in range(count)), made)
+
+
 def every_second(count):
     """An interface with many methods that every second of the classes before it implements."""
     methods = ''.join(f'void m{i}();\n' for i in range(count))
@@ -286,6 +300,8 @@ SHAPES = {
     'fields over interfaces': (repeated(175_000)(fields_above_interfaces), RUN),
     'fields of an interface': (repeated(200_000)(fields_of_an_interface), RUN),
     'calls on a chain': (repeated(200_000)(calls_on_a_chain), RUN),
+    'keys on a chain': (repeated(140_000)(keys_on_a_chain), RUN),
+    'keys of an interface': (repeated(110_000)(keys_of_an_interface), RUN),
     'every second class': (repeated(300_000)(every_second), RUN),
     'under a chain': (repeated(200_000)(every_second_of_a_chain), RUN),
     'interfaces side by side': (repeated(160_000)(side_by_side), RUN),

@@ -7,6 +7,34 @@ use std::thread::Threads;
 
 pub const METHOD: &str = "<Main: void main(java.lang.String[])>";
 
+/// A class as a compiler lays it out, over the stand-ins for Java's own classes.
+pub const AS_COMPILED: &str = "public class Main extends java.lang.Object
+{
+    public void <init>()
+    {
+        Main r0;
+        r0 := @this: Main;
+        specialinvoke r0.<java.lang.Object: void <init>()>();
+        return;
+    }
+    public static void main(java.lang.String[])
+    {
+        java.lang.String[] r0;
+        java.io.PrintStream $r1;
+        java.lang.StringBuilder $r2, $r3;
+        java.lang.String $r4;
+        r0 := @parameter0: java.lang.String[];
+        $r1 = <java.lang.System: java.io.PrintStream out>;
+        $r2 = new java.lang.StringBuilder;
+        specialinvoke $r2.<java.lang.StringBuilder: void <init>()>();
+        $r3 = virtualinvoke $r2.<java.lang.StringBuilder: java.lang.StringBuilder append(java.lang.String)>(\"a\\n\");
+        $r4 = virtualinvoke $r3.<java.lang.StringBuilder: java.lang.String toString()>();
+        virtualinvoke $r1.<java.io.PrintStream: void println(java.lang.String)>($r4);
+        return;
+    }
+}
+";
+
 /// The most bytes of a reply.
 pub const ROOM: usize = 100_000;
 
@@ -96,6 +124,20 @@ pub fn is_reply<R: Threads + AllocGlobal + Sync>(
     let words = words(rt.alloc(), row)?;
     let bytes = Vec::from_slice(rt.alloc(), bytes)?;
     is_answered(rt, &words, bytes, pieces, number, reply.as_bytes())
+}
+
+/// The number of the status of the words of a row over a text, and the reply.
+pub fn reply_of<R: Threads + AllocGlobal + Sync>(
+    rt: &R,
+    row: &str,
+    text: &str,
+) -> Result<(u8, Vec<u8>), AllocError> {
+    let words = words(rt.alloc(), row)?;
+    let bytes = Vec::from_slice(rt.alloc(), text.as_bytes())?;
+    let mut source = MemSource::new(bytes, Vec::new(rt.alloc()), 1_000_000);
+    let mut sink = MemSink::new(rt.alloc(), ROOM, Vec::new(rt.alloc()), 1000)?;
+    let number = asked(rt, &words, &mut source, &mut sink);
+    Ok((number, Vec::from_slice(rt.alloc(), sink.bytes())?))
 }
 
 /// The number of the status of these words over a text.

@@ -6,6 +6,7 @@ mod asking;
 mod faults;
 
 pub use asking::{
-    METHOD, Pieces, ROOM, SMALL, is_answered, is_reply, is_reply_to, status_of, words, words_of,
+    AS_COMPILED, METHOD, Pieces, ROOM, SMALL, is_answered, is_reply, is_reply_to, reply_of,
+    status_of, words, words_of,
 };
 pub use faults::{Command, reads_that_fail, writes_that_fail};

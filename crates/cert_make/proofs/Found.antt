@@ -6,15 +6,15 @@ use Rattle.lists.specs.Lists.{Adds, Has}
 use Rattle.lists.proofs.Places.{slice_get-append_left, slice_get-below, slice_get-push, slice_get-pushed, slice_get-there, take-next}
 use Rattle.cert_rules.specs.declared.line.Line.{Line}
 use Rattle.cert_make.specs.Needs.{CiteBack, CitesLine, IsNeeded, numbers_of}
-use Rattle.cert_make.specs.Numbers.{IsGrownBy}
+use Rattle.cert_make.specs.Numbers.{HasGained}
 use Rattle.cert_make.proofs.Anew.{has_or, has_right}
 
 -- no number more
-pub grown_none : (old : List ℕ) → IsGrownBy [] old old
+pub grown_none : (old : List ℕ) → HasGained [] old old
 grown_none old = record { same = λ i n there. there; each = λ n has. inl has; all = λ n has. let e = has.1 in cc }
 
 -- one more
-added : (now : List ℕ) (number : ℕ) (new : List ℕ) → Adds now number new → IsGrownBy (number ∷ []) now new
+added : (now : List ℕ) (number : ℕ) (new : List ℕ) → Adds now number new → HasGained (number ∷ []) now new
 added now number new (inl old) = record {
   same = λ i n there. ap (λ (xs : List ℕ). slice_get xs i) old.1 ∙ there;
   each = λ n has. inl (subst (λ (xs : List ℕ). Has xs n) old.1 has);
@@ -38,7 +38,7 @@ added now number new (inr fresh) = record {
     only n (suc i, there) = cc
 
 -- by some, and then by others
-pub grown_both : (first second old now new : List ℕ) → IsGrownBy first old now → IsGrownBy second now new → IsGrownBy (first ++ second) old new
+pub grown_both : (first second old now new : List ℕ) → HasGained first old now → HasGained second now new → HasGained (first ++ second) old new
 grown_both first second old now new f s = record {
   same = λ i n there. s.same i n (f.same i n there);
   each = λ n has. elim (s.each n has) [
@@ -51,17 +51,17 @@ grown_both first second old now new f s = record {
   ];
 }
 
-pub grown_on_both : {A E : Type 0} (r : Result A E) (first second old now new : List ℕ) → IsGrownBy first old now → OnOk r (IsGrownBy second now new) → OnOk r (IsGrownBy (first ++ second) old new)
+pub grown_on_both : {A E : Type 0} (r : Result A E) (first second old now new : List ℕ) → HasGained first old now → OnOk r (HasGained second now new) → OnOk r (HasGained (first ++ second) old new)
 grown_on_both (Ok a) first second old now new f s = grown_both first second old now new f s
 grown_on_both (Err e) first second old now new f s = s
 
-pub grown_next : (numbers : List ℕ) (i number : ℕ) (old now new : List ℕ) → slice_get numbers i ≡ Some number → IsGrownBy (take i numbers) old now → Adds now number new
-    → IsGrownBy (take (i + 1) numbers) old new
+pub grown_next : (numbers : List ℕ) (i number : ℕ) (old now new : List ℕ) → slice_get numbers i ≡ Some number → HasGained (take i numbers) old now → Adds now number new
+    → HasGained (take (i + 1) numbers) old new
 grown_next numbers i number old now new there grown adds =
-    subst (λ (xs : List ℕ). IsGrownBy xs old new) (sym (take-next numbers i number there)) (grown_both (take i numbers) (number ∷ []) old now new grown (added now number new adds))
+    subst (λ (xs : List ℕ). HasGained xs old new) (sym (take-next numbers i number there)) (grown_both (take i numbers) (number ∷ []) old now new grown (added now number new adds))
 
-pub grown_all : (numbers : List ℕ) (i : ℕ) (old new : List ℕ) → length numbers ≤ i → IsGrownBy (take i numbers) old new → IsGrownBy numbers old new
-grown_all numbers i old new end grown = subst (λ (xs : List ℕ). IsGrownBy xs old new) (take_all i numbers end) grown
+pub grown_all : (numbers : List ℕ) (i : ℕ) (old new : List ℕ) → length numbers ≤ i → HasGained (take i numbers) old new → HasGained numbers old new
+grown_all numbers i old new end grown = subst (λ (xs : List ℕ). HasGained xs old new) (take_all i numbers end) grown
 
 module _ (lines : List Line) (claim : Line) where
   -- what is found so far is needed, and has what the claim cites, and what the lines with so many of the numbers cite
@@ -85,7 +85,7 @@ module _ (lines : List Line) (claim : Line) where
         let b = line_back i l number there cites in
         (b.0, omega (arith, b.1, slice_get-below lines i l there))
 
-  pub found_first : (none new : List ℕ) → none ≡ [] → IsGrownBy (numbers_of claim) none new → IsFound 0 new
+  pub found_first : (none new : List ℕ) → none ≡ [] → HasGained (numbers_of claim) none new → IsFound 0 new
   found_first none new empty grown = record {
     within = omega arith;
     each = λ number has. elim (grown.each number has) [
@@ -97,7 +97,7 @@ module _ (lines : List Line) (claim : Line) where
   }
 
   -- one more line is looked at
-  pub found_more : (at k : ℕ) (l : Line) (old new : List ℕ) → slice_get old at ≡ Some (suc k) → slice_get lines k ≡ Some l → IsFound at old → IsGrownBy (numbers_of l) old new → IsFound (at + 1) new
+  pub found_more : (at k : ℕ) (l : Line) (old new : List ℕ) → slice_get old at ≡ Some (suc k) → slice_get lines k ≡ Some l → IsFound at old → HasGained (numbers_of l) old new → IsFound (at + 1) new
   found_more at k l old new here line_there found grown = record {
     within = omega (arith, slice_get-below new at (suc k) (grown.same at (suc k) here));
     each = λ number has. elim (grown.each number has) [

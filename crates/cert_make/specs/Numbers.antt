@@ -15,7 +15,7 @@ up_to [] number = 0
 up_to (n ∷ numbers) number = cond (leb n number) 1 0 + up_to numbers number
 
 -- a list has grown by those of the numbers that weren't there: what stood there stands there still, and they are all there
-pub record IsGrownBy (numbers old new : List ℕ) : Type 0 where
+pub record HasGained (numbers old new : List ℕ) : Type 0 where
   pub same : (i n : ℕ) → slice_get old i ≡ Some n → slice_get new i ≡ Some n
   pub each : (n : ℕ) → Has new n → Has old n ⊎ Has numbers n
   pub all : (n : ℕ) → Has numbers n → Has new n

@@ -27,7 +27,7 @@ use Rattle.cert_work.specs.Held.{IsHeld}
 use Rattle.cert_work.specs.Roads.{IsEnd}
 use Rattle.cert_work.specs.Rules.{AreWorked, AreWorkedIfBest, IsAlongIfBest, IsFollowed, IsPoppedIfBest, IsPutIfBest}
 use Rattle.cert_work.specs.Wants.{IsWanted}
-use Rattle.cert_work.specs.Work.{AreStored, HasWord, IsAt, IsAtEnd, IsBelow, IsStored, IsTaker, IsWork, IsWorking, spot_of, word_of}
+use Rattle.cert_work.specs.Work.{AreStored, HasWord, IsAt, IsBelow, IsStored, IsTaker, IsWork, IsWorking, PutsAtEnd, spot_of, word_of}
 use Rattle.cert_work.proofs.Filing.{filed_if, filed_next, filed_same, le_next, no_at, no_below, no_stored, no_taker, not_along, not_linked, not_met, not_popped, not_put, worked_kept, worked_more, worked_next}
 use Rattle.cert_work.proofs.Growing.{many_more, second}
 use Rattle.cert_work.proofs.Stored.{stored_end, stored_more, stored_none}
@@ -68,8 +68,8 @@ module _ (p : LinkedProgram) (t : Node) (wants : Wants) (old : Work) (is : IsWor
   links_same = filed_same (λ (k : Word) (i : ℕ). Has (found_at word.eq-value.it old.links k) i) (IsBelow old.written) (IsBelow new) old.done num e is.filed.links
       (λ k i below. below_kept p t added k i) (λ k i below. below_less p t added k i (omega (arith, below, is.within)))
 
-  ends_same : ((k : Spot) → IsAt new k num → ⊥) → (k : Spot) (i : ℕ) → Has (found_at spot.eq-value.it old.spots k) i ↔ ((i ≤ num) × IsAtEnd p t new k i)
-  ends_same none = filed_same (λ (k : Spot) (i : ℕ). Has (found_at spot.eq-value.it old.spots k) i) (IsAtEnd p t old.written) (IsAtEnd p t new) old.done num e is.ends
+  ends_same : ((k : Spot) → IsAt new k num → ⊥) → (k : Spot) (i : ℕ) → Has (found_at spot.eq-value.it old.spots k) i ↔ ((i ≤ num) × PutsAtEnd p t new k i)
+  ends_same none = filed_same (λ (k : Spot) (i : ℕ). Has (found_at spot.eq-value.it old.spots k) i) (PutsAtEnd p t old.written) (PutsAtEnd p t new) old.done num e is.ends
       (λ k i below. at_end_kept p t added k i) (λ k i below. at_end_less p t added k i (omega (arith, below, is.within))) (λ k at. none k at.at)
 
   mets_same : ((k : Spot) → IsStored new k num → ⊥) → (k : Spot) (i : ℕ) → Has (found_at spot.eq-value.it old.mets k) i ↔ ((i ≤ num) × IsStored new k i)
@@ -147,11 +147,11 @@ module _ (p : LinkedProgram) (t : Node) (wants : Wants) (old : Work) (is : IsWor
 
     -- at an end the line is filed
     ends_if : {E : Type 0} → (E ↔ IsEnd p t h.node) → (spots : Grouped Spot ℕ) → SpotAddedIf E old.spots place num spots → (k : Spot) (i : ℕ)
-        → Has (found_at spot.eq-value.it spots k) i ↔ ((i ≤ num) × IsAtEnd p t new k i)
-    ends_if end spots places = filed_if (λ (k : Spot) (i : ℕ). Has (found_at spot.eq-value.it old.spots k) i) (IsAtEnd p t old.written) (IsAtEnd p t new) old.done num e is.ends
+        → Has (found_at spot.eq-value.it spots k) i ↔ ((i ≤ num) × PutsAtEnd p t new k i)
+    ends_if end spots places = filed_if (λ (k : Spot) (i : ℕ). Has (found_at spot.eq-value.it old.spots k) i) (PutsAtEnd p t old.written) (PutsAtEnd p t new) old.done num e is.ends
         (λ k i below. at_end_kept p t added k i) (λ k i below. at_end_less p t added k i (omega (arith, below, is.within)))
         (λ k i. Has (found_at spot.eq-value.it spots k) i) place places
-        (λ yes. subst (λ (k : Spot). IsAtEnd p t new k num) (sym place_is) (record { end = end.0 yes; at = (h.side, h.entry, here) }))
+        (λ yes. subst (λ (k : Spot). PutsAtEnd p t new k num) (sym place_is) (record { end = end.0 yes; at = (h.side, h.entry, here) }))
         (λ k at.
         let one = spot_one k at.at in
         let node : k.node ≡ h.node = ap (λ (y : Spot). y.node) (one ∙ place_is) in (end.1 (subst (λ (n : Node). IsEnd p t n) node at.end), one))
@@ -317,7 +317,7 @@ work_none p t wants w takers links spots mets none a b c d = record {
     links = filed_none word.eq-value.it (IsBelow w) (λ k is. is.1) links b;
     mets = filed_none spot.eq-value.it (IsStored w) (λ k is. is.3) mets d;
   };
-  ends = filed_none spot.eq-value.it (IsAtEnd p t w) (λ k is. is.at.2) spots c;
+  ends = filed_none spot.eq-value.it (PutsAtEnd p t w) (λ k is. is.at.2) spots c;
   stored = stored_none p t w none;
   takers = filed_none word.eq-value.it (IsTaker p t wants w) (λ k is. is.put) takers a;
   worked = none_worked p t wants w;

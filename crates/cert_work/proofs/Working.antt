@@ -21,7 +21,7 @@ use Rattle.cert_lines.specs.declared.keys.Spot.{Spot}
 use Rattle.cert_lines.specs.declared.keys.Word.{Word}
 use Rattle.cert_work.specs.Added.{AreAdded}
 use Rattle.cert_work.specs.declared.wants.Wants.{Wants}
-use Rattle.cert_work.specs.Work.{HasWord, IsAt, IsAtEnd, IsBelow, IsStored, IsTaker}
+use Rattle.cert_work.specs.Work.{HasWord, IsAt, IsBelow, IsStored, IsTaker, PutsAtEnd}
 use Rattle.cert_work.proofs.Growing.{cites_kept, cites_less}
 use Rattle.cert_work.specs.Held.{IsBelowHeld, IsHeld, IsMeeting}
 use Rattle.cert_work.specs.Rules.{GoesInto, GoesOn, IsAlong, IsPopped, IsPut, one_more}
@@ -107,7 +107,7 @@ module _ (p : LinkedProgram) (t : Node) {old new : Noted} (added : AreAdded p t 
   pub at_kept : (k : Spot) (i : ℕ) → IsAt old k i → IsAt new k i
   at_kept k i is = (is.0, is.1, cites_kept p t added i _ is.2)
 
-  pub at_end_kept : (k : Spot) (i : ℕ) → IsAtEnd p t old k i → IsAtEnd p t new k i
+  pub at_end_kept : (k : Spot) (i : ℕ) → PutsAtEnd p t old k i → PutsAtEnd p t new k i
   at_end_kept k i is = record { end = is.end; at = at_kept k i is.at }
 
   pub stored_kept : (k : Spot) (i : ℕ) → IsStored old k i → IsStored new k i
@@ -123,7 +123,7 @@ module _ (p : LinkedProgram) (t : Node) {old new : Noted} (added : AreAdded p t 
   pub at_less : (k : Spot) (i : ℕ) → i ≤ length old.given → IsAt new k i → IsAt old k i
   at_less k i low is = (is.0, is.1, cites_less p t added i _ low is.2)
 
-  pub at_end_less : (k : Spot) (i : ℕ) → i ≤ length old.given → IsAtEnd p t new k i → IsAtEnd p t old k i
+  pub at_end_less : (k : Spot) (i : ℕ) → i ≤ length old.given → PutsAtEnd p t new k i → PutsAtEnd p t old k i
   at_end_less k i low is = record { end = is.end; at = at_less k i low is.at }
 
   pub stored_less : (k : Spot) (i : ℕ) → i ≤ length old.given → IsStored new k i → IsStored old k i

@@ -46,7 +46,7 @@ abbrev pub IsAt : Noted → Spot → ℕ → Type 0
 IsAt w k i = (side : Side) × (x : Entry) × Cites w.given i (At side k.site x k.node)
 
 -- it put an object at an end
-pub record IsAtEnd (p : LinkedProgram) (t : Node) (w : Noted) (k : Spot) (i : ℕ) : Type 0 where
+pub record PutsAtEnd (p : LinkedProgram) (t : Node) (w : Noted) (k : Spot) (i : ℕ) : Type 0 where
   pub end : IsEnd p t k.node
   pub at : IsAt w k i
 
@@ -69,7 +69,7 @@ pub record AreFiled (w : Noted) (k : Work) : Type 0 where
 
 -- the same of those that put objects at ends
 abbrev pub AreEndsFiled : LinkedProgram → Node → Work → Type 0
-AreEndsFiled p t k = (x : Spot) (i : ℕ) → Has (found_at spot.eq-value.it k.spots x) i ↔ ((i ≤ k.done) × IsAtEnd p t k.written x i)
+AreEndsFiled p t k = (x : Spot) (i : ℕ) → Has (found_at spot.eq-value.it k.spots x) i ↔ ((i ≤ k.done) × PutsAtEnd p t k.written x i)
 
 -- they tell which of them put objects at the node
 abbrev pub TellsAt : Work → Node → Type 0

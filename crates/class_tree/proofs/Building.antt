@@ -10,19 +10,20 @@ use Rattle.class_tree.specs.declared.key_spans.KeySpans.{KeySpans}
 use Rattle.class_tree.specs.declared.rows.ClassRow.{ClassRow}
 use Rattle.class_tree.specs.declared.rows.MethodRow.{MethodRow}
 use Rattle.class_tree.specs.declared.rows.FieldRow.{FieldRow}
-use Rattle.class_tree.specs.declared.spans.Span.{Span}
-use Rattle.class_tree.specs.Groups.{group}
+use Rattle.class_order.specs.declared.spans.Span.{Span}
+use Rattle.class_order.specs.Groups.{group}
 use Rattle.class_tree.specs.Indexed.{HasFieldNear, TellsOf}
 use Rattle.class_tree.specs.KeySpans.{IsKeyed, member_of_method, member_of_field}
 use Rattle.class_tree.specs.Lookups.{own_field, Declared}
-use Rattle.class_tree.specs.Paths.{Path, here, step, ProperPath}
+use Rattle.class_order.specs.Paths.{Path, here, step, ProperPath}
 use Rattle.lists.specs.Lists.{IsLeast}
 use Rattle.class_tree.specs.Rows.{Rows, HasInterface, NamesUnknown, NameClasses, Step}
-use Rattle.class_tree.specs.Spans.{Holds}
-use Rattle.class_tree.specs.Tables.{Under, IsFinishing, ArePlaces, IsReach}
-use Rattle.class_tree.proofs.Listed.{Contains-at}
+use Rattle.class_order.specs.Spans.{Holds}
+use Rattle.class_order.specs.Tables.{Under, IsFinishing, IsReach}
+use Rattle.class_order.proofs.Listed.{Contains-at}
+use Rattle.class_order.proofs.Reached.{path_map}
 use Rattle.class_tree.proofs.Parents.{parent-below}
-use Rattle.class_tree.proofs.Positions.{found_at, found_from}
+use Rattle.class_order.proofs.Positions.{found_at, found_from}
 
 -- ---- the steps of the rows
 
@@ -39,25 +40,12 @@ interfaces_known classes implements known k d h = elim (below_or (get_or impleme
   | inr past ↦ absurd (known (get_or implements k d).0 ((get_or implements k d).1, inr (Contains-at implements k (get_or implements k d) (slice_get-get_or implements k d h)), past))
 ]
 
--- what is below a class is one
-pub sub_known : (rows : Rows) → NameClasses rows → {a class : ℕ} → class < length rows.classes → Path (Step rows.classes rows.implements) a class → a < length rows.classes
-sub_known rows named h here = h
-sub_known rows named h (step {a} {b} s p) = step-below rows.classes rows.implements a b named.implements s
-
 -- ---- from one relation to another
-
-module _ (S T : ℕ → ℕ → Type 0) (to : (a b : ℕ) → S a b → T a b) where
-  pub path_map : {a b : ℕ} → Path S a b → Path T a b
-  path_map here = here
-  path_map (step {a} {b} st p) = step (to a b st) (path_map p)
-
-  pub proper_map : (a b : ℕ) → ProperPath S a b → ProperPath T a b
-  proper_map a b (c, st, p) = (c, to a c st, path_map p)
 
 pub least_map : (P Q : ℕ → Type 0) → ((a : ℕ) → P a → Q a) → ((a : ℕ) → Q a → P a) → (n : ℕ) → IsLeast P n → IsLeast Q n
 least_map P Q to from n s = record { holds = to n s.holds; first = λ m h q. s.first m h (from m q) }
 
--- with fewer steps the order and the places serve too
+-- with fewer steps the order serves too
 pub finishing_fewer : (below fewer : List (List ℕ)) (order : List ℕ) → length fewer ≡ length below → ((a b : ℕ) → Under fewer a b → Under below a b) → IsFinishing below order → IsFinishing fewer order
 finishing_fewer below fewer order len to f = record {
   settled = record {
@@ -66,14 +54,6 @@ finishing_fewer below fewer order len to f = record {
     once = f.settled.once;
   };
   all = λ c h. f.all c (omega (arith, h, len));
-}
-
-pub places_fewer : (below fewer : List (List ℕ)) (places : List ℕ) → length fewer ≡ length below → ((a b : ℕ) → Under fewer a b → Under below a b) → ArePlaces below places → ArePlaces fewer places
-places_fewer below fewer places len to p = record {
-  len = p.len ∙ sym len;
-  within = λ c h. omega (arith, p.within c (omega (arith, h, len)), len);
-  own = λ a b ha hb. p.own a b (omega (arith, ha, len)) (omega (arith, hb, len));
-  falls = λ a b u. p.falls a b (to a b u);
 }
 
 pub reach_map : (S T : ℕ → ℕ → Type 0) (count n : ℕ) (places : List ℕ) (table : List (List Span)) → ((a b : ℕ) → S a b → T a b) → ((a b : ℕ) → T a b → S a b) → count ≡ n → IsReach S count places table → IsReach T n places table

@@ -6,7 +6,7 @@ use Rattle.class_tree.specs.Bodies.{has_body}
 use Rattle.class_tree.specs.declared.rows.ClassRow.{ClassRow}
 use Rattle.class_tree.specs.declared.rows.MethodRow.{MethodRow}
 use Rattle.class_tree.specs.Lookups.{IsDefault, IsHolder, IsLowestHolder, OnPath, Resolve, Upwards, ambiguous, by_default, ended, found, further, nowhere, on_path, own_body, own_row}
-use Rattle.class_tree.specs.Paths.{Path, here, step}
+use Rattle.class_order.specs.Paths.{Path, here, step}
 use Rattle.class_tree.specs.Rows.{HasParent, Rows, Step, Sub}
 use Rattle.class_tree.proofs.LawFacts.{path_append, position_first}
 use Rattle.class_tree.proofs.Parents.{parent-below}

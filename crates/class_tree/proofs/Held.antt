@@ -16,8 +16,8 @@ use Rattle.class_tree.specs.Lookups.{own_row}
 use Rattle.class_tree.specs.Rows.{Rows}
 use Rattle.class_tree.proofs.Building.{Contains-map, Contains-mapped}
 use Rattle.class_tree.proofs.KeyLists.{key_found, key_same}
-use Rattle.class_tree.proofs.Listed.{Contains-nil, Contains-take_more, Contains-take_kept, Contains-take_last}
-use Rattle.class_tree.proofs.Positions.{found_from}
+use Rattle.class_order.proofs.Listed.{Contains-nil, Contains-take_more, Contains-take_kept, Contains-take_last}
+use Rattle.class_order.proofs.Positions.{found_from}
 use Rattle.class_tree.proofs.Selected.{owned_row}
 
 -- ---- interfaces

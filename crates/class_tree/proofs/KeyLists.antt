@@ -10,13 +10,13 @@ use Rattle.std.proofs.lemmas.Option.{slice_get-get_or}
 use Rattle.indexmap.proofs.CallerLemmas.{Contains-insert_key}
 use Rattle.indexmap.specs.IndexSet.{insert_key}
 use Rattle.class_tree.specs.declared.first_rows.Member.{Member}
-use Rattle.class_tree.specs.declared.spans.Span.{Span}
-use Rattle.class_tree.specs.Groups.{group}
+use Rattle.class_order.specs.declared.spans.Span.{Span}
+use Rattle.class_order.specs.Groups.{group}
 use Rattle.class_tree.specs.KeySpans.{AreClassesByKey, HoldsKey, list_at}
-use Rattle.class_tree.specs.Spans.{AreApart, Holds, HoldsAny}
-use Rattle.class_tree.proofs.Listed.{Contains-nil, Contains-take_more, Contains-take_kept, Contains-take_last, Under-push, Under-kept, Under-pushed, group-replicate}
-use Rattle.class_tree.proofs.Positions.{found_from}
-use Rattle.class_tree.proofs.Spanned.{apart_none, holds_none}
+use Rattle.class_order.specs.Spans.{AreApart, Holds, HoldsAny}
+use Rattle.class_order.proofs.Listed.{Contains-nil, Contains-take_more, Contains-take_kept, Contains-take_last, Under-push, Under-kept, Under-pushed, group-replicate}
+use Rattle.class_order.proofs.Positions.{found_from}
+use Rattle.class_order.proofs.Spanned.{apart_none, holds_none}
 
 -- ---- the keys
 

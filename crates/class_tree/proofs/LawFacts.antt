@@ -8,7 +8,7 @@ use Rattle.class_tree.specs.declared.rows.ClassRow.{ClassRow}
 use Rattle.class_tree.specs.Laws.{IsMethodAbove, IsFieldAbove, PathFindsMethods, PathGivesOneAnswer, LookUpFindsFields, LookUpGivesOneAnswer, SubIsTransitive}
 use Rattle.class_tree.specs.Lookups.{Upwards, found, further, ended, FieldHere, own_body, own_field}
 use Rattle.class_tree.specs.Orders.{Order, Orders, class_first, no_more, each, first_found}
-use Rattle.class_tree.specs.Paths.{Path, here, step}
+use Rattle.class_order.specs.Paths.{Path, here, step}
 use Rattle.class_tree.specs.Rows.{Rows, HasParent, HasNoParent, Sub, interfaces_of}
 use Rattle.class_tree.proofs.OrderFacts.{order_reached}
 use Rattle.class_tree.proofs.Parents.{interface_named}

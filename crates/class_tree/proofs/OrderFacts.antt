@@ -5,8 +5,8 @@ use Rattle.std.specs.Option.{option_or}
 use Rattle.std.proofs.lemmas.List.Elements.{Contains-append_left, Contains-append_right, Contains-append_cases}
 use Rattle.std.proofs.lemmas.List.{append_assoc}
 use Rattle.class_tree.specs.Orders.{Order, Orders, class_first, no_more, each, first_found}
-use Rattle.class_tree.specs.Paths.{Path, here, step}
-use Rattle.class_tree.proofs.Listed.{Contains-nil}
+use Rattle.class_order.specs.Paths.{Path, here, step}
+use Rattle.class_order.proofs.Listed.{Contains-nil}
 
 -- ---- what is found first
 

@@ -5,7 +5,7 @@ use Rattle.std.proofs.lemmas.List.Elements.{All-contains, Contains-get_or}
 use Rattle.std.proofs.lemmas.Option.{slice_get-get_or, slice_get_within}
 use Rattle.class_tree.specs.declared.rows.ClassRow.{ClassRow}
 use Rattle.class_tree.specs.Rows.{HasParent, HasNoParent, NamesUnknown, interfaces_of}
-use Rattle.class_tree.proofs.Listed.{Contains-take_more, Contains-nil}
+use Rattle.class_order.proofs.Listed.{Contains-take_more, Contains-nil}
 
 pub parent-below : (classes : List ClassRow) (a b : ℕ) → HasParent classes a b → a < length classes
 parent-below classes a b p = slice_get_within classes a p.row p.there

@@ -4,7 +4,7 @@ use Rattle.std.proofs.lemmas.Bool.{and_parts}
 use Rattle.class_tree.specs.declared.rows.MethodRow.{MethodRow}
 use Rattle.class_tree.specs.Laws.{IsMethodOver, SelectionFindsMethods, SelectionGivesOneAnswer}
 use Rattle.class_tree.specs.Lookups.{IsDefault, OnPath, Resolve, ambiguous, by_default, nowhere, on_path, own_row}
-use Rattle.class_tree.specs.Paths.{Path, here, step}
+use Rattle.class_order.specs.Paths.{Path, here, step}
 use Rattle.class_tree.specs.Rows.{HasParent, Rows, Sub}
 use Rattle.class_tree.proofs.LawFacts.{path_finds, path_one, position_first}
 

@@ -14,14 +14,14 @@ use Rattle.class_tree.specs.declared.rows.ClassRow.{ClassRow}
 use Rattle.class_tree.specs.declared.rows.FieldRow.{FieldRow}
 use Rattle.class_tree.specs.declared.rows.MethodRow.{MethodRow}
 use Rattle.class_tree.specs.declared.turns.Turn.{Turn}
-use Rattle.class_tree.specs.Groups.{group}
+use Rattle.class_order.specs.Groups.{group}
 use Rattle.class_tree.specs.KeySpans.{list_at, member_of_field, member_of_method}
 use Rattle.class_tree.specs.Lookups.{Upwards, found, further, ended, own_body, own_field}
 use Rattle.class_tree.specs.Rows.{HasParent}
 use Rattle.class_tree.specs.Turns.{AreOwn, AreRowsOf, HaveOneRow, IsForest, IsNumbering, OwnAt, SlotPath, turned}
 use Rattle.class_tree.proofs.KeyLists.{key_found, key_same}
 use Rattle.class_tree.proofs.LawFacts.{position_first}
-use Rattle.class_tree.proofs.Listed.{Contains-at, Contains-nil, group-replicate}
+use Rattle.class_order.proofs.Listed.{Contains-at, Contains-nil, group-replicate}
 
 -- ---- the members of rows
 
@@ -236,8 +236,8 @@ forest_of classes own_of keys numbers n owns are owns_len copied is = subst (λ 
   owns_len = owns_len;
   slots = own_slots own_of keys owns are;
   one = own_one own_of keys owns are;
-  len = is.len;
-  apart = is.apart;
+  len = is.own.len;
+  apart = is.own.own;
   falls = is.falls;
   known = is.known;
 })

@@ -4,39 +4,46 @@ use Rattle.std.specs.List.{Contains, filter}
 use Rattle.std.proofs.lemmas.List.{map-append, append-nil}
 use Rattle.std.proofs.lemmas.List.Elements.{filter_more}
 use Rattle.class_tree.specs.declared.rows.ClassRow.{ClassRow}
-use Rattle.class_tree.specs.Groups.{group}
+use Rattle.class_order.specs.Groups.{group}
 use Rattle.class_tree.specs.Rows.{HasInterface, HasParent, Step, interfaces_of}
-use Rattle.class_tree.specs.Tables.{Under}
-use Rattle.class_tree.proofs.Listed.{Under-push, Under-pushed, Under-kept, Contains-take_more, Contains-take_kept, Contains-take_last}
+use Rattle.class_order.specs.Tables.{Under}
+use Rattle.class_order.proofs.Listed.{Under-push, Under-pushed, Under-kept, Contains-take_more, Contains-take_kept, Contains-take_last}
 use Rattle.class_tree.proofs.Parents.{interface_listed, interface_named, parent_from, parent_same, parent_at}
 
 below_or_at : (a i : ℕ) → a < i + 1 → (a < i) ⊎ (a ≡ i)
 below_or_at a i h = grind arith
 
--- the row at i names p
-pub children_more : (classes : List ClassRow) (below : List (List ℕ)) (i p : ℕ) (d : ClassRow) → i < length classes → p < length below → (get_or classes i d).parent ≡ Some p
-    → ((a b : ℕ) → Under below a b ↔ ((a < i) × HasParent classes a b))
-    → (a b : ℕ) → Under (set below p (group below p ++ i ∷ [])) a b ↔ ((a < i + 1) × HasParent classes a b)
-children_more classes below i p d h hp e inv a b = (
-  λ u. elim (Under-push below p i a b hp u) [
-    | inl old ↦ let q = (inv a b).0 old in (omega (arith, q.0), q.1)
-    | inr new ↦ (omega (arith, new.1), subst (λ k. HasParent classes k b) (sym new.1) (subst (HasParent classes i) (sym new.0) (parent_from classes i p d h e)))
+-- the class at i of the order has the parent p
+pub children_more : (classes : List ClassRow) (below : List (List ℕ)) (order : List ℕ) (i p : ℕ) (d : ClassRow) → i < length order → get_or order i 0 < length classes → p < length below
+    → (get_or classes (get_or order i 0) d).parent ≡ Some p → ((a b : ℕ) → Under below a b ↔ (Contains (take i order) a × HasParent classes a b))
+    → (a b : ℕ) → Under (set below p (group below p ++ get_or order i 0 ∷ [])) a b ↔ (Contains (take (i + 1) order) a × HasParent classes a b)
+children_more classes below order i p d h known hp e inv a b = (
+  λ u. elim (Under-push below p class a b hp u) [
+    | inl old ↦ let q = (inv a b).0 old in (Contains-take_kept order i 0 a h q.0, q.1)
+    | inr new ↦ (
+      subst (Contains (take (i + 1) order)) (sym new.1) (Contains-take_last order i 0 h),
+      subst (λ k. HasParent classes k b) (sym new.1) (subst (HasParent classes class) (sym new.0) (parent_from classes class p d known e)),
+    )
   ],
-  λ q. elim (below_or_at a i q.0) [
-    | inl lt ↦ Under-kept below p i a b hp ((inv a b).1 (lt, q.1))
-    | inr at ↦ let same : b ≡ p = parent_same classes i b p d (subst (λ k. HasParent classes k b) at q.1) e in
-        subst (λ k. Under (set below p (group below p ++ i ∷ [])) k b) (sym at) (subst (Under (set below p (group below p ++ i ∷ [])) i) (sym same) (Under-pushed below p i hp))
+  λ q. elim (Contains-take_more order i 0 a h q.0) [
+    | inl old ↦ Under-kept below p class a b hp ((inv a b).1 (old, q.1))
+    | inr at ↦ let same : b ≡ p = parent_same classes class b p d (subst (λ k. HasParent classes k b) (sym at) q.1) e in
+        subst (λ k. Under (set below p (group below p ++ class ∷ [])) k b) at (subst (Under (set below p (group below p ++ class ∷ [])) class) (sym same) (Under-pushed below p class hp))
   ],
 )
+  where
+    class : ℕ
+    class = get_or order i 0
 
--- it names none
-pub children_none : (classes : List ClassRow) (below : List (List ℕ)) (i : ℕ) (d : ClassRow) → ((p : ℕ) → (get_or classes i d).parent ≡ Some p → ⊥)
-    → ((a b : ℕ) → Under below a b ↔ ((a < i) × HasParent classes a b)) → (a b : ℕ) → Under below a b ↔ ((a < i + 1) × HasParent classes a b)
-children_none classes below i d none inv a b = (
-  λ u. let q = (inv a b).0 u in (omega (arith, q.0), q.1),
-  λ q. elim (below_or_at a i q.0) [
-    | inl lt ↦ (inv a b).1 (lt, q.1)
-    | inr at ↦ absurd (none b (parent_at classes i b d (subst (λ k. HasParent classes k b) at q.1)))
+-- it has none
+pub children_none : (classes : List ClassRow) (below : List (List ℕ)) (order : List ℕ) (i : ℕ) (d : ClassRow) → i < length order
+    → ((p : ℕ) → (get_or classes (get_or order i 0) d).parent ≡ Some p → ⊥) → ((a b : ℕ) → Under below a b ↔ (Contains (take i order) a × HasParent classes a b))
+    → (a b : ℕ) → Under below a b ↔ (Contains (take (i + 1) order) a × HasParent classes a b)
+children_none classes below order i d h none inv a b = (
+  λ u. let q = (inv a b).0 u in (Contains-take_kept order i 0 a h q.0, q.1),
+  λ q. elim (Contains-take_more order i 0 a h q.0) [
+    | inl old ↦ (inv a b).1 (old, q.1)
+    | inr at ↦ absurd (none b (parent_at classes (get_or order i 0) b d (subst (λ k. HasParent classes k b) (sym at) q.1)))
   ],
 )
 

@@ -8,21 +8,21 @@ use Rattle.std.proofs.lemmas.List.Elements.{All-contains, Contains-append_left, 
 use Rattle.std.proofs.lemmas.Option.{slice_get_within, get_or_from_slice_get}
 use Rattle.class_tree.specs.declared.key_spans.KeySpans.{KeySpans}
 use Rattle.class_tree.specs.declared.rows.ClassRow.{ClassRow}
-use Rattle.class_tree.specs.declared.spans.Span.{Span}
-use Rattle.class_tree.specs.Groups.{group}
-use Rattle.class_tree.specs.Indexed.{HasFieldNear, ArePlaced, TellsOf, IsHierarchy}
+use Rattle.class_order.specs.declared.spans.Span.{Span}
+use Rattle.class_order.specs.Groups.{group}
+use Rattle.class_tree.specs.Indexed.{HasFieldNear, AreRanked, TellsOf, IsHierarchy}
 use Rattle.class_tree.specs.KeySpans.{spans_of}
 use Rattle.class_tree.specs.Lookups.{own_field, FieldHere}
 use Rattle.class_tree.specs.Orders.{Orders, class_first, each, first_found}
-use Rattle.class_tree.specs.Paths.{Path, here, step}
+use Rattle.class_order.specs.Paths.{Path, here, step}
 use Rattle.class_tree.specs.Rows.{Rows, HasParent, HasNoParent, HasInterface, Step, interfaces_of}
-use Rattle.class_tree.specs.Spans.{Holds}
-use Rattle.class_tree.specs.Tables.{IsReach}
-use Rattle.class_tree.proofs.Listed.{same_read}
+use Rattle.class_order.specs.Spans.{Holds}
+use Rattle.class_order.specs.Tables.{IsReach}
+use Rattle.class_order.proofs.Listed.{same_read}
 use Rattle.class_tree.proofs.OrderFacts.{order_misses, order_exists, orders_exist, orders_append, orders_miss, first_found-append}
-use Rattle.class_tree.proofs.Placed.{taken_at}
+use Rattle.class_order.proofs.Placed.{taken_at}
 use Rattle.class_tree.proofs.Parents.{parent_from, no_parent_from, interface_named, interface_listed}
-use Rattle.class_tree.proofs.Reached.{path_last}
+use Rattle.class_order.proofs.Reached.{path_last}
 
 -- ---- the parent in a row
 
@@ -66,8 +66,8 @@ tells_path Go count places table answer a b place t ha hb e test = let at = subs
 split_at : {X : Type 0} (xs : List X) (j : ℕ) (x : X) → slice_get xs j ≡ Some x → xs ≡ take j xs ++ (x ∷ drop (suc j) xs)
 split_at xs j x e = sym (take-append-drop j xs) ∙ ap (λ ys. take j xs ++ ys) (drop-cons xs j x (slice_get_within xs j x e) ∙ ap (λ y. y ∷ drop (suc j) xs) (get_or_from_slice_get xs j x x e))
 
-module _ (rows : Rows) (places : List ℕ) (p : ArePlaced rows places) where
-  falls : (c i : ℕ) → Contains (interfaces_of rows.implements c) i → get_or places i 0 < get_or places c 0
+module _ (rows : Rows) (ranks : List ℕ) (p : AreRanked rows ranks) where
+  falls : (c i : ℕ) → Contains (interfaces_of rows.implements c) i → get_or ranks i 0 < get_or ranks c 0
   falls c i m = p.falls c i (inr (interface_named rows.implements c i m))
 
   -- paths of interfaces, by the rows and by the lists
@@ -82,7 +82,7 @@ module _ (rows : Rows) (places : List ℕ) (p : ArePlaced rows places) where
   -- the class has the field itself
   pub field_in_class : (class key row : ℕ) → Some row ≡ own_field rows.fields class key → FieldHere rows key class (Some row)
   field_in_class class key row found =
-      let o = orders_exist (interfaces_of rows.implements) (λ c. get_or places c 0) falls (get_or places class 0) (interfaces_of rows.implements class) (falls class) in
+      let o = orders_exist (interfaces_of rows.implements) (λ c. get_or ranks c 0) falls (get_or ranks class 0) (interfaces_of rows.implements class) (falls class) in
       (class ∷ o.0, class_first o.1, sym (ap (λ r. option_or r (first_found (λ b. own_field rows.fields b key) o.0)) (sym found)))
 
   missing : (class key : ℕ) → (HasFieldNear rows class key → ⊥) → (d : ℕ) → Path (λ a b. Contains (interfaces_of rows.implements a) b) class d → own_field rows.fields d key ≡ None
@@ -95,7 +95,7 @@ module _ (rows : Rows) (places : List ℕ) (p : ArePlaced rows places) where
   -- no class that is reached by interfaces has it
   pub field_nowhere : (class key : ℕ) → (HasFieldNear rows class key → ⊥) → FieldHere rows key class None
   field_nowhere class key none =
-      let o = order_exists (interfaces_of rows.implements) (λ c. get_or places c 0) falls class in
+      let o = order_exists (interfaces_of rows.implements) (λ c. get_or ranks c 0) falls class in
       (o.0, o.1, sym (order_misses (interfaces_of rows.implements) (λ b. own_field rows.fields b key) class o.0 o.1 (missing class key none)))
 
   -- where no interface that a class names has it, a class and its interfaces have what the class itself has
@@ -134,15 +134,15 @@ module _ (rows : Rows) (places : List ℕ) (p : ArePlaced rows places) where
       split : all ≡ take j all ++ (i ∷ drop (suc j) all)
       split = split_at all j i at
 
-      within : (cs : List ℕ) → ((c : ℕ) → Contains cs c → Contains all c) → (c : ℕ) → Contains cs c → get_or places c 0 < get_or places class 0
+      within : (cs : List ℕ) → ((c : ℕ) → Contains cs c → Contains all c) → (c : ℕ) → Contains cs c → get_or ranks c 0 < get_or ranks class 0
       within cs some c m = falls class c (some c m)
 
       first : (xs : List ℕ) × Orders (interfaces_of rows.implements) (take j all) xs
-      first = orders_exist (interfaces_of rows.implements) (λ c. get_or places c 0) falls (get_or places class 0) (take j all)
+      first = orders_exist (interfaces_of rows.implements) (λ c. get_or ranks c 0) falls (get_or ranks class 0) (take j all)
           (within (take j all) (λ c m. subst (λ xs. Contains xs c) (sym split) (Contains-append_left (take j all) _ c m)))
 
       last : (xs : List ℕ) × Orders (interfaces_of rows.implements) (drop (suc j) all) xs
-      last = orders_exist (interfaces_of rows.implements) (λ c. get_or places c 0) falls (get_or places class 0) (drop (suc j) all)
+      last = orders_exist (interfaces_of rows.implements) (λ c. get_or ranks c 0) falls (get_or ranks class 0) (drop (suc j) all)
           (within (drop (suc j) all) (λ c m. subst (λ xs. Contains xs c) (sym split) (Contains-append_right (take j all) _ c (Contains-append_right (i ∷ []) _ c m))))
 
       nothing : first_found own first.0 ≡ None

@@ -6,9 +6,9 @@ use Rattle.std.proofs.lemmas.List.Elements.{All-push, Contains-append_left, Cont
 use Rattle.std.proofs.lemmas.List.Sorted.{IsNonDecreasingBy-push}
 use Rattle.class_tree.specs.declared.own_rows.Own.{Own}
 use Rattle.class_tree.specs.declared.turns.Turn.{Turn}
-use Rattle.class_tree.specs.Groups.{group}
+use Rattle.class_order.specs.Groups.{group}
 use Rattle.class_tree.specs.Turns.{AreUpTo, HaveTurned, last_row, row_over, turned}
-use Rattle.class_tree.proofs.Listed.{Contains-take_kept, Contains-take_last, Contains-take_more, Contains-nil}
+use Rattle.class_order.proofs.Listed.{Contains-take_kept, Contains-take_last, Contains-take_more, Contains-nil}
 
 -- ---- what is read of turns
 

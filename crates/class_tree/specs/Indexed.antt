@@ -7,16 +7,16 @@ use Rattle.class_tree.specs.declared.inherited.Inherited.{Inherited}
 use Rattle.class_tree.specs.declared.rows.ClassRow.{ClassRow}
 use Rattle.class_tree.specs.declared.rows.MethodRow.{MethodRow}
 use Rattle.class_tree.specs.declared.rows.FieldRow.{FieldRow}
-use Rattle.class_tree.specs.declared.spans.Span.{Span}
+use Rattle.class_order.specs.declared.spans.Span.{Span}
 use Rattle.class_tree.specs.FirstRows.{row_at}
-use Rattle.class_tree.specs.Groups.{group}
+use Rattle.class_order.specs.Groups.{group}
 use Rattle.class_tree.specs.Holders.{AreHolders, IsInterface, holders_of}
 use Rattle.class_tree.specs.KeySpans.{IsKeyed, member_of_field, member_of_method, spans_of}
 use Rattle.class_tree.specs.Lookups.{own_body, own_field, own_row, Declared, IsHolder}
-use Rattle.class_tree.specs.Paths.{Path}
+use Rattle.class_order.specs.Paths.{Path}
 use Rattle.class_tree.specs.Rows.{Rows, rows_of, NameClasses, NamesUnknown, IsOwnAncestor, Step, HasInterface, interfaces_of}
-use Rattle.class_tree.specs.Spans.{AreApart, Holds}
-use Rattle.class_tree.specs.Tables.{IsReach, Under}
+use Rattle.class_order.specs.Spans.{AreApart, Holds}
+use Rattle.class_order.specs.Tables.{HavePlaces, IsReach}
 use Rattle.class_tree.specs.Inherited.{AreInherited}
 
 -- every parent and interface is a class, and no class is its own ancestor
@@ -37,10 +37,10 @@ pub record TellsOf (P : ℕ → ℕ → Type 0) (count : ℕ) (places : List ℕ
   pub apart : (k : ℕ) → AreApart (spans_of s k)
   pub exact : (a k : ℕ) → a < count → Holds (spans_of s k) (slice_index places a) ↔ P a k
 
--- a place of its own for each class, after those of its parent and its interfaces
-pub record ArePlaced (rows : Rows) (places : List ℕ) : Type 0 where
-  pub len : length places ≡ length rows.classes
-  pub falls : (a b : ℕ) → Step rows.classes rows.implements a b → slice_index places b < slice_index places a
+-- a rank for each class, above those of its parent and its interfaces
+pub record AreRanked (rows : Rows) (ranks : List ℕ) : Type 0 where
+  pub len : length ranks ≡ length rows.classes
+  pub falls : (a b : ℕ) → Step rows.classes rows.implements a b → slice_index ranks b < slice_index ranks a
 
 -- the rows that are kept
 abbrev pub rows_in : KeptRows → Rows
@@ -67,13 +67,12 @@ pub record AreMembers (classes : List ClassRow) (methods : List MethodRow) (fiel
   pub own_fields : (c k : ℕ) → row_at m.own_fields c k ≡ own_field fields c k
 
 -- the tables say what the rows say
-pub record IsIndexed (rows : Rows) (below interfaces : List (List ℕ)) (places : List ℕ) (reach : List (List Span)) (members : Members) (inherited : Inherited) : Type 0 where
+pub record IsIndexed (rows : Rows) (interfaces : List (List ℕ)) (ranks places : List ℕ) (reach : List (List Span)) (members : Members) (inherited : Inherited) : Type 0 where
   pub named : NameClasses rows
   pub hierarchy : IsHierarchy rows
-  pub placed : ArePlaced rows places
+  pub ranked : AreRanked rows ranks
+  pub placed : HavePlaces (length rows.classes) places
   pub few : length rows.classes < 2 ^ 32
-  pub below_len : length below ≡ length rows.classes
-  pub below_are : (a b : ℕ) → Under below a b ↔ Step rows.classes rows.implements a b
   pub interfaces_len : length interfaces ≡ length rows.classes
   pub interfaces_are : (a : ℕ) → group interfaces a ≡ interfaces_of rows.implements a
   pub reached : IsReach (Step rows.classes rows.implements) (length rows.classes) places reach
@@ -84,7 +83,7 @@ pub record IsIndexed (rows : Rows) (below interfaces : List (List ℕ)) (places 
   pub holders_len : length members.holders.interfaces ≡ length members.holders.keys.keys
   pub holders : (b k : ℕ) → Contains (holders_of members.holders k) b ↔ HoldsMethod rows b k
   pub fields : (c k : ℕ) → row_at members.own_fields c k ≡ own_field rows.fields c k
-  pub along : AreInherited rows inherited
+  pub along : AreInherited rows places inherited
 
 -- the class is the first of those for which there is such a field
 pub record IsFirstNear (rows : Rows) (classes : List ℕ) (key class : ℕ) : Type 0 where

@@ -9,8 +9,8 @@ use Rattle.class_tree.specs.Turns.{TellPaths}
 abbrev pub member_of_pair : ℕ × ℕ → Member
 member_of_pair p = record { class = p.0; key = p.1 }
 
--- look-ups along the parents, and at least the keys of the fields of interfaces that some class names
-pub record AreInherited (rows : Rows) (inherited : Inherited) : Type 0 where
-  pub methods : TellPaths rows.classes (own_body rows.methods) inherited.methods
-  pub fields : TellPaths rows.classes (own_field rows.fields) inherited.fields
+-- look-ups along the parents by the places of the classes, and at least the keys of the fields of interfaces that some class names
+pub record AreInherited (rows : Rows) (places : List ℕ) (inherited : Inherited) : Type 0 where
+  pub methods : TellPaths rows.classes (own_body rows.methods) places inherited.methods
+  pub fields : TellPaths rows.classes (own_field rows.fields) places inherited.fields
   pub of_interfaces : (a b key row : ℕ) → HasInterface rows.implements a b → own_field rows.fields b key ≡ Some row → Contains inherited.of_interfaces.keys key

@@ -4,9 +4,9 @@ use Rattle.class_tree.specs.declared.first_rows.Member.{Member}
 use Rattle.class_tree.specs.declared.key_spans.KeySpans.{KeySpans}
 use Rattle.class_tree.specs.declared.rows.MethodRow.{MethodRow}
 use Rattle.class_tree.specs.declared.rows.FieldRow.{FieldRow}
-use Rattle.class_tree.specs.declared.spans.Span.{Span}
-use Rattle.class_tree.specs.Groups.{group}
-use Rattle.class_tree.specs.Spans.{AreApart, Holds}
+use Rattle.class_order.specs.declared.spans.Span.{Span}
+use Rattle.class_order.specs.Groups.{group}
+use Rattle.class_order.specs.Spans.{AreApart, Holds}
 
 abbrev pub member_of_method : MethodRow → Member
 member_of_method m = record { class = m.class; key = m.key }

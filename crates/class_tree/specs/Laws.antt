@@ -4,7 +4,7 @@ use Rattle.class_tree.specs.Bodies.{has_body}
 use Rattle.class_tree.specs.declared.rows.MethodRow.{MethodRow}
 use Rattle.class_tree.specs.declared.rows.FieldRow.{FieldRow}
 use Rattle.class_tree.specs.Lookups.{OnPath, Resolve, FieldOf}
-use Rattle.class_tree.specs.Paths.{Path}
+use Rattle.class_order.specs.Paths.{Path}
 use Rattle.class_tree.specs.Rows.{Rows, HasParent, Sub}
 
 -- each class is below itself

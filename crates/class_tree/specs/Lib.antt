@@ -1,16 +1,13 @@
 pub mod Bodies
 pub mod FirstRows
-pub mod Groups
 pub mod Lookups
 pub mod Orders
-pub mod Paths
 pub mod Rows
-pub mod Tables
-pub mod Spans
 pub mod KeySpans
 pub mod Holders
 pub mod Indexed
 pub mod Inherited
 pub mod Defaults
 pub mod Turns
+pub mod Layouts
 pub mod Laws

@@ -3,7 +3,7 @@ use Rattle.std.specs.Prelude.{◌≡◌, ℕ, ◌<◌, ◌≤◌, ◌⊎◌, ◌
 use Rattle.class_tree.specs.declared.rows.ClassRow.{ClassRow}
 use Rattle.class_tree.specs.declared.rows.MethodRow.{MethodRow}
 use Rattle.class_tree.specs.declared.rows.FieldRow.{FieldRow}
-use Rattle.class_tree.specs.Paths.{Path, ProperPath}
+use Rattle.class_order.specs.Paths.{Path, ProperPath}
 
 -- classes, pairs of a class and one of its interfaces, methods and fields: a class is named by its index
 pub record Rows : Type 0 where

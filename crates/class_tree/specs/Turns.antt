@@ -7,10 +7,11 @@ use Rattle.class_tree.specs.declared.own_rows.Own.{Own}
 use Rattle.class_tree.specs.declared.paths.Paths.{Paths}
 use Rattle.class_tree.specs.declared.rows.ClassRow.{ClassRow}
 use Rattle.class_tree.specs.declared.turns.Turn.{Turn}
-use Rattle.class_tree.specs.Groups.{group}
+use Rattle.class_order.specs.Groups.{group}
 use Rattle.class_tree.specs.KeySpans.{list_at}
 use Rattle.class_tree.specs.Lookups.{Upwards}
 use Rattle.class_tree.specs.Rows.{HasParent}
+use Rattle.class_order.specs.Tables.{HavePlaces}
 
 -- the row of the last turn at the number or before it, of turns in order
 abbrev pub turned : Option ℕ → List Turn → ℕ → Option ℕ
@@ -37,7 +38,7 @@ abbrev pub numbered : List ℕ → Option ℕ → Option ℕ
 numbered numbers None = None
 numbered numbers (Some c) = Some (slice_index numbers c)
 
--- each of the slots has taken a turn at this number, to the row that `Row` tells of it; nothing else has changed
+-- each of the slots has taken a turn at this number, to the row that `rows` tells of it; nothing else has changed
 pub record HaveTurned (n : ℕ) (owns : List Own) (rows : Own → Option ℕ) (old new : List (List Turn)) : Type 0 where
   pub len : length new ≡ length old
   pub ordered : ((s : ℕ) → AreUpTo n (group old s)) → (s : ℕ) → AreUpTo n (group new s)
@@ -95,8 +96,7 @@ pub record IsNumbering (classes : List ClassRow) (n : Numbering) : Type 0 where
   pub within : (c : ℕ) → Contains n.order.items c → c < length classes
   pub all : (c : ℕ) → c < length classes → Contains n.order.items c
   pub placed : (i c : ℕ) → slice_get n.order.items i ≡ Some c → slice_index n.numbers.items c + 1 + i ≡ length n.order.items
-  pub len : length n.numbers.items ≡ length classes
-  pub apart : (a b : ℕ) → a < length classes → b < length classes → slice_index n.numbers.items a ≡ slice_index n.numbers.items b → a ≡ b
+  pub own : HavePlaces (length classes) n.numbers.items
   pub falls : (a b : ℕ) → HasParent classes a b → slice_index n.numbers.items b < slice_index n.numbers.items a
   pub known : (a b : ℕ) → HasParent classes a b → b < length classes
 
@@ -104,9 +104,8 @@ pub record IsNumbering (classes : List ClassRow) (n : Numbering) : Type 0 where
 abbrev pub turns_of : Paths → ℕ → List Turn
 turns_of paths key = list_at paths.turns (position (λ x. key == x) paths.keys.keys)
 
--- look-ups of all keys from all classes, by the rows that each class has for itself
-pub record TellPaths (classes : List ClassRow) (own : ℕ → ℕ → Option ℕ) (paths : Paths) : Type 0 where
+-- look-ups of all keys from all classes, by the rows that each class has for itself and by the numbers of the classes
+pub record TellPaths (classes : List ClassRow) (own : ℕ → ℕ → Option ℕ) (numbers : List ℕ) (paths : Paths) : Type 0 where
   pub len : length paths.turns ≡ length paths.keys.keys
-  pub numbers : length paths.numbers.items ≡ length classes
   pub rising : (key : ℕ) → IsNonDecreasingBy (λ t. t.at) (turns_of paths key)
-  pub exact : (c key : ℕ) → c < length classes → Upwards classes (λ c r. r ≡ own c key) c (turned None (turns_of paths key) (slice_index paths.numbers.items c))
+  pub exact : (c key : ℕ) → c < length classes → Upwards classes (λ c r. r ≡ own c key) c (turned None (turns_of paths key) (slice_index numbers c))

@@ -1,14 +1,11 @@
-ghost use Rattle.std.specs.Prelude.{◌≡◌, ◌<◌, ◌↔◌, length, All, Contains, IfOk, slice_get, Some};
+ghost use Rattle.std.specs.Prelude.{◌≡◌, ◌<◌, ◌↔◌, length, All, Contains, IfOk, slice_index};
 ghost use Rattle.class_tree.specs.declared.first_rows.Member.{Member};
-ghost use Rattle.class_tree.specs.declared.spans.Span.{Span as ASpan};
-ghost use Rattle.class_tree.specs.Groups.{group};
 ghost use Rattle.class_tree.specs.Holders.{AreHolders, IsInterface, holders_of};
 
 use super::first_rows::Member;
-use super::groups::Groups;
 use super::key_spans::{classes_by_key, keys_of};
 use super::rows::ClassRow;
-use super::spans::Span;
+use class_order::Groups;
 use indexmap::IndexSet;
 use std::alloc::{AllocError, Global};
 
@@ -37,34 +34,28 @@ fn in_interfaces(
     Ok(found)
 }
 
-// Where the spans of the class begin: at its own place, since those below it have later ones.
-fn start_of(reach: &Groups<Span>, class: u32) -> u32
-    ensures { (s : ASpan) → slice_get (group reach.now class) 0 ≡ Some s → result ≡ s.start }
+// The rank of the class, or 0 where there is none.
+fn rank_of(ranks: &[u32], class: u32) -> u32
+    ensures { result ≡ slice_index ranks.now class }
 {
-    if class as usize >= reach.len() {
-        return 0;
-    }
-    match reach.get(class as usize).first() {
-        Some(span) => span.start,
-        None => 0,
-    }
+    ranks.get(class as usize).copied().unwrap_or(0)
 }
 
 impl Holders {
-    /// The interfaces of each key of the members. `reach` has for each class the places of those from
-    /// which it is reached.
+    /// The interfaces of each key of the members, those with higher ranks first.
     pub fn new(
         alloc: Global,
         classes: &[ClassRow],
         members: &[Member],
-        reach: &Groups<Span>,
+        ranks: &[u32],
     ) -> Result<Self, AllocError>
         requires { All (λ m. m.class < length classes.now) members.now }
         ensures { IfOk result (AreHolders classes.now members.now) }
     {
         let mut found = in_interfaces(alloc, classes, members)?;
-        // Those below come first, so that a look-up soon meets what hides the others.
-        found.sort_unstable_by_key(|member| u32::MAX - start_of(reach, member.class));
+        // Those below others, with higher ranks, come first, so that a look-up soon meets what hides
+        // the others.
+        found.sort_unstable_by_key(|member| u32::MAX - rank_of(ranks, member.class));
         let keys = keys_of(alloc, found.as_slice())?;
         let interfaces = classes_by_key(alloc, found.as_slice(), &keys)?;
         Ok(Holders { keys, interfaces })

@@ -2,8 +2,8 @@ ghost use Rattle.std.specs.Prelude.{◌≡◌, ℕ, ◌^◌, ◌<◌, length, ma
 ghost use Rattle.class_tree.specs.FirstRows.{row_at};
 ghost use Rattle.class_tree.specs.Inherited.{AreInherited, member_of_pair};
 ghost use Rattle.class_tree.specs.Lookups.{own_body, own_field};
-ghost use Rattle.class_tree.specs.Paths.{ProperPath};
-ghost use Rattle.class_tree.specs.Rows.{rows_of, HasParent, NameClasses};
+ghost use Rattle.class_tree.specs.Rows.{rows_of, NameClasses};
+ghost use Rattle.class_tree.specs.Turns.{IsNumbering};
 
 use super::first_rows::{Member, field_members, method_members};
 use super::key_spans::keys_of;
@@ -54,7 +54,8 @@ fn keys_in(
 }
 
 impl Inherited {
-    /// What the classes inherit. `tables` has the first rows of the methods and the fields.
+    /// What the classes inherit, by their numbers. `tables` has the first rows of the methods and the
+    /// fields.
     pub fn new(
         alloc: Global,
         classes: &[ClassRow],
@@ -62,26 +63,24 @@ impl Inherited {
         methods: &[MethodRow],
         fields: &[FieldRow],
         tables: &Members,
+        numbering: &Numbering,
     ) -> Result<Self, AllocError>
-        requires few { length classes.now < 2 ^ 32 }
         requires few_methods { length methods.now < 2 ^ 32 }
         requires few_fields { length fields.now < 2 ^ 32 }
         requires named { NameClasses (rows_of classes.now implements.now methods.now fields.now) }
-        requires known { (a b : ℕ) → HasParent classes.now a b → b < length classes.now }
-        requires acyclic { (a : ℕ) → ProperPath (HasParent classes.now) a a → ⊥ }
+        requires numbering { IsNumbering classes.now numbering.now }
         requires bodies { (c k : ℕ) → row_at tables.now.bodies c k ≡ own_body methods.now c k }
         requires own_fields { (c k : ℕ) → row_at tables.now.own_fields c k ≡ own_field fields.now c k }
-        ensures { IfOk result (AreInherited (rows_of classes.now implements.now methods.now fields.now)) }
+        ensures { IfOk result (AreInherited (rows_of classes.now implements.now methods.now fields.now) numbering.now.numbers.items) }
     {
         let pairs = pair_members(alloc, implements)?;
         let interfaces = keys_of(alloc, pairs.as_slice())?;
         let of_methods = method_members(alloc, methods)?;
         let of_fields = field_members(alloc, fields)?;
         let (of_methods, of_fields) = (of_methods.as_slice(), of_fields.as_slice());
-        let numbering = Numbering::new(alloc, classes)?;
         Ok(Inherited {
-            methods: Paths::new(alloc, classes, &numbering, of_methods, &tables.bodies)?,
-            fields: Paths::new(alloc, classes, &numbering, of_fields, &tables.own_fields)?,
+            methods: Paths::new(alloc, classes, numbering, of_methods, &tables.bodies)?,
+            fields: Paths::new(alloc, classes, numbering, of_fields, &tables.own_fields)?,
             of_interfaces: keys_in(alloc, of_fields, &interfaces)?,
         })
     }

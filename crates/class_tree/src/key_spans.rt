@@ -1,12 +1,10 @@
 ghost use Rattle.std.specs.Prelude.{◌≡◌, ℕ, ◌<◌, ◌↔◌, length, All, Contains, IfOk, IsTrue};
-ghost use Rattle.class_tree.specs.Groups.{group};
+ghost use Rattle.class_order.specs.Groups.{group};
 ghost use Rattle.class_tree.specs.KeySpans.{AreClassesByKey, IsKeyed, spans_of};
-ghost use Rattle.class_tree.specs.Spans.{AreApart, Holds};
+ghost use Rattle.class_order.specs.Spans.{AreApart, Holds};
 
 use super::first_rows::Member;
-use super::groups::Groups;
-use super::reach::gathered;
-use super::spans::{Span, holds, united};
+use class_order::{Groups, Span, gathered, holds, united};
 use indexmap::IndexSet;
 use std::alloc::{AllocError, Global};
 

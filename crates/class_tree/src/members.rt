@@ -1,14 +1,13 @@
 ghost use Rattle.std.specs.Prelude.{◌≡◌, ℕ, ◌^◌, ◌<◌, length, All, IfOk};
-ghost use Rattle.class_tree.specs.Groups.{group};
+ghost use Rattle.class_order.specs.Groups.{group};
 ghost use Rattle.class_tree.specs.Indexed.{AreMembers};
-ghost use Rattle.class_tree.specs.Spans.{AreApart};
+ghost use Rattle.class_order.specs.Spans.{AreApart};
 
 use super::first_rows::{FirstRows, field_members, method_members};
-use super::groups::Groups;
 use super::holders::Holders;
 use super::key_spans::KeySpans;
 use super::rows::{ClassRow, FieldRow, MethodRow};
-use super::spans::Span;
+use class_order::{Groups, Span};
 use std::alloc::{AllocError, Global};
 
 /// What is kept of methods and fields.
@@ -24,7 +23,8 @@ pub struct Members {
 
 impl Members {
     /// The tables of some methods and fields. `reach` has for each class the places of those from which
-    /// it is reached, and `near` of those from which it is reached by interfaces alone.
+    /// it is reached, `near` of those from which it is reached by interfaces alone, and `ranks` are
+    /// higher than those of parents and interfaces.
     pub fn new(
         alloc: Global,
         classes: &[ClassRow],
@@ -32,6 +32,7 @@ impl Members {
         fields: &[FieldRow],
         reach: &Groups<Span>,
         near: &Groups<Span>,
+        ranks: &[u32],
     ) -> Result<Self, AllocError>
         requires few_methods { length methods.now < 2 ^ 32 }
         requires few_fields { length fields.now < 2 ^ 32 }
@@ -49,7 +50,7 @@ impl Members {
             near_fields: KeySpans::new(alloc, of_fields.as_slice(), near)?,
             bodies: FirstRows::of_bodies(alloc, methods)?,
             interface_rows: FirstRows::of_interfaces(alloc, classes, methods)?,
-            holders: Holders::new(alloc, classes, of_methods.as_slice(), reach)?,
+            holders: Holders::new(alloc, classes, of_methods.as_slice(), ranks)?,
             own_fields: FirstRows::of_fields(alloc, fields)?,
         })
     }

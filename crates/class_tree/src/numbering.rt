@@ -1,16 +1,16 @@
-ghost use Rattle.std.specs.Prelude.{ℕ, ◌^◌, ◌<◌, length, IfOk};
-ghost use Rattle.class_tree.specs.Paths.{ProperPath};
+ghost use Rattle.std.specs.Prelude.{ℕ, ◌^◌, ◌<◌, length, All, Contains, IfOk};
+ghost use Rattle.class_order.specs.Paths.{ProperPath};
 ghost use Rattle.class_tree.specs.Rows.{HasParent};
 ghost use Rattle.class_tree.specs.Turns.{IsNumbering};
 
-use super::finish::{finish_order, tops_first};
-use super::places::places_of;
 use super::rows::ClassRow;
-use super::steps::children;
+use super::steps::{children, tops_first};
+use class_order::{finish_order, places_of};
 use std::alloc::{AllocError, Global};
 
 /// The classes in the order in which a search downwards over parents alone leaves them, and for each
-/// its number: how many stand after it. Those below a class follow it without a gap.
+/// its number: how many stand after it. Those that parents lead from to a class follow it without a
+/// gap.
 #[derive(Drop)]
 pub struct Numbering {
     pub order: Vec<u32>,
@@ -18,14 +18,16 @@ pub struct Numbering {
 }
 
 impl Numbering {
-    /// The numbers of these classes.
-    pub fn new(alloc: Global, classes: &[ClassRow]) -> Result<Self, AllocError>
+    /// The numbers of these classes. Those with one parent stand as in `order`.
+    pub fn new(alloc: Global, classes: &[ClassRow], order: &[u32]) -> Result<Self, AllocError>
         requires few { length classes.now < 2 ^ 32 }
         requires known { (a b : ℕ) → HasParent classes.now a b → b < length classes.now }
         requires acyclic { (a : ℕ) → ProperPath (HasParent classes.now) a a → ⊥ }
+        requires within { All (λ c. c < length classes.now) order.now }
+        requires all { (c : ℕ) → c < length classes.now → Contains order.now c }
         ensures { IfOk result (IsNumbering classes.now) }
     {
-        let below = children(alloc, classes)?;
+        let below = children(alloc, classes, order)?;
         let starts = tops_first(alloc, classes)?;
         let finish = finish_order(alloc, &below, starts.as_slice())?;
         let numbers = places_of(alloc, &below, finish.order.as_slice())?;

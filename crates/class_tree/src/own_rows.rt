@@ -3,7 +3,7 @@ ghost use Rattle.class_tree.specs.FirstRows.{row_at};
 ghost use Rattle.class_tree.specs.Turns.{AreOwn, AreRowsOf};
 
 use super::first_rows::{FirstRows, Member};
-use super::groups::Groups;
+use class_order::Groups;
 use indexmap::IndexSet;
 use std::alloc::{AllocError, Global};
 

@@ -1,16 +1,16 @@
-ghost use Rattle.std.specs.Prelude.{◌≡◌, ◌^◌, ◌<◌, length, All, IfOk, None, slice_index};
+ghost use Rattle.std.specs.Prelude.{◌≡◌, ◌^◌, ◌<◌, length, All, IfOk, None};
 ghost use Rattle.std.specs.List.Sorted.{IsNonDecreasingBy};
 ghost use Rattle.class_tree.specs.FirstRows.{row_at as first_row};
 ghost use Rattle.class_tree.specs.Turns.{AreRowsOf, IsNumbering, TellPaths, turned, turns_of};
 
 use super::first_rows::{FirstRows, Member};
-use super::groups::Groups;
 use super::key_spans::keys_of;
 use super::numbering::Numbering;
 use super::own_rows::own_rows;
 use super::rows::ClassRow;
 use super::turns::{Turn, row_at};
 use super::walk::{Forest, turns_by_slot};
+use class_order::Groups;
 use indexmap::IndexSet;
 use std::alloc::{AllocError, Global};
 
@@ -20,7 +20,6 @@ use std::alloc::{AllocError, Global};
 #[derive(Drop)]
 pub struct Paths {
     keys: IndexSet<u32>,
-    numbers: Vec<u32>,
     turns: Groups<Turn>,
 }
 
@@ -37,7 +36,7 @@ impl Paths {
         requires members { All (λ m. m.class < length classes.now) members.now }
         requires numbering { IsNumbering classes.now numbering.now }
         requires rows { AreRowsOf (first_row rows.now) members.now }
-        ensures { IfOk result (TellPaths classes.now (first_row rows.now)) }
+        ensures { IfOk result (TellPaths classes.now (first_row rows.now) numbering.now.numbers.items) }
     {
         let keys = keys_of(alloc, members)?;
         let owns = own_rows(alloc, classes.len(), members, rows, &keys)?;
@@ -45,21 +44,26 @@ impl Paths {
         let forest = Forest { owns, numbers };
         let order = numbering.order.as_slice();
         let turns = turns_by_slot(alloc, classes, &forest, order, keys.len())?;
-        Ok(Paths {
-            keys,
-            numbers: forest.numbers,
-            turns,
-        })
+        Ok(Paths { keys, turns })
     }
 
-    /// What the look-up of the key from the class gives.
-    pub fn find(&self, class: u32, key: u32) -> Option<u32>
-        requires class { class < length self.now.numbers.items }
+    /// The turns of the key, in the order of the numbers: before the first a look-up gives nothing.
+    pub fn turns(&self, key: u32) -> &[Turn]
+        requires { length self.now.turns ≡ length self.now.keys.keys }
+        ensures { result.now ≡ turns_of self.now key }
+    {
+        match self.keys.get_index_of(&key) {
+            Some(slot) => self.turns.get(slot),
+            None => &[],
+        }
+    }
+
+    /// What the look-up of the key from the class with this number gives.
+    pub fn find(&self, number: u32, key: u32) -> Option<u32>
         requires len { length self.now.turns ≡ length self.now.keys.keys }
         requires rising { IsNonDecreasingBy (λ t. t.at) (turns_of self.now key) }
-        ensures { result ≡ turned None (turns_of self.now key) (slice_index self.now.numbers.items class) }
+        ensures { result ≡ turned None (turns_of self.now key) number }
     {
-        let slot = self.keys.get_index_of(&key)?;
-        row_at(self.turns.get(slot), self.numbers[class as usize])
+        row_at(self.turns(key), number)
     }
 }

@@ -1,40 +1,48 @@
-ghost use Rattle.std.specs.Prelude.{◌≡◌, ℕ, ◌^◌, ◌<◌, ◌↔◌, length, All, IfOk};
-ghost use Rattle.class_tree.specs.Groups.{group};
+ghost use Rattle.std.specs.Prelude.{◌≡◌, ℕ, ◌^◌, ◌<◌, ◌↔◌, length, All, Contains, IfOk};
+ghost use Rattle.class_order.specs.Groups.{group};
 ghost use Rattle.class_tree.specs.Rows.{HasInterface, HasParent, NamesUnknown, Step, interfaces_of};
-ghost use Rattle.class_tree.specs.Tables.{Under};
+ghost use Rattle.class_order.specs.Tables.{Under};
 
-use super::groups::Groups;
 use super::rows::ClassRow;
+use class_order::Groups;
 use std::alloc::{AllocError, Global};
 
-/// For each class those that name it as their parent.
-pub fn children(alloc: Global, classes: &[ClassRow]) -> Result<Groups<u32>, AllocError>
-    requires few { length classes.now < 2 ^ 32 }
+/// For each class those that name it as their parent, as they stand in `order`.
+pub fn children(
+    alloc: Global,
+    classes: &[ClassRow],
+    order: &[u32],
+) -> Result<Groups<u32>, AllocError>
     requires known { (a b : ℕ) → HasParent classes.now a b → b < length classes.now }
+    requires within { All (λ c. c < length classes.now) order.now }
+    requires all { (c : ℕ) → c < length classes.now → Contains order.now c }
     ensures len { IfOk result (λ below. length below ≡ length classes.now) }
     ensures steps { IfOk result (λ below. (a b : ℕ) → Under below a b ↔ HasParent classes.now a b) }
 {
     let mut below = Groups::new(alloc, classes.len())?;
-    for (class, row) in classes.iter().enumerate() {
-        if let Some(parent) = row.parent {
-            below.push(parent as usize, class as u32)?;
+    for class in order {
+        if let Some(parent) = classes[*class as usize].parent {
+            below.push(parent as usize, *class)?;
         }
     }
     Ok(below)
 }
 
-/// For each class those that are one step below it.
+/// For each class those that are one step below it: those that name it as their parent, as they stand
+/// in `order`, and then those that name it as an interface.
 pub fn steps_down(
     alloc: Global,
     classes: &[ClassRow],
     implements: &[(u32, u32)],
+    order: &[u32],
 ) -> Result<Groups<u32>, AllocError>
-    requires few { length classes.now < 2 ^ 32 }
     requires known { (a : ℕ) → NamesUnknown classes.now implements.now a → ⊥ }
+    requires within { All (λ c. c < length classes.now) order.now }
+    requires all { (c : ℕ) → c < length classes.now → Contains order.now c }
     ensures len { IfOk result (λ below. length below ≡ length classes.now) }
     ensures steps { IfOk result (λ below. (a b : ℕ) → Under below a b ↔ Step classes.now implements.now a b) }
 {
-    let mut below = children(alloc, classes)?;
+    let mut below = children(alloc, classes, order)?;
     for (class, interface) in implements {
         below.push(*interface as usize, *class)?;
     }
@@ -93,4 +101,22 @@ pub fn implementers(
         lists.push(*interface as usize, *class)?;
     }
     Ok(lists)
+}
+
+/// All classes, those without a parent first.
+pub fn tops_first(alloc: Global, classes: &[ClassRow]) -> Result<Vec<u32>, AllocError>
+    requires { length classes.now < 2 ^ 32 }
+    ensures known { IfOk result (λ starts. All (λ c. c < length classes.now) starts.items) }
+    ensures all { IfOk result (λ starts. (c : ℕ) → c < length classes.now → Contains starts.items c) }
+{
+    let mut starts = Vec::with_capacity(alloc, classes.len())?;
+    for (class, row) in classes.iter().enumerate() {
+        if row.parent.is_none() {
+            starts.push(class as u32)?;
+        }
+    }
+    for class in 0..classes.len() as u32 {
+        starts.push(class)?;
+    }
+    Ok(starts)
 }

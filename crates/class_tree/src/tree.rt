@@ -1,37 +1,36 @@
-ghost use Rattle.std.specs.Prelude.{◌≡◌, ℕ, ◌^◌, ◌<◌, ◌↔◌, length, All, AllPairs, Contains, IsTrue, IfOk, IfNone, IfSome, Some, Err};
+ghost use Rattle.std.specs.Prelude.{◌≡◌, ℕ, ◌^◌, ◌<◌, ◌↔◌, length, All, IsTrue, IfOk, IfNone, IfSome, Some, Err};
 ghost use Rattle.class_tree.specs.Defaults.{AreDefaults, IsDefaultFrom};
 ghost use Rattle.class_tree.specs.Indexed.{AreReached, HasFieldNear, HoldsMethod, IsFirstNear};
+ghost use Rattle.class_tree.specs.Layouts.{LaysOut};
 ghost use Rattle.lists.specs.Lists.{IsLeast};
 ghost use Rattle.class_tree.specs.Rows.{rows_of, NameClasses, NamesUnknown, IsOwnAncestor, Step, Sub, HasParent, interfaces_of};
-ghost use Rattle.class_tree.specs.Tables.{IsFinishing, Under};
+ghost use Rattle.class_order.specs.Tables.{IsFinishing, Under};
 ghost use Rattle.class_tree.specs.Lookups.{own_body, Declared, FieldHere, FieldOf, IsAmbiguous, IsDefault, IsHolder, IsLowestHolder, OnPath, Resolve};
 
-use super::cycles::least_cyclic;
-use super::finish::{finish_order, tops_first};
-use super::groups::Groups;
 use super::inherited::Inherited;
 use super::kept::KeptRows;
+use super::layout::Layout;
 use super::members::Members;
-use super::places::places_of;
-use super::reach::{near_spans, reach_spans};
+use super::near::near_spans;
+use super::numbering::Numbering;
 use super::rows::{ClassRow, FieldRow, MethodRow, TreeError};
-use super::spans::{Span, holds};
-use super::steps::{interface_lists, steps_down, steps_up};
+use super::steps::{interface_lists, steps_down, steps_up, tops_first};
 use super::unknown::first_unknown;
-use super::walks::all_reached;
+use class_order::{Groups, Span, finish_order, holds, least_cyclic, places_of, reach_spans};
 use std::alloc::{AllocError, Global};
 use std::marker::Model;
 
 /// The hierarchy of the classes of some rows. Contracts see it as these rows. Its look-ups take no
-/// memory, `below` apart. `sub` takes a search in a sorted list, `own_body` a hashed look-up, and
+/// memory. `sub` takes a search in a sorted list, `own_body` a hashed look-up, and
 /// `declared` and `on_path` one of both. So does `field`, but where an interface has a field with the
 /// key: then it takes hashed look-ups for each parent on the way. `resolve` and `ambiguous` go on from
 /// `on_path` to the interfaces that have a method with the key, where there are any.
 #[derive(Drop)]
 pub struct Tree {
     rows: KeptRows,
-    below: Groups<u32>,
     interfaces: Groups<u32>,
+    // Higher than those of parents and interfaces: by them the look-up of a field ends.
+    ranks: Vec<u32>,
     places: Vec<u32>,
     reach: Groups<Span>,
     members: Members,
@@ -46,7 +45,7 @@ impl Model for Tree {
 
     ghost view = { λ t. rows_in t.rows };
 
-    ghost invariant = { λ t. IsIndexed (rows_in t.rows) t.below t.interfaces t.places.items t.reach t.members t.inherited };
+    ghost invariant = { λ t. IsIndexed (rows_in t.rows) t.interfaces t.ranks.items t.places.items t.reach t.members t.inherited };
 }
 
 /// The default methods that a class reaches for a key, by their rows.
@@ -87,8 +86,8 @@ pub fn build(
     if let Some(class) = first_unknown(classes, implements) {
         return Err(TreeError::UnknownParent { class });
     }
-    let below = steps_down(alloc, classes, implements)?;
     let starts = tops_first(alloc, classes)?;
+    let below = steps_down(alloc, classes, implements, starts.as_slice())?;
     let finish = finish_order(alloc, &below, starts.as_slice())?;
     let order = finish.order.as_slice();
     if !finish.straight {
@@ -96,7 +95,7 @@ pub fn build(
         let class = least_cyclic(alloc, &above, order)?;
         return Err(TreeError::Cyclic { class });
     }
-    let tree = indexed(alloc, classes, implements, methods, fields, below, order)?;
+    let tree = indexed(alloc, classes, implements, methods, fields, &below, order)?;
     Ok(tree)
 }
 
@@ -107,7 +106,7 @@ fn indexed(
     implements: &[(u32, u32)],
     methods: &[MethodRow],
     fields: &[FieldRow],
-    below: Groups<u32>,
+    below: &Groups<u32>,
     order: &[u32],
 ) -> Result<Tree, AllocError>
     requires classes { length classes.now < 2 ^ 32 }
@@ -115,24 +114,29 @@ fn indexed(
     requires fields { length fields.now < 2 ^ 32 }
     requires named { NameClasses (rows_of classes.now implements.now methods.now fields.now) }
     requires known { (a : ℕ) → NamesUnknown classes.now implements.now a → ⊥ }
-    requires len { length below ≡ length classes.now }
-    requires steps { (a b : ℕ) → Under below a b ↔ Step classes.now implements.now a b }
-    requires order { IsFinishing below order.now }
+    requires len { length below.now ≡ length classes.now }
+    requires steps { (a b : ℕ) → Under below.now a b ↔ Step classes.now implements.now a b }
+    requires order { IsFinishing below.now order.now }
     ensures ok { IfOk result (λ tree. tree ≡ rows_of classes.now implements.now methods.now fields.now) }
     ensures acyclic { IfOk result (λ _. (a : ℕ) → IsOwnAncestor classes.now implements.now a → ⊥) }
 {
-    let places = places_of(alloc, &below, order)?;
-    let reach = reach_spans(alloc, &below, order, places.as_slice())?;
-    let near = near_spans(alloc, implements, &below, order, places.as_slice())?;
-    let members = Members::new(alloc, classes, methods, fields, &reach, &near)?;
-    let inherited = Inherited::new(alloc, classes, implements, methods, fields, &members)?;
+    let ranks = places_of(alloc, below, order)?;
+    let numbering = Numbering::new(alloc, classes, order)?;
+    let places = numbering.numbers.as_slice();
+    let reach = reach_spans(alloc, below, order, places)?;
+    let near = near_spans(alloc, implements, below, order, places)?;
+    let in_ranks = ranks.as_slice();
+    let members = Members::new(alloc, classes, methods, fields, &reach, &near, in_ranks)?;
+    let inherited = Inherited::new(
+        alloc, classes, implements, methods, fields, &members, &numbering,
+    )?;
     let interfaces = interface_lists(alloc, classes.len(), implements)?;
     let rows = KeptRows::copy_of(alloc, classes, implements, methods, fields)?;
     Ok(Tree {
         rows,
-        below,
         interfaces,
-        places,
+        ranks,
+        places: numbering.numbers,
         reach,
         members,
         inherited,
@@ -150,17 +154,15 @@ impl Tree {
         holds(self.reach.get(b as usize), self.places[a as usize])
     }
 
-    /// The classes below this one, itself included, in ascending order. It takes time and memory in
-    /// their number and that of the parents and interfaces that they name, not in that of all
-    /// classes.
-    pub fn below(&self, alloc: Global, class: u32) -> Result<Vec<u32>, AllocError>
-        requires { class < length self.now.classes }
-        ensures each { IfOk result (λ below. (a : ℕ) → Contains below.items a ↔ Sub self.now a class) }
-        ensures known { IfOk result (λ below. All (λ a. a < length self.now.classes) below.items) }
-        ensures ascending { IfOk result (λ below. AllPairs (λ a b. a < b) below.items) }
+    /// The places of the classes, and what they tell.
+    pub fn layout(&self) -> Layout<'_>
+        ensures { LaysOut self.now result }
     {
-        let below = all_reached(alloc, &self.below, class)?;
-        Ok(below)
+        Layout {
+            places: self.places.as_slice(),
+            reach: &self.reach,
+            methods: &self.inherited.methods,
+        }
     }
 
     /// The row of the first method with this key and a body, from the class upwards by parents;
@@ -169,7 +171,16 @@ impl Tree {
         requires { class < length self.now.classes }
         ensures { OnPath self.now class key result }
     {
-        self.inherited.methods.find(class, key)
+        self.inherited
+            .methods
+            .find(self.places[class as usize], key)
+    }
+
+    /// Whether an interface has a method with this key, with a body or without.
+    pub fn in_interfaces(&self, key: u32) -> bool
+        ensures { IsTrue result ↔ ((interface : ℕ) × HoldsMethod self.now interface key) }
+    {
+        !self.members.holders.of(key).is_empty()
     }
 
     // The interfaces that have a method of this key, from the first on that the class reaches.
@@ -368,6 +379,6 @@ impl Tree {
         if self.inherited.of_interfaces.contains(&key) {
             return self.field_by_classes(class, key);
         }
-        self.inherited.fields.find(class, key)
+        self.inherited.fields.find(self.places[class as usize], key)
     }
 }

@@ -4,10 +4,11 @@ ghost use Rattle.spds_rules.specs.Nodes.{IsNode};
 
 use super::programs::{
     ALL_SORTS, ESCAPES, FILES, FILES_READ_AGAIN, INHERITED, NULL_RECEIVER, PASSED_BOX, RECURSION,
-    SAME_TEXT, STATIC_BOX, STORED_NULL, TWO_BOXES, TWO_CALLS,
+    SAME_TEXT, STATIC_BOX, STORED_NULL, TWO_CALLS,
 };
 use demand_set::{Demand, DemandError};
 use link_program::Linked;
+use linked_text::programs::TWO_BOXES;
 use linked_text::spelled::{are_nodes, are_sites, node};
 use linked_text::{Rows, first_wrong};
 use lists::NoMemory;

@@ -101,41 +101,6 @@ return;
 }
 ";
 
-/// 0 `set`, 1 `get`, 2 `main`.
-pub const TWO_BOXES: &str = "class A { }
-class B { }
-class Box {
-java.lang.Object v;
-void set(java.lang.Object) {
-Box r; java.lang.Object p;
-r := @this: Box;
-p := @parameter0: java.lang.Object;
-r.<Box: java.lang.Object v> = p;
-return;
-}
-java.lang.Object get() {
-Box r; java.lang.Object q;
-r := @this: Box;
-q = r.<Box: java.lang.Object v>;
-return q;
-}
-}
-class Main {
-static void main(java.lang.String[]) {
-Box a, b; java.lang.Object o, p, x, y;
-a = new Box;
-b = new Box;
-o = new A;
-p = new B;
-virtualinvoke a.<Box: void set(java.lang.Object)>(o);
-virtualinvoke b.<Box: void set(java.lang.Object)>(p);
-x = virtualinvoke a.<Box: java.lang.Object get()>();
-y = virtualinvoke b.<Box: java.lang.Object get()>();
-return;
-}
-}
-";
-
 /// 0 `put`, 1 `main`.
 pub const PASSED_BOX: &str = "class Box { java.lang.Object v; } class A { }
 class Main { static void put(Box) { Box p, r; A o; p := @parameter0: Box; r = p; p = new Box; o = new A; r.<Box: java.lang.Object v> = o; return; }

@@ -1,38 +1,10 @@
 //! A program, and a certificate, that end too early.
 use super::texts::{CALLS, CERTIFICATE};
-use asked_text::{SMALL, is_reply_to, status_of};
+use asked_text::{AS_COMPILED, SMALL, is_reply_to, status_of};
 use std::alloc::AllocError;
 use std::marker::Sync;
 use std::test::Fail;
 use std::thread::Threads;
-
-// A whole class as a compiler lays it out.
-const CLASS: &str = "public class Main extends java.lang.Object
-{
-    public void <init>()
-    {
-        Main r0;
-        r0 := @this: Main;
-        specialinvoke r0.<java.lang.Object: void <init>()>();
-        return;
-    }
-    public static void main(java.lang.String[])
-    {
-        java.lang.String[] r0;
-        java.io.PrintStream $r1;
-        java.lang.StringBuilder $r2, $r3;
-        java.lang.String $r4;
-        r0 := @parameter0: java.lang.String[];
-        $r1 = <java.lang.System: java.io.PrintStream out>;
-        $r2 = new java.lang.StringBuilder;
-        specialinvoke $r2.<java.lang.StringBuilder: void <init>()>();
-        $r3 = virtualinvoke $r2.<java.lang.StringBuilder: java.lang.StringBuilder append(java.lang.String)>(\"a\\n\");
-        $r4 = virtualinvoke $r3.<java.lang.StringBuilder: java.lang.String toString()>();
-        virtualinvoke $r1.<java.io.PrintStream: void println(java.lang.String)>($r4);
-        return;
-    }
-}
-";
 
 // The number of the status of a program that ends behind so many bytes.
 fn status_of_front<R: Threads + AllocGlobal + Sync>(rt: &R, front: &str) -> Result<u8, AllocError> {
@@ -49,9 +21,9 @@ fn status_of_front<R: Threads + AllocGlobal + Sync>(rt: &R, front: &str) -> Resu
 
 // How many fronts there are before the first with another status than 4, 5 or 6, and how many there are up to the last brace.
 fn fronts<R: Threads + AllocGlobal + Sync>(rt: &R) -> Result<(usize, usize), AllocError> {
-    let last = CLASS.rfind('}').unwrap_or(0);
+    let last = AS_COMPILED.rfind('}').unwrap_or(0);
     for end in 1..=last {
-        let Some(front) = CLASS.get(..end) else {
+        let Some(front) = AS_COMPILED.get(..end) else {
             return Ok((end, last));
         };
         if !matches!(status_of_front(rt, front)?, 4..=6) {
@@ -65,7 +37,7 @@ fn fronts<R: Threads + AllocGlobal + Sync>(rt: &R) -> Result<(usize, usize), All
 fn refuses_a_program_that_is_cut(rt: HostRuntime) -> Result<(), Fail> {
     let (refused, all) = fronts(&rt)?;
     assert_eq!(rt; refused, all);
-    assert_eq!(rt; status_of_front(&rt, CLASS)?, 0);
+    assert_eq!(rt; status_of_front(&rt, AS_COMPILED)?, 0);
     Ok(())
 }
 

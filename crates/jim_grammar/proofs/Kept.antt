@@ -10,7 +10,16 @@ use denote.Enum.Bare.{same_true, tag_one}
 use Rattle.jim_text.specs.contracts.lead.Lead.{the_type}
 use Rattle.jim_text.specs.declared.lead.Lead.{Lead}
 use Rattle.jim_text.specs.declared.lead.Lead.TheVariants as lead
-use Rattle.jim_grammar.specs.contracts.item.Piece as piece_type
+use Rattle.jim_grammar.specs.contracts.item.TypePiece as type_piece
+use Rattle.jim_grammar.specs.contracts.item.ImmPiece as imm_piece
+use Rattle.jim_grammar.specs.contracts.item.SigPiece as sig_piece
+use Rattle.jim_grammar.specs.contracts.item.CallPiece as call_piece
+use Rattle.jim_grammar.specs.contracts.item.ExprPiece as expr_piece
+use Rattle.jim_grammar.specs.contracts.item.MovePiece as move_piece
+use Rattle.jim_grammar.specs.contracts.item.JumpPiece as jump_piece
+use Rattle.jim_grammar.specs.contracts.item.StmtPiece as stmt_piece
+use Rattle.jim_grammar.specs.contracts.item.BodyPiece as body_piece
+use Rattle.jim_grammar.specs.contracts.item.ClassPiece as class_piece
 use Rattle.jim_grammar.specs.contracts.set.LeadSet as set_type
 use Rattle.jim_grammar.specs.contracts.item.ItemPartialEq.TheImpl as item_eq
 use Rattle.jim_grammar.specs.contracts.machine.EntryPartialEq.TheImpl as entry_eq
@@ -47,7 +56,16 @@ item_same (item.One a) (item.One b) h = ap item.One (same_true set_type.the_type
 item_same (item.Pairs m) (item.Pairs n) h = ap item.Pairs (eqb-true m n h)
 item_same (item.Dimensions m) (item.Dimensions n) h = ap item.Dimensions (eqb-true m n h)
 item_same (item.Owns m) (item.Owns n) h = ap item.Owns (eqb-true m n h)
-item_same (item.Of a) (item.Of b) h = ap item.Of (same_true piece_type.the_type (search rules) a b h)
+item_same (item.OfType a) (item.OfType b) h = ap item.OfType (same_true type_piece.the_type (search rules) a b h)
+item_same (item.OfImm a) (item.OfImm b) h = ap item.OfImm (same_true imm_piece.the_type (search rules) a b h)
+item_same (item.OfSig a) (item.OfSig b) h = ap item.OfSig (same_true sig_piece.the_type (search rules) a b h)
+item_same (item.OfCall a) (item.OfCall b) h = ap item.OfCall (same_true call_piece.the_type (search rules) a b h)
+item_same (item.OfExpr a) (item.OfExpr b) h = ap item.OfExpr (same_true expr_piece.the_type (search rules) a b h)
+item_same (item.OfMove a) (item.OfMove b) h = ap item.OfMove (same_true move_piece.the_type (search rules) a b h)
+item_same (item.OfJump a) (item.OfJump b) h = ap item.OfJump (same_true jump_piece.the_type (search rules) a b h)
+item_same (item.OfStmt a) (item.OfStmt b) h = ap item.OfStmt (same_true stmt_piece.the_type (search rules) a b h)
+item_same (item.OfBody a) (item.OfBody b) h = ap item.OfBody (same_true body_piece.the_type (search rules) a b h)
+item_same (item.OfClass a) (item.OfClass b) h = ap item.OfClass (same_true class_piece.the_type (search rules) a b h)
 item_same i j h = cc
 
 entry_same : (e f : Entry) → (entry_eq.ghosts).eq e f ≡ true → re_entry e ≡ re_entry f

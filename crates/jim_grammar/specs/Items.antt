@@ -5,8 +5,26 @@ use Rattle.jim_grammar.specs.declared.set.LeadSet.TheVariants.{NotEnds}
 use Rattle.jim_grammar.specs.declared.set.LeadSet.TheVariants as sets
 use Rattle.jim_grammar.specs.declared.item.Item.{Item}
 use Rattle.jim_grammar.specs.declared.item.Item.TheVariants as item
-use Rattle.jim_grammar.specs.declared.item.Piece.{Piece}
-use Rattle.jim_grammar.specs.declared.item.Piece.TheVariants as piece
+use Rattle.jim_grammar.specs.declared.item.TypePiece.{TypePiece}
+use Rattle.jim_grammar.specs.declared.item.TypePiece.TheVariants as type_piece
+use Rattle.jim_grammar.specs.declared.item.ImmPiece.{ImmPiece}
+use Rattle.jim_grammar.specs.declared.item.ImmPiece.TheVariants as imm_piece
+use Rattle.jim_grammar.specs.declared.item.SigPiece.{SigPiece}
+use Rattle.jim_grammar.specs.declared.item.SigPiece.TheVariants as sig_piece
+use Rattle.jim_grammar.specs.declared.item.CallPiece.{CallPiece}
+use Rattle.jim_grammar.specs.declared.item.CallPiece.TheVariants as call_piece
+use Rattle.jim_grammar.specs.declared.item.ExprPiece.{ExprPiece}
+use Rattle.jim_grammar.specs.declared.item.ExprPiece.TheVariants as expr_piece
+use Rattle.jim_grammar.specs.declared.item.MovePiece.{MovePiece}
+use Rattle.jim_grammar.specs.declared.item.MovePiece.TheVariants as move_piece
+use Rattle.jim_grammar.specs.declared.item.JumpPiece.{JumpPiece}
+use Rattle.jim_grammar.specs.declared.item.JumpPiece.TheVariants as jump_piece
+use Rattle.jim_grammar.specs.declared.item.StmtPiece.{StmtPiece}
+use Rattle.jim_grammar.specs.declared.item.StmtPiece.TheVariants as stmt_piece
+use Rattle.jim_grammar.specs.declared.item.BodyPiece.{BodyPiece}
+use Rattle.jim_grammar.specs.declared.item.BodyPiece.TheVariants as body_piece
+use Rattle.jim_grammar.specs.declared.item.ClassPiece.{ClassPiece}
+use Rattle.jim_grammar.specs.declared.item.ClassPiece.TheVariants as class_piece
 use Rattle.jim_grammar.specs.declared.item.Rule.{Rule}
 use Rattle.jim_grammar.specs.declared.item.Rule.TheVariants as rule
 use Rattle.jim_grammar.specs.Forms as form
@@ -14,101 +32,119 @@ use Rattle.jim_grammar.specs.Forms.{Kind, Form, forms}
 use Rattle.jim_grammar.specs.Expressions.{Re, Tok, One, Any, Star, Opt, UpTo, Shared}
 use Rattle.jim_grammar.specs.Grammar.{name, seq, comma_more, names, pair, ty, types, imm, imms, fsig, outcome, msig, invoke, own, first_own, expr, case_line, stmt, line, decl, trap, body, ending, throws, member, extends, implements, class, program, by_imm, by_result, by_invoke, by_expr, by_stmt, by_line, by_decl, by_end, by_member}
 
--- the expression of a piece
-abbrev pub re_piece : Piece → Re
-re_piece piece.Names = names
-re_piece piece.MoreNames = Star (comma_more name)
-re_piece piece.CommaName = comma_more name
-re_piece piece.Pair = pair
-re_piece piece.Type = ty
-re_piece piece.Types = types
-re_piece piece.MoreTypes = Star (comma_more ty)
-re_piece piece.CommaType = comma_more ty
-re_piece piece.LocalImm = by_imm form.LocalImm
-re_piece piece.NumberImm = by_imm form.NumberImm
-re_piece piece.TextImm = by_imm form.TextImm
-re_piece piece.ClassImm = by_imm form.ClassImm
-re_piece piece.NullImm = by_imm form.NullImm
-re_piece piece.MaybeMinus = Opt (Tok lead.Minus)
-re_piece piece.Imm = imm
-re_piece piece.Imms = imms
-re_piece piece.MoreImms = Star (comma_more imm)
-re_piece piece.CommaImm = comma_more imm
-re_piece piece.MaybeImm = Opt imm
-re_piece piece.MaybeImms = Opt imms
-re_piece piece.MaybeTypes = Opt types
-re_piece piece.FieldSig = fsig
-re_piece piece.VoidResult = by_result form.VoidResult
-re_piece piece.TypeResult = by_result form.TypeResult
-re_piece piece.Outcome = outcome
-re_piece piece.MethodSig = msig
-re_piece piece.OnReceiver = by_invoke form.OnReceiver
-re_piece piece.OnClass = by_invoke form.OnClass
-re_piece piece.Dynamic = by_invoke form.Dynamic
-re_piece piece.Others = Star (One NotEnds)
-re_piece piece.Invoke = invoke
-re_piece piece.Own = own
-re_piece piece.FirstOwn = first_own
-re_piece piece.UseExpr = by_expr form.UseExpr
-re_piece piece.NewExpr = by_expr form.NewExpr
-re_piece piece.ArrayExpr = by_expr form.ArrayExpr
-re_piece piece.MultiExpr = by_expr form.MultiExpr
-re_piece piece.CastExpr = by_expr form.CastExpr
-re_piece piece.InstanceExpr = by_expr form.InstanceExpr
-re_piece piece.LengthExpr = by_expr form.LengthExpr
-re_piece piece.NegExpr = by_expr form.NegExpr
-re_piece piece.BinaryExpr = by_expr form.BinaryExpr
-re_piece piece.FieldExpr = by_expr form.FieldExpr
-re_piece piece.StaticExpr = by_expr form.StaticExpr
-re_piece piece.CellExpr = by_expr form.CellExpr
-re_piece piece.InvokeExpr = by_expr form.InvokeExpr
-re_piece piece.Expr = expr
-re_piece piece.CaseLine = case_line
-re_piece piece.Cases = Star case_line
-re_piece piece.ThisStmt = by_stmt form.ThisStmt
-re_piece piece.ParamStmt = by_stmt form.ParamStmt
-re_piece piece.CaughtStmt = by_stmt form.CaughtStmt
-re_piece piece.AssignStmt = by_stmt form.AssignStmt
-re_piece piece.PutFieldStmt = by_stmt form.PutFieldStmt
-re_piece piece.PutStaticStmt = by_stmt form.PutStaticStmt
-re_piece piece.PutCellStmt = by_stmt form.PutCellStmt
-re_piece piece.CallStmt = by_stmt form.CallStmt
-re_piece piece.IfStmt = by_stmt form.IfStmt
-re_piece piece.GotoStmt = by_stmt form.GotoStmt
-re_piece piece.SwitchStmt = by_stmt form.SwitchStmt
-re_piece piece.ReturnStmt = by_stmt form.ReturnStmt
-re_piece piece.RetStmt = by_stmt form.RetStmt
-re_piece piece.ThrowStmt = by_stmt form.ThrowStmt
-re_piece piece.MonitorStmt = by_stmt form.MonitorStmt
-re_piece piece.SkipStmt = by_stmt form.SkipStmt
-re_piece piece.Stmt = stmt
-re_piece piece.LabelLine = by_line form.LabelLine
-re_piece piece.StmtLine = by_line form.StmtLine
-re_piece piece.Line = line
-re_piece piece.TypeDecl = by_decl form.TypeDecl
-re_piece piece.OddDecl = by_decl form.OddDecl
-re_piece piece.Decl = decl
-re_piece piece.Trap = trap
-re_piece piece.DeclLines = Star decl
-re_piece piece.LineList = Star line
-re_piece piece.TrapLines = Star trap
-re_piece piece.Body = body
-re_piece piece.NoBody = by_end form.NoBody
-re_piece piece.WithBody = by_end form.WithBody
-re_piece piece.Ending = ending
-re_piece piece.ThrowsPart = throws
-re_piece piece.MaybeThrows = Opt throws
-re_piece piece.Modifiers = Star (One sets.Modifiers)
-re_piece piece.FieldMember = by_member form.FieldMember
-re_piece piece.MethodMember = by_member form.MethodMember
-re_piece piece.Member = member
-re_piece piece.MemberList = Star member
-re_piece piece.ExtendsPart = extends
-re_piece piece.MaybeExtends = Opt extends
-re_piece piece.ImplementsPart = implements
-re_piece piece.MaybeImplements = Opt implements
-re_piece piece.ClassText = class
-re_piece piece.Program = program
+-- the expressions of the pieces
+abbrev pub re_type : TypePiece → Re
+re_type type_piece.Names = names
+re_type type_piece.MoreNames = Star (comma_more name)
+re_type type_piece.CommaName = comma_more name
+re_type type_piece.Pair = pair
+re_type type_piece.Type = ty
+re_type type_piece.Types = types
+re_type type_piece.MoreTypes = Star (comma_more ty)
+re_type type_piece.CommaType = comma_more ty
+re_type type_piece.MaybeTypes = Opt types
+
+abbrev pub re_imm : ImmPiece → Re
+re_imm imm_piece.LocalImm = by_imm form.LocalImm
+re_imm imm_piece.NumberImm = by_imm form.NumberImm
+re_imm imm_piece.TextImm = by_imm form.TextImm
+re_imm imm_piece.ClassImm = by_imm form.ClassImm
+re_imm imm_piece.NullImm = by_imm form.NullImm
+re_imm imm_piece.MaybeMinus = Opt (Tok lead.Minus)
+re_imm imm_piece.Imm = imm
+re_imm imm_piece.Imms = imms
+re_imm imm_piece.MoreImms = Star (comma_more imm)
+re_imm imm_piece.CommaImm = comma_more imm
+re_imm imm_piece.MaybeImm = Opt imm
+re_imm imm_piece.MaybeImms = Opt imms
+
+abbrev pub re_sig : SigPiece → Re
+re_sig sig_piece.FieldSig = fsig
+re_sig sig_piece.VoidResult = by_result form.VoidResult
+re_sig sig_piece.TypeResult = by_result form.TypeResult
+re_sig sig_piece.Outcome = outcome
+re_sig sig_piece.MethodSig = msig
+
+abbrev pub re_call : CallPiece → Re
+re_call call_piece.OnReceiver = by_invoke form.OnReceiver
+re_call call_piece.OnClass = by_invoke form.OnClass
+re_call call_piece.Dynamic = by_invoke form.Dynamic
+re_call call_piece.Others = Star (One NotEnds)
+re_call call_piece.Invoke = invoke
+
+abbrev pub re_expr : ExprPiece → Re
+re_expr expr_piece.Own = own
+re_expr expr_piece.FirstOwn = first_own
+re_expr expr_piece.UseExpr = by_expr form.UseExpr
+re_expr expr_piece.NewExpr = by_expr form.NewExpr
+re_expr expr_piece.ArrayExpr = by_expr form.ArrayExpr
+re_expr expr_piece.MultiExpr = by_expr form.MultiExpr
+re_expr expr_piece.CastExpr = by_expr form.CastExpr
+re_expr expr_piece.InstanceExpr = by_expr form.InstanceExpr
+re_expr expr_piece.LengthExpr = by_expr form.LengthExpr
+re_expr expr_piece.NegExpr = by_expr form.NegExpr
+re_expr expr_piece.BinaryExpr = by_expr form.BinaryExpr
+re_expr expr_piece.FieldExpr = by_expr form.FieldExpr
+re_expr expr_piece.StaticExpr = by_expr form.StaticExpr
+re_expr expr_piece.CellExpr = by_expr form.CellExpr
+re_expr expr_piece.InvokeExpr = by_expr form.InvokeExpr
+re_expr expr_piece.Expr = expr
+
+abbrev pub re_move : MovePiece → Re
+re_move move_piece.ThisStmt = by_stmt form.ThisStmt
+re_move move_piece.ParamStmt = by_stmt form.ParamStmt
+re_move move_piece.CaughtStmt = by_stmt form.CaughtStmt
+re_move move_piece.AssignStmt = by_stmt form.AssignStmt
+re_move move_piece.PutFieldStmt = by_stmt form.PutFieldStmt
+re_move move_piece.PutStaticStmt = by_stmt form.PutStaticStmt
+re_move move_piece.PutCellStmt = by_stmt form.PutCellStmt
+
+abbrev pub re_jump : JumpPiece → Re
+re_jump jump_piece.CaseLine = case_line
+re_jump jump_piece.Cases = Star case_line
+re_jump jump_piece.IfStmt = by_stmt form.IfStmt
+re_jump jump_piece.GotoStmt = by_stmt form.GotoStmt
+re_jump jump_piece.SwitchStmt = by_stmt form.SwitchStmt
+re_jump jump_piece.ReturnStmt = by_stmt form.ReturnStmt
+re_jump jump_piece.RetStmt = by_stmt form.RetStmt
+re_jump jump_piece.ThrowStmt = by_stmt form.ThrowStmt
+
+abbrev pub re_stmt : StmtPiece → Re
+re_stmt stmt_piece.CallStmt = by_stmt form.CallStmt
+re_stmt stmt_piece.MonitorStmt = by_stmt form.MonitorStmt
+re_stmt stmt_piece.SkipStmt = by_stmt form.SkipStmt
+re_stmt stmt_piece.Stmt = stmt
+re_stmt stmt_piece.LabelLine = by_line form.LabelLine
+re_stmt stmt_piece.StmtLine = by_line form.StmtLine
+re_stmt stmt_piece.Line = line
+
+abbrev pub re_body : BodyPiece → Re
+re_body body_piece.TypeDecl = by_decl form.TypeDecl
+re_body body_piece.OddDecl = by_decl form.OddDecl
+re_body body_piece.Decl = decl
+re_body body_piece.Trap = trap
+re_body body_piece.DeclLines = Star decl
+re_body body_piece.LineList = Star line
+re_body body_piece.TrapLines = Star trap
+re_body body_piece.Body = body
+re_body body_piece.NoBody = by_end form.NoBody
+re_body body_piece.WithBody = by_end form.WithBody
+re_body body_piece.Ending = ending
+
+abbrev pub re_class : ClassPiece → Re
+re_class class_piece.ThrowsPart = throws
+re_class class_piece.MaybeThrows = Opt throws
+re_class class_piece.Modifiers = Star (One sets.Modifiers)
+re_class class_piece.FieldMember = by_member form.FieldMember
+re_class class_piece.MethodMember = by_member form.MethodMember
+re_class class_piece.Member = member
+re_class class_piece.MemberList = Star member
+re_class class_piece.ExtendsPart = extends
+re_class class_piece.MaybeExtends = Opt extends
+re_class class_piece.ImplementsPart = implements
+re_class class_piece.MaybeImplements = Opt implements
+re_class class_piece.ClassText = class
+re_class class_piece.Program = program
 
 -- the expression of a part
 abbrev pub re : Item → Re
@@ -117,7 +153,16 @@ re (item.One set) = One set
 re (item.Pairs n) = UpTo n pair
 re (item.Dimensions n) = Shared n pair first_own own
 re (item.Owns n) = UpTo n own
-re (item.Of p) = re_piece p
+re (item.OfType p) = re_type p
+re (item.OfImm p) = re_imm p
+re (item.OfSig p) = re_sig p
+re (item.OfCall p) = re_call p
+re (item.OfExpr p) = re_expr p
+re (item.OfMove p) = re_move p
+re (item.OfJump p) = re_jump p
+re (item.OfStmt p) = re_stmt p
+re (item.OfBody p) = re_body p
+re (item.OfClass p) = re_class p
 
 -- the rule takes the expression of the part to pieces
 abbrev pub IsRule : Item → Rule → Type 0

@@ -14,12 +14,24 @@ pub enum Item {
     Dimensions(u8),
     /// At most so many lengths in brackets, each of which may be left out.
     Owns(u8),
-    Of(Piece),
+    /// A piece by its name, as are the ones that follow.
+    OfType(TypePiece),
+    OfImm(ImmPiece),
+    OfSig(SigPiece),
+    OfCall(CallPiece),
+    OfExpr(ExprPiece),
+    OfMove(MovePiece),
+    OfJump(JumpPiece),
+    OfStmt(StmtPiece),
+    OfBody(BodyPiece),
+    OfClass(ClassPiece),
 }
 
-/// A piece of the grammar by its name: a rule, a production of a rule, or a repeated or optional part of one.
+// A piece of the grammar by its name is a rule, a production of a rule, or a repeated or optional part of one. They stand by what they are pieces of.
+
+/// Names and types, one or a list of them.
 #[derive(Clone, Copy, Debug, PartialEq, Eq, Hash)]
-pub enum Piece {
+pub enum TypePiece {
     Names,
     MoreNames,
     CommaName,
@@ -28,6 +40,12 @@ pub enum Piece {
     Types,
     MoreTypes,
     CommaType,
+    MaybeTypes,
+}
+
+/// Immediates, one or a list of them.
+#[derive(Clone, Copy, Debug, PartialEq, Eq, Hash)]
+pub enum ImmPiece {
     LocalImm,
     NumberImm,
     TextImm,
@@ -40,17 +58,31 @@ pub enum Piece {
     CommaImm,
     MaybeImm,
     MaybeImms,
-    MaybeTypes,
+}
+
+/// Signatures of fields and methods.
+#[derive(Clone, Copy, Debug, PartialEq, Eq, Hash)]
+pub enum SigPiece {
     FieldSig,
     VoidResult,
     TypeResult,
     Outcome,
     MethodSig,
+}
+
+/// Calls.
+#[derive(Clone, Copy, Debug, PartialEq, Eq, Hash)]
+pub enum CallPiece {
     OnReceiver,
     OnClass,
     Dynamic,
     Others,
     Invoke,
+}
+
+/// Expressions, and the lengths of new arrays.
+#[derive(Clone, Copy, Debug, PartialEq, Eq, Hash)]
+pub enum ExprPiece {
     Own,
     FirstOwn,
     UseExpr,
@@ -67,8 +99,11 @@ pub enum Piece {
     CellExpr,
     InvokeExpr,
     Expr,
-    CaseLine,
-    Cases,
+}
+
+/// Statements that give a value to a local, a field or an element of an array.
+#[derive(Clone, Copy, Debug, PartialEq, Eq, Hash)]
+pub enum MovePiece {
     ThisStmt,
     ParamStmt,
     CaughtStmt,
@@ -76,19 +111,36 @@ pub enum Piece {
     PutFieldStmt,
     PutStaticStmt,
     PutCellStmt,
-    CallStmt,
+}
+
+/// Statements behind which another than the next line may follow, and the lines of a switch.
+#[derive(Clone, Copy, Debug, PartialEq, Eq, Hash)]
+pub enum JumpPiece {
+    CaseLine,
+    Cases,
     IfStmt,
     GotoStmt,
     SwitchStmt,
     ReturnStmt,
     RetStmt,
     ThrowStmt,
+}
+
+/// The other statements, and all of them, and lines.
+#[derive(Clone, Copy, Debug, PartialEq, Eq, Hash)]
+pub enum StmtPiece {
+    CallStmt,
     MonitorStmt,
     SkipStmt,
     Stmt,
     LabelLine,
     StmtLine,
     Line,
+}
+
+/// Bodies of methods.
+#[derive(Clone, Copy, Debug, PartialEq, Eq, Hash)]
+pub enum BodyPiece {
     TypeDecl,
     OddDecl,
     Decl,
@@ -100,6 +152,11 @@ pub enum Piece {
     NoBody,
     WithBody,
     Ending,
+}
+
+/// Members, classes and the program.
+#[derive(Clone, Copy, Debug, PartialEq, Eq, Hash)]
+pub enum ClassPiece {
     ThrowsPart,
     MaybeThrows,
     Modifiers,

@@ -7,7 +7,7 @@ ghost use Rattle.jim_grammar.specs.Items.{re};
 ghost use Rattle.jim_grammar.specs.Grammar.{program, seq};
 ghost use Rattle.jim_grammar.specs.Stacks.{re_entry, entries, stacks, Adds, AddsAny, NullAny, Follows, Advances, Takes};
 
-use crate::item::{Item, Piece, Rule};
+use crate::item::{ClassPiece, Item, Rule};
 use crate::set::LeadSet;
 use crate::table::rule_of;
 use jim_signs::{Lead, Sign};
@@ -218,7 +218,7 @@ pub fn start(alloc: Global) -> Result<Vec<Stack>, NoMemory>
     ensures { IfOk result (λ new. stacks new.items ≡ (program ∷ []) ∷ []) }
 {
     let mut stack = Vec::new(alloc);
-    stack.push(whole(Item::Of(Piece::Program)))?;
+    stack.push(whole(Item::OfClass(ClassPiece::Program)))?;
     let mut new = Vec::new(alloc);
     new.push(stack)?;
     Ok(new)

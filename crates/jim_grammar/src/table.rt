@@ -2,9 +2,18 @@
 
 ghost use Rattle.jim_grammar.specs.Items.{IsRule};
 
-use crate::item::Item::{self, Dimensions, Of, One, Owns, Pairs, Tok};
-use crate::item::Piece::{self, *};
+use crate::item::BodyPiece::{self, *};
+use crate::item::CallPiece::{self, *};
+use crate::item::ClassPiece::{self, *};
+use crate::item::ExprPiece::{self, *};
+use crate::item::ImmPiece::{self, *};
+use crate::item::Item::{self, *};
+use crate::item::JumpPiece::{self, *};
+use crate::item::MovePiece::{self, *};
 use crate::item::Rule::{self, Any, Opt, Seq, Star};
+use crate::item::SigPiece::{self, *};
+use crate::item::StmtPiece::{self, *};
+use crate::item::TypePiece::{self, *};
 use crate::set::LeadSet;
 use jim_signs::Lead::*;
 
@@ -12,18 +21,18 @@ fn pairs(n: u8) -> Rule
     ensures { IsRule (Item.Pairs n) result }
 {
     if n == 0 {
-        return Rule::Full(Item::Of(Piece::Pair));
+        return Rule::Full(Item::OfType(TypePiece::Pair));
     }
-    Rule::UpTo(Item::Of(Piece::Pair), Item::Pairs(n - 1))
+    Rule::UpTo(Item::OfType(TypePiece::Pair), Item::Pairs(n - 1))
 }
 
 fn owns(n: u8) -> Rule
     ensures { IsRule (Item.Owns n) result }
 {
     if n == 0 {
-        return Rule::Full(Item::Of(Piece::Own));
+        return Rule::Full(Item::OfExpr(ExprPiece::Own));
     }
-    Rule::UpTo(Item::Of(Piece::Own), Item::Owns(n - 1))
+    Rule::UpTo(Item::OfExpr(ExprPiece::Own), Item::Owns(n - 1))
 }
 
 fn dimensions(n: u8) -> Rule
@@ -31,16 +40,16 @@ fn dimensions(n: u8) -> Rule
 {
     if n == 0 {
         return Rule::FullShared(
-            Item::Of(Piece::Pair),
-            Item::Of(Piece::FirstOwn),
-            Item::Of(Piece::Own),
+            Item::OfType(TypePiece::Pair),
+            Item::OfExpr(ExprPiece::FirstOwn),
+            Item::OfExpr(ExprPiece::Own),
             Item::Owns(0),
         );
     }
     Rule::Shared(
-        Item::Of(Piece::Pair),
-        Item::Of(Piece::FirstOwn),
-        Item::Of(Piece::Own),
+        Item::OfType(TypePiece::Pair),
+        Item::OfExpr(ExprPiece::FirstOwn),
+        Item::OfExpr(ExprPiece::Own),
         Item::Owns(n),
         Item::Dimensions(n - 1),
         Item::Owns(n - 1),
@@ -57,94 +66,135 @@ pub fn rule_of(item: Item) -> Rule
         Item::Pairs(n) => pairs(n),
         Item::Dimensions(n) => dimensions(n),
         Item::Owns(n) => owns(n),
-        Item::Of(piece) => rule_of_piece(piece),
+        Item::OfType(piece) => rule_of_type(piece),
+        Item::OfImm(piece) => rule_of_imm(piece),
+        Item::OfSig(piece) => rule_of_sig(piece),
+        Item::OfCall(piece) => rule_of_call(piece),
+        Item::OfExpr(piece) => rule_of_expr(piece),
+        Item::OfMove(piece) => rule_of_move(piece),
+        Item::OfJump(piece) => rule_of_jump(piece),
+        Item::OfStmt(piece) => rule_of_stmt(piece),
+        Item::OfBody(piece) => rule_of_body(piece),
+        Item::OfClass(piece) => rule_of_class(piece),
     }
 }
 
-/// The rule of a piece, in the order of the written grammar.
-fn rule_of_piece(piece: Piece) -> Rule
-    ensures { IsRule (Item.Of piece) result }
+/// The rules of names and types, in the order of the written grammar.
+fn rule_of_type(piece: TypePiece) -> Rule
+    ensures { IsRule (Item.OfType piece) result }
 {
     match piece {
-        Names => Seq(&[Tok(Name), Of(MoreNames)]),
-        MoreNames => Star(Of(CommaName)),
+        Names => Seq(&[Tok(Name), OfType(MoreNames)]),
+        MoreNames => Star(OfType(CommaName)),
         CommaName => Seq(&[Tok(Comma), Tok(Name)]),
         Pair => Seq(&[Tok(OpenBracket), Tok(CloseBracket)]),
         Type => Seq(&[One(LeadSet::Bases), Pairs(255)]),
-        Types => Seq(&[Of(Type), Of(MoreTypes)]),
-        MoreTypes => Star(Of(CommaType)),
-        CommaType => Seq(&[Tok(Comma), Of(Type)]),
+        Types => Seq(&[OfType(Type), OfType(MoreTypes)]),
+        MoreTypes => Star(OfType(CommaType)),
+        CommaType => Seq(&[Tok(Comma), OfType(Type)]),
+        MaybeTypes => Opt(OfType(Types)),
+    }
+}
+
+/// The rules of immediates, in the order of the written grammar.
+fn rule_of_imm(piece: ImmPiece) -> Rule
+    ensures { IsRule (Item.OfImm piece) result }
+{
+    match piece {
         LocalImm => Seq(&[Tok(Name)]),
-        NumberImm => Seq(&[Of(MaybeMinus), Tok(Number)]),
+        NumberImm => Seq(&[OfImm(MaybeMinus), Tok(Number)]),
         TextImm => Seq(&[Tok(Text)]),
         ClassImm => Seq(&[Tok(Class), Tok(Text)]),
         NullImm => Seq(&[Tok(Null)]),
         MaybeMinus => Opt(Tok(Minus)),
         Imm => Any(&[
-            Of(LocalImm),
-            Of(NumberImm),
-            Of(TextImm),
-            Of(ClassImm),
-            Of(NullImm),
+            OfImm(LocalImm),
+            OfImm(NumberImm),
+            OfImm(TextImm),
+            OfImm(ClassImm),
+            OfImm(NullImm),
         ]),
-        Imms => Seq(&[Of(Imm), Of(MoreImms)]),
-        MoreImms => Star(Of(CommaImm)),
-        CommaImm => Seq(&[Tok(Comma), Of(Imm)]),
-        MaybeImm => Opt(Of(Imm)),
-        MaybeImms => Opt(Of(Imms)),
-        MaybeTypes => Opt(Of(Types)),
+        Imms => Seq(&[OfImm(Imm), OfImm(MoreImms)]),
+        MoreImms => Star(OfImm(CommaImm)),
+        CommaImm => Seq(&[Tok(Comma), OfImm(Imm)]),
+        MaybeImm => Opt(OfImm(Imm)),
+        MaybeImms => Opt(OfImm(Imms)),
+    }
+}
+
+/// The rules of signatures, in the order of the written grammar.
+fn rule_of_sig(piece: SigPiece) -> Rule
+    ensures { IsRule (Item.OfSig piece) result }
+{
+    match piece {
         FieldSig => Seq(&[
             Tok(Less),
             Tok(Name),
             Tok(Colon),
-            Of(Type),
+            OfType(Type),
             Tok(Name),
             Tok(Greater),
         ]),
         VoidResult => Seq(&[Tok(Void)]),
-        TypeResult => Seq(&[Of(Type)]),
-        Outcome => Any(&[Of(VoidResult), Of(TypeResult)]),
+        TypeResult => Seq(&[OfType(Type)]),
+        Outcome => Any(&[OfSig(VoidResult), OfSig(TypeResult)]),
         MethodSig => Seq(&[
             Tok(Less),
             Tok(Name),
             Tok(Colon),
-            Of(Outcome),
+            OfSig(Outcome),
             Tok(Name),
             Tok(OpenParen),
-            Of(MaybeTypes),
+            OfType(MaybeTypes),
             Tok(CloseParen),
             Tok(Greater),
         ]),
+    }
+}
+
+/// The rules of calls, in the order of the written grammar.
+fn rule_of_call(piece: CallPiece) -> Rule
+    ensures { IsRule (Item.OfCall piece) result }
+{
+    match piece {
         OnReceiver => Seq(&[
             One(LeadSet::PlainInvokes),
             Tok(Name),
             Tok(Dot),
-            Of(MethodSig),
+            OfSig(MethodSig),
             Tok(OpenParen),
-            Of(MaybeImms),
+            OfImm(MaybeImms),
             Tok(CloseParen),
         ]),
         OnClass => Seq(&[
             Tok(StaticInvoke),
-            Of(MethodSig),
+            OfSig(MethodSig),
             Tok(OpenParen),
-            Of(MaybeImms),
+            OfImm(MaybeImms),
             Tok(CloseParen),
         ]),
-        Dynamic => Seq(&[Tok(DynamicInvoke), Of(Others)]),
+        Dynamic => Seq(&[Tok(DynamicInvoke), OfCall(Others)]),
         Others => Star(One(LeadSet::NotEnds)),
-        Invoke => Any(&[Of(OnReceiver), Of(OnClass), Of(Dynamic)]),
-        Own => Seq(&[Tok(OpenBracket), Of(MaybeImm), Tok(CloseBracket)]),
-        FirstOwn => Seq(&[Tok(CloseParen), Of(Own)]),
-        UseExpr => Seq(&[Of(Imm)]),
+        Invoke => Any(&[OfCall(OnReceiver), OfCall(OnClass), OfCall(Dynamic)]),
+    }
+}
+
+/// The rules of expressions, in the order of the written grammar.
+fn rule_of_expr(piece: ExprPiece) -> Rule
+    ensures { IsRule (Item.OfExpr piece) result }
+{
+    match piece {
+        Own => Seq(&[Tok(OpenBracket), OfImm(MaybeImm), Tok(CloseBracket)]),
+        FirstOwn => Seq(&[Tok(CloseParen), OfExpr(Own)]),
+        UseExpr => Seq(&[OfImm(Imm)]),
         NewExpr => Seq(&[Tok(New), Tok(Name)]),
         ArrayExpr => Seq(&[
             Tok(NewArray),
             Tok(OpenParen),
-            Of(Type),
+            OfType(Type),
             Tok(CloseParen),
             Tok(OpenBracket),
-            Of(Imm),
+            OfImm(Imm),
             Tok(CloseBracket),
         ]),
         MultiExpr => Seq(&[
@@ -153,46 +203,44 @@ fn rule_of_piece(piece: Piece) -> Rule
             One(LeadSet::Bases),
             Dimensions(254),
         ]),
-        CastExpr => Seq(&[Tok(OpenParen), Of(Type), Tok(CloseParen), Of(Imm)]),
-        InstanceExpr => Seq(&[Of(Imm), Tok(InstanceOf), Of(Type)]),
-        LengthExpr => Seq(&[Tok(LengthOf), Of(Imm)]),
-        NegExpr => Seq(&[Tok(Neg), Of(Imm)]),
-        BinaryExpr => Seq(&[Of(Imm), One(LeadSet::Operators), Of(Imm)]),
-        FieldExpr => Seq(&[Tok(Name), Tok(Dot), Of(FieldSig)]),
-        StaticExpr => Seq(&[Of(FieldSig)]),
-        CellExpr => Seq(&[Tok(Name), Tok(OpenBracket), Of(Imm), Tok(CloseBracket)]),
-        InvokeExpr => Seq(&[Of(Invoke)]),
+        CastExpr => Seq(&[Tok(OpenParen), OfType(Type), Tok(CloseParen), OfImm(Imm)]),
+        InstanceExpr => Seq(&[OfImm(Imm), Tok(InstanceOf), OfType(Type)]),
+        LengthExpr => Seq(&[Tok(LengthOf), OfImm(Imm)]),
+        NegExpr => Seq(&[Tok(Neg), OfImm(Imm)]),
+        BinaryExpr => Seq(&[OfImm(Imm), One(LeadSet::Operators), OfImm(Imm)]),
+        FieldExpr => Seq(&[Tok(Name), Tok(Dot), OfSig(FieldSig)]),
+        StaticExpr => Seq(&[OfSig(FieldSig)]),
+        CellExpr => Seq(&[Tok(Name), Tok(OpenBracket), OfImm(Imm), Tok(CloseBracket)]),
+        InvokeExpr => Seq(&[OfCall(Invoke)]),
         Expr => Any(&[
-            Of(UseExpr),
-            Of(NewExpr),
-            Of(ArrayExpr),
-            Of(MultiExpr),
-            Of(CastExpr),
-            Of(InstanceExpr),
-            Of(LengthExpr),
-            Of(NegExpr),
-            Of(BinaryExpr),
-            Of(FieldExpr),
-            Of(StaticExpr),
-            Of(CellExpr),
-            Of(InvokeExpr),
+            OfExpr(UseExpr),
+            OfExpr(NewExpr),
+            OfExpr(ArrayExpr),
+            OfExpr(MultiExpr),
+            OfExpr(CastExpr),
+            OfExpr(InstanceExpr),
+            OfExpr(LengthExpr),
+            OfExpr(NegExpr),
+            OfExpr(BinaryExpr),
+            OfExpr(FieldExpr),
+            OfExpr(StaticExpr),
+            OfExpr(CellExpr),
+            OfExpr(InvokeExpr),
         ]),
-        CaseLine => Seq(&[
-            Tok(Case),
-            Of(MaybeMinus),
-            Tok(Number),
-            Tok(Colon),
-            Tok(Goto),
-            Tok(Name),
-            Tok(Semicolon),
-        ]),
-        Cases => Star(Of(CaseLine)),
+    }
+}
+
+/// The rules of statements that move a value, in the order of the written grammar.
+fn rule_of_move(piece: MovePiece) -> Rule
+    ensures { IsRule (Item.OfMove piece) result }
+{
+    match piece {
         ThisStmt => Seq(&[
             Tok(Name),
             Tok(Define),
             Tok(This),
             Tok(Colon),
-            Of(Type),
+            OfType(Type),
             Tok(Semicolon),
         ]),
         ParamStmt => Seq(&[
@@ -200,35 +248,52 @@ fn rule_of_piece(piece: Piece) -> Rule
             Tok(Define),
             Tok(Parameter),
             Tok(Colon),
-            Of(Type),
+            OfType(Type),
             Tok(Semicolon),
         ]),
         CaughtStmt => Seq(&[Tok(Name), Tok(Define), Tok(Caught), Tok(Semicolon)]),
-        AssignStmt => Seq(&[Tok(Name), Tok(Assign), Of(Expr), Tok(Semicolon)]),
+        AssignStmt => Seq(&[Tok(Name), Tok(Assign), OfExpr(Expr), Tok(Semicolon)]),
         PutFieldStmt => Seq(&[
             Tok(Name),
             Tok(Dot),
-            Of(FieldSig),
+            OfSig(FieldSig),
             Tok(Assign),
-            Of(Imm),
+            OfImm(Imm),
             Tok(Semicolon),
         ]),
-        PutStaticStmt => Seq(&[Of(FieldSig), Tok(Assign), Of(Imm), Tok(Semicolon)]),
+        PutStaticStmt => Seq(&[OfSig(FieldSig), Tok(Assign), OfImm(Imm), Tok(Semicolon)]),
         PutCellStmt => Seq(&[
             Tok(Name),
             Tok(OpenBracket),
-            Of(Imm),
+            OfImm(Imm),
             Tok(CloseBracket),
             Tok(Assign),
-            Of(Imm),
+            OfImm(Imm),
             Tok(Semicolon),
         ]),
-        CallStmt => Seq(&[Of(Invoke), Tok(Semicolon)]),
+    }
+}
+
+/// The rules of statements that jump, in the order of the written grammar.
+fn rule_of_jump(piece: JumpPiece) -> Rule
+    ensures { IsRule (Item.OfJump piece) result }
+{
+    match piece {
+        CaseLine => Seq(&[
+            Tok(Case),
+            OfImm(MaybeMinus),
+            Tok(Number),
+            Tok(Colon),
+            Tok(Goto),
+            Tok(Name),
+            Tok(Semicolon),
+        ]),
+        Cases => Star(OfJump(CaseLine)),
         IfStmt => Seq(&[
             Tok(If),
-            Of(Imm),
+            OfImm(Imm),
             One(LeadSet::Relations),
-            Of(Imm),
+            OfImm(Imm),
             Tok(Goto),
             Tok(Name),
             Tok(Semicolon),
@@ -237,10 +302,10 @@ fn rule_of_piece(piece: Piece) -> Rule
         SwitchStmt => Seq(&[
             One(LeadSet::SwitchWords),
             Tok(OpenParen),
-            Of(Imm),
+            OfImm(Imm),
             Tok(CloseParen),
             Tok(OpenBrace),
-            Of(Cases),
+            OfJump(Cases),
             Tok(Default),
             Tok(Colon),
             Tok(Goto),
@@ -249,35 +314,52 @@ fn rule_of_piece(piece: Piece) -> Rule
             Tok(CloseBrace),
             Tok(Semicolon),
         ]),
-        ReturnStmt => Seq(&[Tok(Return), Of(MaybeImm), Tok(Semicolon)]),
-        RetStmt => Seq(&[Tok(Ret), Of(MaybeImm), Tok(Semicolon)]),
-        ThrowStmt => Seq(&[Tok(Throw), Of(Imm), Tok(Semicolon)]),
-        MonitorStmt => Seq(&[One(LeadSet::MonitorWords), Of(Imm), Tok(Semicolon)]),
+        ReturnStmt => Seq(&[Tok(Return), OfImm(MaybeImm), Tok(Semicolon)]),
+        RetStmt => Seq(&[Tok(Ret), OfImm(MaybeImm), Tok(Semicolon)]),
+        ThrowStmt => Seq(&[Tok(Throw), OfImm(Imm), Tok(Semicolon)]),
+    }
+}
+
+/// The rules of the other statements, and lines, in the order of the written grammar.
+fn rule_of_stmt(piece: StmtPiece) -> Rule
+    ensures { IsRule (Item.OfStmt piece) result }
+{
+    match piece {
+        CallStmt => Seq(&[OfCall(Invoke), Tok(Semicolon)]),
+        MonitorStmt => Seq(&[One(LeadSet::MonitorWords), OfImm(Imm), Tok(Semicolon)]),
         SkipStmt => Seq(&[One(LeadSet::SkipWords), Tok(Semicolon)]),
         Stmt => Any(&[
-            Of(ThisStmt),
-            Of(ParamStmt),
-            Of(CaughtStmt),
-            Of(AssignStmt),
-            Of(PutFieldStmt),
-            Of(PutStaticStmt),
-            Of(PutCellStmt),
-            Of(CallStmt),
-            Of(IfStmt),
-            Of(GotoStmt),
-            Of(SwitchStmt),
-            Of(ReturnStmt),
-            Of(RetStmt),
-            Of(ThrowStmt),
-            Of(MonitorStmt),
-            Of(SkipStmt),
+            OfMove(ThisStmt),
+            OfMove(ParamStmt),
+            OfMove(CaughtStmt),
+            OfMove(AssignStmt),
+            OfMove(PutFieldStmt),
+            OfMove(PutStaticStmt),
+            OfMove(PutCellStmt),
+            OfStmt(CallStmt),
+            OfJump(IfStmt),
+            OfJump(GotoStmt),
+            OfJump(SwitchStmt),
+            OfJump(ReturnStmt),
+            OfJump(RetStmt),
+            OfJump(ThrowStmt),
+            OfStmt(MonitorStmt),
+            OfStmt(SkipStmt),
         ]),
         LabelLine => Seq(&[Tok(Name), Tok(Colon)]),
-        StmtLine => Seq(&[Of(Stmt)]),
-        Line => Any(&[Of(LabelLine), Of(StmtLine)]),
-        TypeDecl => Seq(&[Of(Type), Of(Names), Tok(Semicolon)]),
-        OddDecl => Seq(&[One(LeadSet::OddTypes), Of(Names), Tok(Semicolon)]),
-        Decl => Any(&[Of(TypeDecl), Of(OddDecl)]),
+        StmtLine => Seq(&[OfStmt(Stmt)]),
+        Line => Any(&[OfStmt(LabelLine), OfStmt(StmtLine)]),
+    }
+}
+
+/// The rules of bodies, in the order of the written grammar.
+fn rule_of_body(piece: BodyPiece) -> Rule
+    ensures { IsRule (Item.OfBody piece) result }
+{
+    match piece {
+        TypeDecl => Seq(&[OfType(Type), OfType(Names), Tok(Semicolon)]),
+        OddDecl => Seq(&[One(LeadSet::OddTypes), OfType(Names), Tok(Semicolon)]),
+        Decl => Any(&[OfBody(TypeDecl), OfBody(OddDecl)]),
         Trap => Seq(&[
             Tok(Catch),
             Tok(Name),
@@ -289,49 +371,57 @@ fn rule_of_piece(piece: Piece) -> Rule
             Tok(Name),
             Tok(Semicolon),
         ]),
-        DeclLines => Star(Of(Decl)),
-        LineList => Star(Of(Line)),
-        TrapLines => Star(Of(Trap)),
+        DeclLines => Star(OfBody(Decl)),
+        LineList => Star(OfStmt(Line)),
+        TrapLines => Star(OfBody(Trap)),
         Body => Seq(&[
             Tok(OpenBrace),
-            Of(DeclLines),
-            Of(LineList),
-            Of(TrapLines),
+            OfBody(DeclLines),
+            OfBody(LineList),
+            OfBody(TrapLines),
             Tok(CloseBrace),
         ]),
         NoBody => Seq(&[Tok(Semicolon)]),
-        WithBody => Seq(&[Of(Body)]),
-        Ending => Any(&[Of(NoBody), Of(WithBody)]),
-        ThrowsPart => Seq(&[Tok(Throws), Of(Names)]),
-        MaybeThrows => Opt(Of(ThrowsPart)),
+        WithBody => Seq(&[OfBody(Body)]),
+        Ending => Any(&[OfBody(NoBody), OfBody(WithBody)]),
+    }
+}
+
+/// The rules of members, classes and the program, in the order of the written grammar.
+fn rule_of_class(piece: ClassPiece) -> Rule
+    ensures { IsRule (Item.OfClass piece) result }
+{
+    match piece {
+        ThrowsPart => Seq(&[Tok(Throws), OfType(Names)]),
+        MaybeThrows => Opt(OfClass(ThrowsPart)),
         Modifiers => Star(One(LeadSet::Modifiers)),
-        FieldMember => Seq(&[Of(Modifiers), Of(Type), Tok(Name), Tok(Semicolon)]),
+        FieldMember => Seq(&[OfClass(Modifiers), OfType(Type), Tok(Name), Tok(Semicolon)]),
         MethodMember => Seq(&[
-            Of(Modifiers),
-            Of(Outcome),
+            OfClass(Modifiers),
+            OfSig(Outcome),
             Tok(Name),
             Tok(OpenParen),
-            Of(MaybeTypes),
+            OfType(MaybeTypes),
             Tok(CloseParen),
-            Of(MaybeThrows),
-            Of(Ending),
+            OfClass(MaybeThrows),
+            OfBody(Ending),
         ]),
-        Member => Any(&[Of(FieldMember), Of(MethodMember)]),
-        MemberList => Star(Of(Member)),
+        Member => Any(&[OfClass(FieldMember), OfClass(MethodMember)]),
+        MemberList => Star(OfClass(Member)),
         ExtendsPart => Seq(&[Tok(Extends), Tok(Name)]),
-        MaybeExtends => Opt(Of(ExtendsPart)),
-        ImplementsPart => Seq(&[Tok(Implements), Of(Names)]),
-        MaybeImplements => Opt(Of(ImplementsPart)),
+        MaybeExtends => Opt(OfClass(ExtendsPart)),
+        ImplementsPart => Seq(&[Tok(Implements), OfType(Names)]),
+        MaybeImplements => Opt(OfClass(ImplementsPart)),
         ClassText => Seq(&[
-            Of(Modifiers),
+            OfClass(Modifiers),
             One(LeadSet::ClassWords),
             Tok(Name),
-            Of(MaybeExtends),
-            Of(MaybeImplements),
+            OfClass(MaybeExtends),
+            OfClass(MaybeImplements),
             Tok(OpenBrace),
-            Of(MemberList),
+            OfClass(MemberList),
             Tok(CloseBrace),
         ]),
-        Program => Star(Of(ClassText)),
+        Program => Star(OfClass(ClassText)),
     }
 }

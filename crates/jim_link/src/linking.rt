@@ -63,7 +63,10 @@ fn reached_parts(alloc: Global, classes: &Classes) -> Result<Parts, LinkError>
     ensures ok { IfOk result (ArePartsOf classes.now.world) }
     ensures err { IfErr result (TellsFirst classes.now.world) }
 {
-    let mut targets = Targets::new(alloc, classes);
+    let mut targets = match Targets::new(alloc, classes) {
+        Ok(targets) => targets,
+        Err(_) => return Err(LinkError::NoMemory),
+    };
     match reach(alloc, &mut targets) {
         Ok(reachable) => made_parts(alloc, &mut targets, reachable),
         Err(error) => Err(not_reached(alloc, classes, error)),

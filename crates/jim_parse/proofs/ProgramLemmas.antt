@@ -1,10 +1,15 @@
 -- The program that a text spells.
-use Rattle.std.proofs.Common.{◌≡◌, ℕ, List, sym, ap, ◌∙◌, subst}
+use Rattle.std.proofs.Common.{◌≡◌, ℕ, List, [], sym, ap, ◌∙◌, subst}
 use Rattle.jim_ast.specs.declared.syntax.Class.{Class}
 use Rattle.jim_ast.specs.declared.syntax.Program.{Program}
 use Rattle.jim_text.specs.declared.Token.{Token}
 use Rattle.jim_text.specs.Lexes.{Lexes}
 use Rattle.jim_text.proofs.ReadLemmas.{read_same, end_none}
+use Rattle.jim_signs.specs.declared.seen.Sign.{Sign}
+use Rattle.jim_signs.specs.Signs.{AreRead}
+use Rattle.jim_grammar.specs.Expressions.{Tree, spell}
+use Rattle.jim_grammar.specs.Grammar as grammar
+use Rattle.jim_grammar.specs.Refusals as text
 use Rattle.jim_build.specs.Classes.{classes_of}
 use Rattle.jim_build.proofs.ApartProgram.{program_same}
 use Rattle.jim_parse.specs.Derives.{Derives, Spells}
@@ -31,3 +36,12 @@ derives_one bytes tokens one other p q =
 -- and bytes spell one at most
 pub spells_one : (bytes : List ℕ) (one other : Program) → Spells bytes one → Spells bytes other → one ≡ other
 spells_one bytes one other p q = derives_one bytes p.tokens one other p.derived (derives_any bytes p.tokens other p.lexed q)
+
+-- a program of the names that are read, whose classes any tree of the signs means, is spelled by the bytes
+pub spelled_by : (bytes : List ℕ) (names : List (List ℕ)) (signs : List Sign) (program : Program) → AreRead bytes names signs → text.Derives signs → program.names ≡ names
+    → ((x : Tree grammar.program) → spell grammar.program x [] ≡ signs → program.classes ≡ classes_of x) → Spells bytes program
+spelled_by bytes names signs program found whole e classes = record {
+  tokens = found.tokens;
+  lexed = found.lexed;
+  derived = record { tree = whole.tree; spelled = whole.spells ∙ found.the_signs; names = e ∙ found.the_names; classes = classes whole.tree whole.spells };
+}

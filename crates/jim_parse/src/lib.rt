@@ -5,4 +5,4 @@ mod laws;
 mod reader;
 
 pub use laws::{has_one_place, has_one_program};
-pub use reader::{ParseError, parse};
+pub use reader::{ParseError, ReadError, parse, read};

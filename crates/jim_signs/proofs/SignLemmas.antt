@@ -1,5 +1,5 @@
 -- The signs as the list of names grows.
-use Rattle.std.proofs.Common.{if◌then◌else◌, ◌≡◌, ◌≢◌, ℕ, zero, suc, ◌+◌, ◌<◌, ◌≤◌, Bool, true, false, List, [], ◌∷◌, ◌++◌, length, take, get_or, map, slice_get, Option, Some, None, All, IfSome, refl, sym, ap, ap₂, ◌∙◌, subst, arith, length-append, append-nil}
+use Rattle.std.proofs.Common.{if◌then◌else◌, ◌≡◌, ◌≢◌, ℕ, zero, suc, ◌+◌, ◌<◌, ◌≤◌, Bool, true, false, List, [], ◌∷◌, ◌++◌, length, take, get_or, map, slice_get, Option, Some, None, All, IfSome, refl, sym, ap, ap₂, ◌∙◌, subst, arith, length-append, append-nil, append_assoc}
 use Rattle.std.specs.List.{list_any, AllZip}
 use Rattle.std.specs.Str.{bytes_eq}
 use Rattle.std.proofs.lemmas.List.Elements.{All-push, All-weaker, All-head, All-tail, All-nil}
@@ -9,12 +9,13 @@ use Rattle.jim_text.specs.declared.Kind.{Kind}
 use Rattle.jim_text.specs.declared.Kind.TheVariants as kind
 use Rattle.jim_text.specs.declared.Token.{Token}
 use Rattle.jim_text.specs.Spelling.{Spells}
-use Rattle.jim_text.specs.Lexes.{Begins, Reads}
+use Rattle.jim_text.specs.Lexes.{Begins, Reads, Lexes, IsNext, NoneBegins, StopsAt}
+use Rattle.jim_text.proofs.ReadLemmas.{order_few, read_order, stop_no_list}
 use Rattle.jim_text.specs.Lexes.Reads.{ends, blank, comment, token as read_token}
 use Rattle.jim_text.specs.declared.lead.Lead.TheVariants.{Other}
 use Rattle.jim_signs.specs.declared.seen.Sign.{Sign}
 use Rattle.jim_signs.specs.Names.{text_of, contents, with_contents, names_of}
-use Rattle.jim_signs.specs.Signs.{IsNamed, number_of, sign_of, IsBelow}
+use Rattle.jim_signs.specs.Signs.{AreRead, IsNamed, number_of, sign_of, IsBelow}
 use Rattle.jim_signs.proofs.NameLemmas.{place_of-append, slice_get-place_of, list_any-more, list_any-with_text}
 
 -- a sign of a class other than the rest
@@ -148,3 +149,46 @@ token_begins (read_token first place here more) (suc i) t h = token_begins more 
 -- a token of a kind is spelled as that kind
 pub spelled : (bytes : List ℕ) (t : Token) (k : Kind) → t.kind ≡ k → Begins bytes t.kind t.from t.to → Spells k bytes t.from t.to
 spelled bytes t k e here = subst (λ k. Spells k bytes t.from t.to) e here.spelled
+
+-- the names and the signs of the tokens up to a place, however the bytes go on from there
+pub record ReadSigns (bytes : List ℕ) (at : ℕ) (names : List (List ℕ)) (signs : List Sign) : Type 0 where
+  pub tokens : List Token
+  pub read : (to : ℕ) (rest : List Token) → Reads bytes at to rest → Reads bytes 0 to (tokens ++ rest)
+  pub so_far : SignsOf bytes tokens names signs
+
+pub no_read : (bytes : List ℕ) → ReadSigns bytes 0 [] []
+no_read bytes = record { tokens = []; read = λ to rest more. more; so_far = no_signs bytes }
+
+-- and with the next token
+pub more_read : (bytes : List ℕ) (at : ℕ) (names new : List (List ℕ)) (signs more : List Sign) (next : Token) → ReadSigns bytes at names signs → IsNext bytes at next
+    → new ≡ with_contents names (contents next.kind (text_of bytes next)) → more ≡ signs ++ sign_of bytes new next ∷ [] → IsBelow (length new) (sign_of bytes new next)
+    → IsClassed (sign_of bytes new next) → ReadSigns bytes next.to new more
+more_read bytes at names new signs more next before here e f below class = record {
+  tokens = before.tokens ++ next ∷ [];
+  read = λ to rest further. rw append_assoc (before.read to (next ∷ rest) (here.reads to rest further));
+  so_far = subst (λ s. SignsOf bytes (before.tokens ++ next ∷ []) new s) (sym f) (more_signs bytes before.tokens names new signs next (sign_of bytes new next) before.so_far e refl below class);
+}
+
+-- at the end they are those of all tokens
+pub all_read : (bytes : List ℕ) (at : ℕ) (names : List (List ℕ)) (signs : List Sign) → ReadSigns bytes at names signs → Reads bytes at (length bytes) [] → AreRead bytes names signs
+all_read bytes at names signs before end =
+    let tokens = before.tokens in
+    let lexed : Lexes bytes tokens = rw append-nil at (before.read (length bytes) [] end) in
+    let whole : take (length tokens) tokens ≡ tokens = take_whole (length tokens) tokens (omega arith) in
+    record {
+      tokens = tokens;
+      lexed = lexed;
+      few = omega (arith, order_few tokens 0 (length bytes) (read_order lexed));
+      the_names = before.so_far.the_names;
+      the_signs = before.so_far.the_signs ∙ ap (λ n. map (sign_of bytes n) tokens) before.so_far.the_names;
+      named = all_named bytes tokens (length tokens) names signs (omega arith) (subst (λ l. SignsOf bytes l names signs) (sym whole) before.so_far);
+      below = before.so_far.low;
+      known = before.so_far.classed;
+    }
+
+-- where nothing goes on the bytes have no tokens
+pub none_read : (bytes : List ℕ) (at stop : ℕ) (names : List (List ℕ)) (signs : List Sign) → ReadSigns bytes at names signs → Reads bytes at stop [] → stop < length bytes
+    → NoneBegins bytes stop → ((tokens : List Token) → ¬ (Lexes bytes tokens)) × StopsAt bytes stop
+none_read bytes at stop names signs before end low none =
+    let here : StopsAt bytes stop = record { tokens = before.tokens; reached = rw append-nil at (before.read stop [] end); before = low; stuck = none } in
+    (stop_no_list here, here)

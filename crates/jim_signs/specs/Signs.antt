@@ -1,11 +1,12 @@
 -- The signs of a text.
-use Rattle.std.specs.Prelude.{◌≡◌, ℕ, ◌<◌, ◌⊎◌, if◌then◌else◌, List, map, drop, nat_eq, codes, slice_get, Some, IfSome}
-use Rattle.std.specs.List.{starts_with}
+use Rattle.std.specs.Prelude.{◌≡◌, ◌≢◌, ℕ, ◌<◌, ◌≤◌, ◌⊎◌, if◌then◌else◌, List, length, map, drop, nat_eq, codes, slice_get, Some, IfSome, All}
+use Rattle.std.specs.List.{starts_with, AllZip}
 use Rattle.std.specs.Str.Parse.{digits_value}
 use Rattle.jim_text.specs.declared.Kind.{Kind}
 use Rattle.jim_text.specs.declared.Kind.TheVariants as kind
 use Rattle.jim_text.specs.declared.Token.{Token}
 use Rattle.jim_text.specs.Contents as name
+use Rattle.jim_text.specs.Lexes.{Lexes}
 use Rattle.jim_text.specs.declared.lead.Lead.TheVariants as lead
 use Rattle.jim_signs.specs.declared.seen.Sign.{Sign}
 use Rattle.jim_signs.specs.Leads.{lead_of}
@@ -41,3 +42,14 @@ IsNamed bytes names token sign = IfSome (contents token.kind (text_of bytes toke
 -- a sign for a name or a text has the number of one of so many names
 abbrev pub IsBelow : ℕ → Sign → Type 0
 IsBelow count sign = (sign.lead ≡ lead.Name) ⊎ (sign.lead ≡ lead.Text) → sign.text < count
+
+-- the names and the signs of the tokens that the bytes are
+pub record AreRead (bytes : List ℕ) (names : List (List ℕ)) (signs : List Sign) : Type 0 where
+  pub tokens : List Token
+  pub lexed : Lexes bytes tokens
+  pub few : length tokens ≤ length bytes
+  pub the_names : names ≡ names_of bytes tokens
+  pub the_signs : signs ≡ signs_of bytes tokens
+  pub named : AllZip (IsNamed bytes names) tokens signs
+  pub below : All (IsBelow (length names)) signs
+  pub known : All (λ (sign : Sign). sign.lead ≢ lead.Other) signs

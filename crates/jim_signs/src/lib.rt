@@ -8,4 +8,4 @@ mod sign;
 pub use jim_text::Lead;
 pub use law::{has_tokens, names_are_firsts};
 pub use seen::{Sign, Signs};
-pub use sign::signs;
+pub use sign::{read_signs, signs};

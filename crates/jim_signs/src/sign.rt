@@ -1,17 +1,19 @@
 //! The signs of a text, and its names.
-ghost use Rattle.std.specs.Prelude.{◌≡◌, ◌≢◌, ◌-◌, ◌<◌, ◌≤◌, length, slice_index, codes, nat_eq, IsUtf8, IsTrue, IfOk, All, EachIndex};
+ghost use Rattle.std.specs.Prelude.{◌≡◌, ◌≢◌, ◌-◌, ◌<◌, ◌≤◌, ◌++◌, ◌∷◌, [], length, slice_index, codes, nat_eq, IsUtf8, IsTrue, IfOk, IfErr, OnOk, All, EachIndex};
 ghost use Rattle.std.specs.List.{AllZip, starts_with};
 ghost use Rattle.std.specs.Str.Parse.{digits_value};
 ghost use Rattle.jim_text.specs.Contents as name;
-ghost use Rattle.jim_text.specs.Lexes.{Begins, Lexes};
+ghost use Rattle.jim_text.specs.Lexes.{Begins, Explains, IsClassed, Lexes};
 ghost use Rattle.jim_text.specs.Spelling.{Digits, is_digit};
 ghost use Rattle.jim_signs.specs.Leads.{at_lead};
 ghost use Rattle.jim_signs.specs.Names.{between_quotes, contents, names_of, place_of, text_of, with_contents, with_text};
-ghost use Rattle.jim_signs.specs.Signs.{IsBelow, IsNamed, at_number, sign_of, signs_of};
+ghost use Rattle.jim_signs.specs.Signs.{AreRead, IsBelow, IsNamed, at_number, sign_of, signs_of};
 
 use super::seen::{Sign, Signs};
 use jim_ast::Names;
-use jim_text::{Kind, Lead, Token, has_quote, mark_lead, word_lead};
+use jim_text::{
+    Ahead, Kind, Lead, LexError, Lexeme, Token, has_quote, mark_lead, next_token, word_lead,
+};
 use lists::NoMemory;
 use std::alloc::Global;
 
@@ -93,23 +95,40 @@ fn at_word(text: &[u8]) -> (Lead, u32)
 }
 
 // The sign of a token, whose contents are among the names then.
-fn sign(alloc: Global, names: &mut Names, bytes: &[u8], token: Token) -> Result<Sign, NoMemory>
-    requires { Begins bytes.now token.kind token.from token.to }
-    ensures names { IfOk result (λ _. names.new ≡ with_contents names.old (contents token.kind (text_of bytes.now token))) }
-    ensures sign { IfOk result (λ sign. sign ≡ sign_of bytes.now names.new token) }
+fn sign(alloc: Global, names: &mut Names, bytes: &[u8], lexeme: Lexeme) -> Result<Sign, NoMemory>
+    requires begins { Begins bytes.now lexeme.token.kind lexeme.token.from lexeme.token.to }
+    requires classed { IsClassed bytes.now lexeme.lead lexeme.token }
+    ensures names { IfOk result (λ _. names.new ≡ with_contents names.old (contents lexeme.token.kind (text_of bytes.now lexeme.token))) }
+    ensures sign { IfOk result (λ sign. sign ≡ sign_of bytes.now names.new lexeme.token) }
     ensures below { IfOk result (IsBelow (length names.new)) }
     ensures known { IfOk result (λ sign. sign.lead ≢ Lead.Other) }
 {
+    let token = lexeme.token;
     let text = &bytes[token.from as usize..token.to as usize];
     let (lead, number) = match token.kind {
-        Kind::Word => (word_lead(text), 0),
-        Kind::Mark => (mark_lead(text), 0),
+        Kind::Word | Kind::Mark => (lexeme.lead, 0),
         Kind::Number => (Lead::Number, 0),
         Kind::At => at_word(text),
         Kind::Name => (Lead::Name, number_of_name(alloc, names, text)?),
         Kind::Text => (Lead::Text, number_of_text(names, as_text(text))?),
     };
     Ok(Sign { lead, text: number })
+}
+
+// The class of a token, but for the words with an at sign.
+fn lead(bytes: &[u8], token: Token) -> Lead
+    requires { Begins bytes.now token.kind token.from token.to }
+    ensures { IsClassed bytes.now result token }
+{
+    let text = &bytes[token.from as usize..token.to as usize];
+    match token.kind {
+        Kind::Word => word_lead(text),
+        Kind::Mark => mark_lead(text),
+        Kind::Number => Lead::Number,
+        Kind::Name => Lead::Name,
+        Kind::Text => Lead::Text,
+        Kind::At => Lead::Other,
+    }
 }
 
 /// The names and the signs of a text with these tokens.
@@ -124,7 +143,51 @@ pub fn signs(alloc: Global, bytes: &[u8], tokens: &[Token]) -> Result<Signs, NoM
     let mut names = Names::new(alloc);
     let mut signs = Vec::with_capacity(alloc, tokens.len())?;
     for token in tokens {
-        signs.push(sign(alloc, &mut names, bytes, *token)?)?;
+        let lexeme = Lexeme {
+            token: *token,
+            lead: lead(bytes, *token),
+        };
+        signs.push(sign(alloc, &mut names, bytes, lexeme)?)?;
     }
     Ok(Signs { names, signs })
+}
+
+// Puts the sign of one more token.
+fn put(alloc: Global, found: &mut Signs, bytes: &[u8], lexeme: Lexeme) -> Result<(), NoMemory>
+    requires begins { Begins bytes.now lexeme.token.kind lexeme.token.from lexeme.token.to }
+    requires classed { IsClassed bytes.now lexeme.lead lexeme.token }
+    ensures names { OnOk result (found.new.names ≡ with_contents found.old.names (contents lexeme.token.kind (text_of bytes.now lexeme.token))) }
+    ensures sign { OnOk result (found.new.signs.items ≡ found.old.signs.items ++ sign_of bytes.now found.new.names lexeme.token ∷ []) }
+    ensures below { OnOk result (IsBelow (length found.new.names) (sign_of bytes.now found.new.names lexeme.token)) }
+    ensures known { OnOk result ((sign_of bytes.now found.new.names lexeme.token).lead ≢ Lead.Other) }
+{
+    let sign = sign(alloc, &mut found.names, bytes, lexeme)?;
+    found.signs.push(sign)?;
+    Ok(())
+}
+
+/// The names and the signs of a text, whose tokens are looked at one by one as they are found: they are no list in memory.
+///
+/// `BadText { at }` comes exactly where bytes have no list of tokens, as with `jim_text::lex`. `NoMemory` comes where there is none for the names or the
+/// signs.
+pub fn read_signs(alloc: Global, bytes: &[u8]) -> Result<Signs, LexError>
+    requires { length bytes.now ≤ 16777216 }
+    ensures read { IfOk result (λ found. AreRead bytes.now found.names found.signs.items) }
+    ensures error { IfErr result (Explains bytes.now) }
+{
+    let mut found = Signs {
+        names: Names::new(alloc),
+        signs: Vec::new(alloc),
+    };
+    let mut at = 0;
+    loop {
+        match next_token(bytes, at) {
+            Ahead::Token(lexeme) => {
+                put(alloc, &mut found, bytes, lexeme)?;
+                at = lexeme.token.to as usize;
+            }
+            Ahead::End => return Ok(found),
+            Ahead::Nothing { at } => return Err(LexError::BadText { at }),
+        }
+    }
 }

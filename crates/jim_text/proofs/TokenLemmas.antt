@@ -1,5 +1,5 @@
 -- Which token begins at a place.
-use Rattle.std.proofs.Common.{◌≡◌, ℕ, ◌+◌, ◌<◌, ◌≤◌, ◌⊎◌, Bool, true, false, ◌||◌, ◌==◌, not, List, [], ◌∷◌, length, get_or, refl, sym, ap, ◌∙◌, subst, inl, inr, arith, true≢false, codes, MatchOption}
+use Rattle.std.proofs.Common.{◌≡◌, ℕ, ◌+◌, ◌<◌, ◌≤◌, ◌⊎◌, Bool, true, false, ◌||◌, ◌==◌, not, List, [], ◌∷◌, length, get_or, refl, sym, ap, ◌∙◌, subst, inl, inr, arith, true≢false, codes, MatchOption, IfSome, slice_range}
 use Rattle.std.specs.Prelude.{Option, None, Some}
 use Rattle.jim_text.specs.declared.Kind.{Kind}
 use Rattle.jim_text.specs.declared.Kind.TheVariants.{Word, Name, Number, Text, At, Mark}
@@ -8,7 +8,8 @@ use Rattle.jim_text.specs.Spelling.{is_blank, is_digit, is_bare, IsName, IsNumbe
 use Rattle.jim_text.specs.Spelling.IsAt.{this, caught, parameter}
 use Rattle.jim_text.specs.Spelling.IsMark.{single, double, triple}
 use Rattle.jim_text.specs.Ends.{IsEnd, IsMade, IsNameToken, is_lead, is_number_lead}
-use Rattle.jim_text.specs.Lexes.{Begins, NoTokenAt, TokenAt}
+use Rattle.jim_text.specs.Lexes.{Begins, NoTokenAt, TokenAt, IsLead, IsClassed}
+use Rattle.jim_text.specs.declared.lead.Lead.{Lead}
 use Rattle.jim_text.specs.Words.{marks}
 use Rattle.jim_text.proofs.DigitLemmas.{either, has_first}
 use Rattle.jim_text.proofs.MarkLemmas.{triple_bytes}
@@ -280,6 +281,15 @@ module _ (bytes : List ℕ) (at : ℕ) (lead : is_lead (get_or bytes at 0) ≡ t
   pub lead_token : (r : Option Token) → MatchOption r ((to : ℕ) → ¬ (IsName bytes at to)) (IsNameToken bytes at) → MatchOption r (NoTokenAt bytes at) (TokenAt bytes at)
   lead_token None nameless = λ kind k h. nameless k (lead_name kind k h)
   lead_token (Some token) found = name_token found (λ kind k h. found.longest k (lead_name kind k h))
+
+-- a token that is made has the class of its kind and its bytes
+pub made_class : (bytes : List ℕ) (at to : ℕ) (kind : Kind) (l : Lead) (r : Option Token) → MatchOption r (at ≡ to) (IsMade kind at to) → at ≤ to
+    → (at < to → IsLead kind (slice_range bytes at to) l) → IfSome r (IsClassed bytes l)
+made_class bytes at to kind l None made low is = tt
+made_class bytes at to kind l (Some token) made low is =
+    let here : IsLead kind (slice_range bytes at to) l = is (omega (arith, low, made.some)) in
+    subst (λ k. IsLead k (slice_range bytes token.from token.to) l) (sym made.the_kind)
+    (subst (λ n. IsLead kind (slice_range bytes n token.to) l) (sym made.the_from) (subst (λ n. IsLead kind (slice_range bytes at n) l) (sym made.the_to) here))
 
 -- the longest name, made as a token of its kind
 pub named : {bytes : List ℕ} {at to : ℕ} (kind : Kind) (r : Option Token) → MatchOption r (at ≡ to) (IsMade kind at to) → IsEnd (IsName bytes at) at (length bytes) to

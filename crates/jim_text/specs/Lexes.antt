@@ -1,10 +1,15 @@
 -- The one list of tokens that bytes have.
-use Rattle.std.specs.Prelude.{◌≡◌, ℕ, ◌+◌, ◌<◌, ◌≤◌, List, [], ◌∷◌, length, slice_index, IsTrue}
+use Rattle.std.specs.Prelude.{◌≡◌, ℕ, ◌+◌, ◌<◌, ◌≤◌, List, [], ◌∷◌, length, slice_index, slice_range, IsTrue}
+use Rattle.jim_text.specs.declared.Ahead.{Ahead}
 use Rattle.jim_text.specs.declared.Kind.{Kind}
+use Rattle.jim_text.specs.declared.Kind.TheVariants as kind
+use Rattle.jim_text.specs.declared.lead.Lead.{Lead}
+use Rattle.jim_text.specs.declared.lead.Lead.TheVariants as lead
 use Rattle.jim_text.specs.declared.Token.{Token}
 use Rattle.jim_text.specs.declared.LexError.{LexError}
 use Rattle.jim_text.specs.declared.LexError.TheVariants.{BadText, NoMemory}
 use Rattle.jim_text.specs.Spelling.{is_blank, Comment, Spells}
+use Rattle.jim_text.specs.Words.{look_up, words, marks}
 
 -- bytes of the text, at least one, are spelled as a token of the kind
 pub record Begins (bytes : List ℕ) (kind : Kind) (from to : ℕ) : Type 0 where
@@ -47,6 +52,20 @@ NoTokenAt bytes at = (kind : Kind) (to : ℕ) → ¬ (Begins bytes kind at to)
 abbrev pub TokenAt : List ℕ → ℕ → Token → Type 0
 TokenAt bytes at here = (here.from ≡ at) × IsToken bytes here
 
+-- A token's class: that of a word or a mark is the one that its table gives, and a name, a number and a text have one each. A word with an at sign is
+-- told by its text, so nothing is said here.
+abbrev pub IsLead : Kind → List ℕ → Lead → Type 0
+IsLead kind.Word text l = l ≡ look_up words text
+IsLead kind.Mark text l = l ≡ look_up marks text
+IsLead kind.Name text l = l ≡ lead.Name
+IsLead kind.Number text l = l ≡ lead.Number
+IsLead kind.Text text l = l ≡ lead.Text
+IsLead kind.At text l = Unit {0}
+
+-- the class is that of the token of these bytes
+abbrev pub IsClassed : List ℕ → Lead → Token → Type 0
+IsClassed bytes l here = IsLead here.kind (slice_range bytes here.from here.to) l
+
 -- no blank, comment or token begins at a place
 pub record NoneBegins (bytes : List ℕ) (at : ℕ) : Type 0 where
   pub blank : at < length bytes → ¬ (IsTrue (is_blank (slice_index bytes at)))
@@ -65,3 +84,15 @@ pub record StopsAt (bytes : List ℕ) (at : ℕ) : Type 0 where
 abbrev pub Explains : List ℕ → LexError → Type 0
 Explains bytes (BadText at) = ((tokens : List Token) → ¬ (Lexes bytes tokens)) × StopsAt bytes at
 Explains bytes NoMemory = Unit {0}
+
+-- from a place on the bytes are blanks and comments, and behind them a token, and go on behind it
+pub record IsNext (bytes : List ℕ) (from : ℕ) (next : Token) : Type 0 where
+  pub spelled : IsSpelled bytes next
+  pub low : from < next.to
+  pub reads : (to : ℕ) (rest : List Token) → Reads bytes next.to to rest → Reads bytes from to (next ∷ rest)
+
+-- what stands behind a place
+abbrev pub IsAhead : List ℕ → ℕ → Ahead → Type 0
+IsAhead bytes from (Ahead.Token next) = IsNext bytes from next.token × IsClassed bytes next.lead next.token
+IsAhead bytes from Ahead.End = Reads bytes from (length bytes) []
+IsAhead bytes from (Ahead.Nothing at) = Reads bytes from at [] × (at < length bytes) × NoneBegins bytes at

@@ -20,7 +20,7 @@ mod word;
 pub use content::{contents, has_quote};
 pub use laws::{has_one_list, spells_alone};
 pub use lead::Lead;
-pub use lexer::lex;
+pub use lexer::{lex, next_token};
 pub use mark::mark_lead;
 pub use std::alloc::AllocError as NoMemory;
 pub use word::word_lead;
@@ -48,6 +48,24 @@ pub struct Token {
     pub kind: Kind,
     pub from: u32,
     pub to: u32,
+}
+
+/// A token and its class, but for the words with an at sign, whose class is told by their text.
+#[derive(Clone, Copy, Debug, PartialEq, Eq)]
+pub struct Lexeme {
+    pub token: Token,
+    pub lead: Lead,
+}
+
+/// What stands behind a place, blanks and comments passed over.
+#[derive(Clone, Copy, Debug, PartialEq, Eq)]
+pub enum Ahead {
+    /// A token, the longest at its place.
+    Token(Lexeme),
+    /// No more tokens.
+    End,
+    /// At this byte no blank, comment or token begins.
+    Nothing { at: u32 },
 }
 
 /// Why bytes have no tokens.

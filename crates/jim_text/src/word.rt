@@ -252,11 +252,3 @@ pub fn word_lead(text: &[u8]) -> Lead
         _ => Lead::Other,
     }
 }
-
-/// Whether a text is a reserved word.
-#[inline]
-pub(crate) fn is_reserved(text: &[u8]) -> bool
-    ensures { result ≡ table.is_reserved text.now }
-{
-    word_lead(text).is_known()
-}

@@ -1,3 +1,6 @@
 pub mod Below
+pub mod Choosing
+pub mod Kept
+pub mod Marked
 pub mod Pairs
 pub mod Selecting

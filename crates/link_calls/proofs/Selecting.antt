@@ -1,9 +1,9 @@
 -- What calls run, class by class.
 use Rattle.std.proofs.Common.{◌≡◌, ℕ, zero, suc, ◌<◌, ◌≤◌, ◌+◌, ◌⊎◌, Bool, true, false, Option, Some, None, List, [], ◌∷◌, length, refl, sym, ap, subst, ◌∙◌, slice_get, inl, inr, arith, IsTrue, Result, Ok, Err, IfOk}
-use Rattle.std.specs.Prelude.{AllPairs, Contains, ◌↔◌}
+use Rattle.std.specs.Prelude.{AllPairs, ◌↔◌}
 use Rattle.std.proofs.Math.Nat.{eq-or-lt_of_le}
 use Rattle.std.proofs.lemmas.List.Quantifiers.{all_pairs_push}
-use Rattle.std.proofs.lemmas.Option.{get_or_from_slice_get, slice_get-get_or, slice_get_within}
+use Rattle.std.proofs.lemmas.Option.{slice_get-get_or}
 use Rattle.class_tree.specs.Lookups.{IsAmbiguous, IsDefault, OnPath, Resolve, ambiguous, nowhere}
 use Rattle.class_tree.specs.Rows.{Rows, Sub}
 use Rattle.class_tree.proofs.LawFacts.{path_one}
@@ -22,7 +22,7 @@ use Rattle.link_calls.specs.Known.{HasAtMost, IsFound}
 use Rattle.link_calls.specs.Selected.{AreSelectedBy, IsSelected, IsSelection, SelectsNone}
 
 -- a number is below another, or not
-below_or_not : (a b : ℕ) → (a < b) ⊎ (b ≤ a)
+pub below_or_not : (a b : ℕ) → (a < b) ⊎ (b ≤ a)
 below_or_not a zero = inr (omega arith)
 below_or_not zero (suc b) = inl (omega arith)
 below_or_not (suc a) (suc b) = elim (below_or_not a b) [ inl below ↦ inl (omega (arith, below)) | inr not ↦ inr (omega (arith, not)) ]
@@ -213,106 +213,6 @@ module _ (w : World) (class key : ℕ) where
       ordered = next_ordered;
       is_several = several_same n several not_several s.is_several;
     }
-
--- a class that selects a method, or has several, is one
-within_classes : (w : World) (receiver : ℕ) → IsInstantiableAt w receiver → receiver < length w.classes
-within_classes w receiver at = slice_get-below w.classes receiver at.class at.there
-
--- the classes of a list, before index `at`, are those of the first n that are below the class
-pub record AreLookedAt (w : World) (class key : ℕ) (below : List ℕ) (at : ℕ) (rows : List ℕ) (several : Bool) : Type 0 where
-  pub n : ℕ
-  pub before : (j receiver : ℕ) → j < at → slice_get below j ≡ Some receiver → receiver < n
-  pub after : (j receiver : ℕ) → at ≤ j → slice_get below j ≡ Some receiver → n ≤ receiver
-  pub selected : AreSelectedBy w class key n rows several
-
-pub looked_at_none : (w : World) (class key : ℕ) (below : List ℕ) → AreLookedAt w class key below 0 [] false
-looked_at_none w class key below = record {
-  n = 0;
-  before = λ j receiver lt. absurd (omega (arith, lt));
-  after = λ j receiver le e. omega arith;
-  selected = selected_none w class key;
-}
-
-module _ (w : World) (class key : ℕ) (below : List ℕ) (each : (receiver : ℕ) → Contains below receiver ↔ Sub w.rows receiver class)
-    (ascending : AllPairs (λ a b. a < b) below) where
-  -- where a class below the class stands in the list
-  place_of : (receiver : ℕ) → Sub w.rows receiver class → (j : ℕ) × (slice_get below j ≡ Some receiver)
-  place_of receiver s = let m = (each receiver).1 s in (m.0, slice_get-get_or below m.0 receiver m.1 ∙ ap Some m.2)
-
-  later : (i j a b : ℕ) → i < j → slice_get below i ≡ Some a → slice_get below j ≡ Some b → a < b
-  later i j a b lt first second =
-      omega (arith, ascending i j 0 lt (slice_get_within below j b second), get_or_from_slice_get below i a 0 first, get_or_from_slice_get below j b 0 second)
-
-  -- the classes between two of the list select no method, since they aren't below the class
-  selected_up_to : (n m : ℕ) (rows : List ℕ) (several : Bool) → n ≤ m → ((receiver : ℕ) → n ≤ receiver → receiver < m → Sub w.rows receiver class → ⊥)
-      → AreSelectedBy w class key n rows several → AreSelectedBy w class key m rows several
-  selected_up_to n m rows several le none s = record {
-    each = λ row. (
-      (λ h. let p = (s.each row).0 h in (p.0, omega (arith, p.1, le), p.2)),
-      (λ p. (s.each row).1 (p.0, earlier p.0 p.1 p.2.below, p.2)),
-    );
-    apart = s.apart;
-    ordered = s.ordered;
-    is_several = (
-      (λ e. let p = s.is_several.0 e in (p.0, omega (arith, p.1, le), p.2)),
-      (λ p. s.is_several.1 (p.0, earlier p.0 p.1 p.2.below, p.2)),
-    );
-  }
-    where
-      earlier : (receiver : ℕ) → receiver < m → Sub w.rows receiver class → receiver < n
-      earlier receiver lt sub = elim (below_or_not receiver n) [ inl less ↦ less | inr not ↦ absurd (none receiver not lt sub) ]
-
-  module _ (at receiver : ℕ) (there : slice_get below at ≡ Some receiver) (rows : List ℕ) (several : Bool) (s : AreLookedAt w class key below at rows several) where
-    -- the classes before the next one of the list
-    pub selected_before : AreSelectedBy w class key receiver rows several
-    selected_before = selected_up_to s.n receiver rows several (s.after at receiver (omega arith) there) none s.selected
-      where
-        none : (other : ℕ) → s.n ≤ other → other < receiver → Sub w.rows other class → ⊥
-        none other le lt sub =
-            let p = place_of other sub in
-            elim (below_or_not p.0 at) [
-              | inl earlier ↦ omega (arith, le, s.before p.0 other earlier p.1)
-              | inr not ↦ elim (eq-or-lt_of_le not) [
-                | inl same ↦ (let e : other ≡ receiver = some_one other receiver (sym p.1 ∙ ap (slice_get below) (sym same) ∙ there) in omega (arith, e, lt))
-                | inr past ↦ omega (arith, lt, later at p.0 receiver other past there p.1)
-              ]
-            ]
-
-    -- and that one
-    pub looked_at_next : (new : List ℕ) (now : Bool) → AreSelectedBy w class key (receiver + 1) new now → AreLookedAt w class key below (at + 1) new now
-    looked_at_next new now selected = record {
-      n = receiver + 1;
-      before = λ j other lt e. elim (at_most at j lt) [
-        | inl same ↦ (let e2 : other ≡ receiver = some_one other receiver (sym e ∙ ap (slice_get below) same ∙ there) in omega (arith, e2))
-        | inr less ↦ omega (arith, later j at other receiver less e there)
-      ];
-      after = λ j other le e. omega (arith, later at j receiver other (omega (arith, le)) there e);
-      selected = selected;
-    }
-
-  -- those of the whole list
-  pub looked_at_all : (at : ℕ) (rows : List ℕ) (several : Bool) → length below ≤ at → AreLookedAt w class key below at rows several
-      → (n : ℕ) × ((receiver : ℕ) → Sub w.rows receiver class → receiver < n) × AreSelectedBy w class key n rows several
-  looked_at_all at rows several over s =
-      (s.n, (λ receiver sub. let p = place_of receiver sub in s.before p.0 receiver (omega (arith, over, slice_get_within below p.0 receiver p.1)) p.1), s.selected)
-
--- all classes that are below the class
-pub found_of_all : (w : World) (class key n : ℕ) (keys : List ℕ) (several : Bool) (found : Found) → ((receiver : ℕ) → Sub w.rows receiver class → receiver < n)
-    → AreSelectedBy w class key n keys several → found.rows.items ≡ keys → found.several ≡ several → IsFound w Virtual class key found
-found_of_all w class key n keys several found all s is same = record {
-  targets = subst (AreTargetRows w Virtual class key) (sym is) (record {
-    each = λ row. (
-      (λ h. let p = (s.each row).0 h in (p.0, p.2)),
-      (λ p. (s.each row).1 (p.0, all p.0 p.1.below, p.1)),
-    );
-    apart = s.apart;
-    ordered = s.ordered;
-  });
-  is_several = subst (λ b. IsTrue b ↔ FindsSeveral w Virtual class key) (sym same) (
-    (λ e. let p = s.is_several.0 e in (p.0, p.2)),
-    (λ p. s.is_several.1 (p.0, all p.0 p.1.below, p.1)),
-  );
-}
 
 -- a call on an object by either mode runs the same
 of_objects : (w : World) (class key : ℕ) (found : Found) → IsFound w Virtual class key found → IsFound w Interface class key found

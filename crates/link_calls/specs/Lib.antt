@@ -1,2 +1,3 @@
 pub mod Known
 pub mod Selected
+pub mod Receivers

@@ -4,11 +4,14 @@ ghost use Rattle.jim_ast.specs.declared.syntax.Mode.{Mode as AMode};
 ghost use Rattle.jim_ast.specs.declared.syntax.Mode.TheVariants.{Special, Static, Virtual};
 ghost use Rattle.link_rules.specs.World.{World as AWorld};
 ghost use Rattle.link_calls.specs.Known.{HasAtMost, IsFound};
+ghost use Rattle.link_calls.specs.Receivers.{ArePartsOf, AreReceivers};
 
-use super::selection::{Selection, select, selected};
+use super::receivers::{Receivers, selected};
+use super::selection::{Selection, select};
 use indexmap::IndexSet;
 use link_classes::Classes;
 use lists::NoMemory;
+use object_ranges::Part;
 use std::alloc::Global;
 
 /// The rows of the methods that a call may run, each once, in the order of the classes that select them first; and whether a class on which the
@@ -73,21 +76,27 @@ pub(crate) fn by_name(
     }
 }
 
-// What a call on an object runs: what the objects below the class select.
+// What a call on an object runs: what the objects below the class select. It takes time with the number of the classes to be looked at: where no interface
+// has a method of the key, these are at most some two for each row that is found and for each span of places of the classes below.
 pub(crate) fn by_objects(
     alloc: Global,
     classes: &Classes,
+    receivers: &Receivers,
+    parts: &[Part],
     class: u32,
     key: u32,
 ) -> Result<Found, NoMemory>
-    requires { class < length classes.now.world.classes }
+    requires class { class < length classes.now.world.classes }
+    requires receivers { AreReceivers classes.now.world receivers.now }
+    requires parts { ArePartsOf receivers.now key parts.now }
     ensures { IfOk result (IsFound classes.now.world Virtual class key) }
 {
-    let below = classes.tree().below(alloc, class)?;
+    let all = classes.tree().in_interfaces(key);
+    let choices = receivers.chosen(alloc, parts, all, class)?;
     let mut rows = IndexSet::new(alloc);
     let mut several = false;
-    for receiver in below.as_slice() {
-        match selected(classes, key, *receiver) {
+    for choice in choices.as_slice() {
+        match selected(classes, key, *choice) {
             Selection::Method(row) => {
                 rows.insert(row)?;
             }

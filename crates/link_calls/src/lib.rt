@@ -3,6 +3,7 @@
 
 mod fields;
 mod finding;
+mod receivers;
 mod selection;
 mod targets;
 

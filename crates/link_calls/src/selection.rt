@@ -1,7 +1,6 @@
 //! The method that an object of one class runs.
-ghost use Rattle.std.specs.Prelude.{◌<◌, ℕ, length};
-ghost use Rattle.class_tree.specs.Rows.{Sub};
-ghost use Rattle.link_calls.specs.Selected.{IsSelected, IsSelection};
+ghost use Rattle.std.specs.Prelude.{◌<◌, length};
+ghost use Rattle.link_calls.specs.Selected.{IsSelection};
 
 use class_tree::Defaults;
 use link_classes::Classes;
@@ -30,15 +29,4 @@ pub(crate) fn select(classes: &Classes, class: u32, key: u32) -> Selection
         Defaults::One(row) => Selection::Method(row),
         Defaults::Several => Selection::Several,
     }
-}
-
-// What an object of the class `receiver` selects, where it may have objects: in a call on any class that it is below.
-pub(crate) fn selected(classes: &Classes, key: u32, receiver: u32) -> Selection
-    requires { receiver < length classes.now.world.classes }
-    ensures { (class : ℕ) → Sub classes.now.world.rows receiver class → IsSelected classes.now.world class key receiver result }
-{
-    if classes.is_instantiable(receiver) {
-        return select(classes, receiver, key);
-    }
-    Selection::Nothing
 }

@@ -3,13 +3,17 @@ ghost use Rattle.std.specs.Prelude.{◌≡◌, ◌<◌, All, IfOk, IfSome, lengt
 ghost use Rattle.link_rules.specs.Targets.{AreTargetRows};
 ghost use Rattle.jim_ast.specs.declared.syntax.Mode.TheVariants.{Virtual};
 ghost use Rattle.link_calls.specs.Known.{AreKnown, IsFound};
+ghost use Rattle.link_calls.specs.Receivers.{AreKnownParts, ArePartsOf};
+ghost use Rattle.link_calls.specs.declared.receivers.Receivers.{Receivers as SomeReceivers};
 ghost use Rattle.link_rules.specs.World.{AreRows, World as AWorld};
 ghost use Rattle.link_rules.specs.Classes.{methods_of};
 
 use super::finding::{Found, by_name, by_objects, by_path};
+use super::receivers::Receivers;
 use jim_ast::Mode;
 use link_classes::Classes;
 use lists::NoMemory;
+use object_ranges::Part;
 use std::alloc::Global;
 use std::collections::HashMap;
 use std::marker::Model;
@@ -53,24 +57,62 @@ impl Known {
     }
 }
 
+/// The parts of the keys that calls on objects name.
+#[derive(Drop)]
+struct PartTable {
+    parts: HashMap<u32, Vec<Part>>,
+}
+
+impl PartTable {
+    // No key has been named.
+    fn new(alloc: Global) -> Self
+        ensures { (r : SomeReceivers) → AreKnownParts r result }
+    {
+        PartTable {
+            parts: HashMap::new(alloc),
+        }
+    }
+
+    // The parts of the key, where they are known.
+    fn get(&self, key: u32) -> Option<&[Part]>
+        ensures { (r : SomeReceivers) → AreKnownParts r self.now → IfSome result (λ parts. ArePartsOf r key parts.now) }
+    {
+        match self.parts.get(&key) {
+            Some(parts) => Some(parts.as_slice()),
+            None => None,
+        }
+    }
+
+    // Keeps the parts of the key.
+    fn put(&mut self, key: u32, parts: Vec<Part>) -> Result<(), NoMemory>
+        ensures { (r : SomeReceivers) → AreKnownParts r self.old → ArePartsOf r key parts.items → AreKnownParts r self.new }
+    {
+        self.parts.insert(key, parts)?;
+        Ok(())
+    }
+}
+
 /// The methods that calls may run, by class and key: what calls on objects may run is worked out once for each pair. Contracts see what is
 /// linked.
 #[derive(Drop)]
 pub struct Targets<'a> {
     alloc: Global,
     classes: &'a Classes<'a>,
+    receivers: Receivers<'a>,
+    parts: PartTable,
     known: Known,
 }
 
 impl<'a> Model for Targets<'a> {
     ghost use Rattle.link_classes.specs.Classes.{ClassTable};
     ghost use Rattle.link_calls.specs.Known.{AreKnown};
+    ghost use Rattle.link_calls.specs.Receivers.{AreKnownParts, AreReceivers};
 
     ghost Value = { ClassTable };
 
     ghost view = { λ t. t.classes.now };
 
-    ghost invariant = { λ t. AreKnown t.classes.now.world t.known };
+    ghost invariant = { λ t. AreReceivers t.classes.now.world t.receivers × AreKnownParts t.receivers t.parts × AreKnown t.classes.now.world t.known };
 }
 
 // The rows are those of the classes.
@@ -81,15 +123,18 @@ fn tell_rows(classes: &Classes)
 }
 
 impl<'a> Targets<'a> {
-    /// No call is worked out yet. It takes no memory.
-    pub fn new(alloc: Global, classes: &'a Classes<'a>) -> Self
-        ensures { result ≡ classes.now }
+    /// No call is worked out yet. It takes time and memory in the number of the classes.
+    pub fn new(alloc: Global, classes: &'a Classes<'a>) -> Result<Self, NoMemory>
+        ensures { IfOk result (λ targets. targets ≡ classes.now) }
     {
-        Targets {
+        let receivers = Receivers::new(alloc, classes)?;
+        Ok(Targets {
             alloc,
             classes,
+            receivers,
+            parts: PartTable::new(alloc),
             known: Known::new(alloc),
-        }
+        })
     }
 
     /// The classes.
@@ -97,6 +142,29 @@ impl<'a> Targets<'a> {
         ensures { result.now ≡ self.now }
     {
         self.classes
+    }
+
+    // What a call on an object runs, where it isn't known.
+    fn worked_out(&mut self, class: u32, key: u32) -> Result<Found, NoMemory>
+        requires { class < length self.old.world.classes }
+        ensures found { IfOk result (IsFound self.old.world Virtual class key) }
+        ensures same { self.new ≡ self.old }
+    {
+        let (alloc, classes) = (self.alloc, self.classes);
+        if let Some(parts) = self.parts.get(key) {
+            return by_objects(alloc, classes, &self.receivers, parts, class, key);
+        }
+        let parts = self.receivers.parts(alloc, key)?;
+        let found = by_objects(
+            alloc,
+            classes,
+            &self.receivers,
+            parts.as_slice(),
+            class,
+            key,
+        )?;
+        self.parts.put(key, parts)?;
+        Ok(found)
     }
 
     // What a call on an object runs.
@@ -108,7 +176,7 @@ impl<'a> Targets<'a> {
         if let Some(found) = self.known.get(class, key) {
             return found.copy();
         }
-        let found = by_objects(self.alloc, self.classes, class, key)?;
+        let found = self.worked_out(class, key)?;
         let copy = found.copy()?;
         self.known.put(class, key, found)?;
         Ok(copy)

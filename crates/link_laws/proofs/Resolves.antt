@@ -5,7 +5,7 @@ use Rattle.std.proofs.lemmas.Bool.{cases_order}
 use Rattle.std.proofs.lemmas.Map.Keys.{IsDistinct-cons}
 use Rattle.std.proofs.lemmas.Map.Steps.{length-le_from_distinct_below}
 use Rattle.class_tree.specs.Lookups.{OnPath, Resolve, ambiguous, by_default, ended, found, further, nowhere, on_path, own_body}
-use Rattle.class_tree.specs.Paths.{ProperPath, here, step}
+use Rattle.class_order.specs.Paths.{ProperPath, here, step}
 use Rattle.class_tree.specs.Rows.{HasParent, IsOwnAncestor, NamesUnknown, Rows, Step}
 use Rattle.class_tree.specs.declared.rows.ClassRow.{ClassRow}
 use Rattle.class_tree.proofs.Decided.{only_or_other, some_default_decided}

@@ -10,7 +10,7 @@ use Rattle.spds_rules.specs.Systems.{Meets}
 use Rattle.spds_laws.proofs.Within.{fields_site}
 use Rattle.demand_set.specs.Demands.{DemandParts, IsDemandOf}
 use Rattle.path_query.specs.Numbers.{AreNumbersOf, IsAmong}
-use Rattle.path_query.specs.Paths.{IsAtEnd, IsAtPath, IsBehind}
+use Rattle.path_query.specs.Paths.{IsAtPath, IsBehind, IsBehindAll}
 use Rattle.path_query.proofs.Numbering.{numbers_as}
 
 module _ (p : LinkedProgram) (q : Asked) where
@@ -23,12 +23,12 @@ module _ (p : LinkedProgram) (q : Asked) where
   behind_as P Q to field o h = record { base = h.base; from = to h.base h.from; store = h.store; of_field = h.of_field; hops = h.hops }
 
   -- the end of one field more is behind the end of those before it
-  pub at_end_last : (P : Site → Type 0) (word : List ℕ) (field : ℕ) (o : Site) → IsAtEnd p q P (word ++ field ∷ []) o ↔ IsBehind p q (IsAtEnd p q P word) field o
+  pub at_end_last : (P : Site → Type 0) (word : List ℕ) (field : ℕ) (o : Site) → IsBehindAll p q P (word ++ field ∷ []) o ↔ IsBehind p q (IsBehindAll p q P word) field o
   at_end_last P [] field o = ((λ h. h), (λ h. h))
   at_end_last P (first ∷ word) field o = at_end_last (IsBehind p q P first) word field o
 
   -- what is at an end is a site of the demand
-  at_end_site : (P : Site → Type 0) → ((o : Site) → P o → SiteIn p q o) → (word : List ℕ) (o : Site) → IsAtEnd p q P word o → SiteIn p q o
+  at_end_site : (P : Site → Type 0) → ((o : Site) → P o → SiteIn p q o) → (word : List ℕ) (o : Site) → IsBehindAll p q P word o → SiteIn p q o
   at_end_site P to [] o h = to o h
   at_end_site P to (first ∷ word) o h = at_end_site (IsBehind p q P first) (λ x b. answered_site b.store.arg x b.hops.arg) word o h
 

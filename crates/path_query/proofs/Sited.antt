@@ -11,14 +11,14 @@ use Rattle.spds_rules.specs.Demand.{Asked}
 use Rattle.spds_rules.specs.Systems.{Meets}
 use Rattle.spds_laws.proofs.Within.{fields_site}
 use Rattle.demand_set.proofs.Standing.{node_site}
-use Rattle.path_query.specs.Paths.{IsAtEnd, IsBehind, IsPathAnswer}
+use Rattle.path_query.specs.Paths.{IsBehind, IsBehindAll, IsPathAnswer}
 
 module _ (p : LinkedProgram) (q : Asked) where
   -- the site may be at some node
   abbrev IsSomewhere : Site → Type 0
   IsSomewhere o = (m : Node) × IsAnswered p q m o
 
-  end_somewhere : (P : Site → Type 0) → ((o : Site) → P o → IsSomewhere o) → (fields : List ℕ) (o : Site) → IsAtEnd p q P fields o → IsSomewhere o
+  end_somewhere : (P : Site → Type 0) → ((o : Site) → P o → IsSomewhere o) → (fields : List ℕ) (o : Site) → IsBehindAll p q P fields o → IsSomewhere o
   end_somewhere P by [] o h = by o h
   end_somewhere P by (field ∷ rest) o h = end_somewhere (IsBehind p q P field) (λ o behind. (behind.store.arg, behind.hops.arg)) rest o h
 

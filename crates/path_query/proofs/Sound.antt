@@ -19,7 +19,7 @@ use Rattle.run_sound.specs.Frames.{node_of, string_of}
 use Rattle.run_sound.proofs.Invariant.{IsObject, IsStored, sites_of}
 use Rattle.run_sound.proofs.Simulating.{kept_run, tracked_at}
 use Rattle.run_sound.proofs.Words.{led_written, object_there}
-use Rattle.path_query.specs.Paths.{AsksPath, IsAtEnd, IsAtPath, IsBehind, IsPathAnswer, LeadsAllRuns}
+use Rattle.path_query.specs.Paths.{AsksPath, IsAtPath, IsBehind, IsBehindAll, IsPathAnswer, LeadsAllRuns}
 use Rattle.path_query.proofs.Asking.{end_demanded, node_demanded}
 
 module _ (p : LinkedProgram) (n : Node) (fields : List ℕ) (q : Asked) (asks : AsksPath p n fields q) where
@@ -57,7 +57,7 @@ module _ (p : LinkedProgram) (n : Node) (fields : List ℕ) (q : Asked) (asks : 
   led : (heap : List HeapObject) (objects : (x : ℕ) (object : HeapObject) → slice_get heap x ≡ Some object → IsObject p q (sites_of heap) object)
       → {x o : ℕ} {word : List ℕ} → Follows heap x word o
       → (P : Site → Type 0) (object : HeapObject) → slice_get heap x ≡ Some object → P object.site → ((field : ℕ) → Has word field → Has fields field)
-      → (end : HeapObject) × (slice_get heap o ≡ Some end) × IsAtEnd p q P word end.site
+      → (end : HeapObject) × (slice_get heap o ≡ Some end) × IsBehindAll p q P word end.site
   led heap objects here = λ P object there holds among. (object, there, holds)
   led heap objects (through {o} {field} {next} {last} {word} {object = owner} at leads rest) = λ P object there holds among.
       let same : object ≡ owner = cc in

@@ -53,13 +53,13 @@ pub record IsBehind (p : LinkedProgram) (q : Asked) (P : Site → Type 0) (field
   pub hops : Hops p q o base store
 
 -- it is at the end of the fields, one after the other, from a site with the fact
-abbrev pub IsAtEnd : LinkedProgram → Asked → (Site → Type 0) → List ℕ → Site → Type 0
-IsAtEnd p q P [] o = P o
-IsAtEnd p q P (field ∷ rest) o = IsAtEnd p q (IsBehind p q P field) rest o
+abbrev pub IsBehindAll : LinkedProgram → Asked → (Site → Type 0) → List ℕ → Site → Type 0
+IsBehindAll p q P [] o = P o
+IsBehindAll p q P (field ∷ rest) o = IsBehindAll p q (IsBehind p q P field) rest o
 
 -- it is at the end of the fields from a site that the node may hold
 abbrev pub IsAtPath : LinkedProgram → Asked → Node → List ℕ → Site → Type 0
-IsAtPath p q n fields = IsAtEnd p q (IsAnswered p q n) fields
+IsAtPath p q n fields = IsBehindAll p q (IsAnswered p q n) fields
 
 -- the sites at the end of a path, in the order in which they are printed, and how many nodes its query demands
 pub record IsPathAnswer (p : LinkedProgram) (n : Node) (fields : List ℕ) (sites : List Site) (demanded : ℕ) : Type 0 where

@@ -1,8 +1,8 @@
 //! Where texts are refused that are no programs.
-ghost use Rattle.std.specs.Prelude.{◌^◌, ◌<◌, length};
+ghost use Rattle.std.specs.Prelude.{◌^◌, ◌<◌, ◌≤◌, length};
 ghost use Rattle.jim_text.specs.Lexes.{Lexes};
 
-use jim_parse::{ParseError, parse};
+use jim_parse::{ParseError, ReadError, parse, read};
 use jim_text::{Token, lex};
 use lists::NoMemory;
 use std::alloc::Global;
@@ -14,9 +14,25 @@ fn place(alloc: Global, text: &str) -> i64 {
     if bytes.len() > 16_777_216 {
         return -2;
     }
-    match lex(alloc, bytes) {
+    let place = match lex(alloc, bytes) {
         Ok(tokens) => place_of(alloc, bytes, &tokens),
         Err(_) => -3,
+    };
+    if place_read(alloc, bytes) != place {
+        return -5;
+    }
+    place
+}
+
+// The same where the text is read in one pass.
+fn place_read(alloc: Global, bytes: &[u8]) -> i64
+    requires { length bytes.now ≤ 16777216 }
+{
+    match read(alloc, bytes) {
+        Ok(_) => -1,
+        Err(ReadError::NotJimple { at }) => i64::from(at),
+        Err(ReadError::BadText { at: _ }) => -3,
+        Err(ReadError::NoMemory) => -4,
     }
 }
 
@@ -60,8 +76,9 @@ fn first_misplaced_body(
     Ok(None)
 }
 
-const CLASSES: [(&str, i64); 12] = [
+const CLASSES: [(&str, i64); 13] = [
     ("", -1),
+    ("class A { \\ }", -3),
     ("class A { }", -1),
     (
         "public final interface 'A' extends B implements C, D { }",

@@ -1,6 +1,6 @@
 //! The classes of tokens, and the numbers of what they name.
 use jim_ast::NameId;
-use jim_signs::{Signs, signs};
+use jim_signs::{Signs, read_signs, signs};
 use jim_text::lex;
 use lists::NoMemory;
 use std::alloc::Global;
@@ -28,17 +28,27 @@ fn signs_of(alloc: Global, bytes: &[u8]) -> Option<Signs> {
     signs(alloc, bytes, &tokens).ok()
 }
 
-fn put_text(alloc: Global, text: &mut String, bytes: &[u8]) -> Result<(), NoMemory> {
-    match signs_of(alloc, bytes) {
-        Some(found) => put_signs(text, &found),
-        None => text.push_str("no tokens"),
+// The same where the text is read in one pass.
+fn signs_read(alloc: Global, bytes: &[u8]) -> Option<Signs> {
+    if bytes.len() > 16777216 {
+        return None;
     }
+    read_signs(alloc, bytes).ok()
+}
+
+fn are(alloc: Global, found: Option<Signs>, wanted: &str) -> Result<bool, NoMemory> {
+    let mut text = String::new(alloc);
+    match found {
+        Some(found) => put_signs(&mut text, &found)?,
+        None => text.push_str("no tokens")?,
+    }
+    Ok(text.as_str() == wanted)
 }
 
 fn is_shown(alloc: Global, bytes: &[u8], wanted: &str) -> Result<bool, NoMemory> {
-    let mut text = String::new(alloc);
-    put_text(alloc, &mut text, bytes)?;
-    Ok(text.as_str() == wanted)
+    let of_tokens = are(alloc, signs_of(alloc, bytes), wanted)?;
+    let read = are(alloc, signs_read(alloc, bytes), wanted)?;
+    Ok(of_tokens && read)
 }
 
 // The first text whose signs aren't those that stand beside it.

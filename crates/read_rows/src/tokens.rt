@@ -1,6 +1,7 @@
 //! The tokens of texts, or where no token begins.
 use jim_text::{
-    Kind, LexError, NoMemory, Token, contents, has_one_list, has_quote, lex, spells_alone,
+    Ahead, Kind, Lead, LexError, Lexeme, NoMemory, Token, contents, has_one_list, has_quote, lex,
+    next_token, spells_alone,
 };
 use std::alloc::{AllocError, Global};
 use std::test::Fail;
@@ -318,6 +319,23 @@ const CHARACTERS: [(&[u8], &str); 14] = [
 #[test]
 fn characters(rt: HostRuntime) -> Result<(), Fail> {
     assert_eq!(rt; first_wrong(rt.alloc(), &CHARACTERS)?, None);
+    Ok(())
+}
+
+#[test]
+fn one_by_one(rt: HostRuntime) -> Result<(), Fail> {
+    let text = b"/**/ if x \\";
+    let word = Lexeme {
+        token: Token {
+            kind: Kind::Word,
+            from: 5,
+            to: 7,
+        },
+        lead: Lead::If,
+    };
+    assert_eq!(rt; next_token(text, 0), Ahead::Token(word));
+    assert_eq!(rt; next_token(text, 9), Ahead::Nothing { at: 10 });
+    assert_eq!(rt; next_token(text, 11), Ahead::End);
     Ok(())
 }
 

@@ -6,7 +6,7 @@ use Rattle.lists.proofs.Places.{slice_get-below, slice_get-there}
 use Rattle.link_rules.specs.Linked.{LinkedProgram}
 use Rattle.link_rules.specs.WellLinked.{HasTarget}
 use Rattle.lists.specs.Groups.{Grouped, found_at}
-use Rattle.site_events.specs.Callers.{AreCallers, AreMethods, IsCaller}
+use Rattle.site_events.specs.Callers.{AreCallers, AreMethodNumbers, IsCaller}
 use Rattle.site_events.specs.Loud.{IsLoud}
 use Rattle.site_events.specs.Loud as loud
 
@@ -17,7 +17,7 @@ past found number none = elim (cases_lt number (length found)) [
   | inr all ↦ omega (arith, all)
 ]
 
-module _ (p : LinkedProgram) (callers : Grouped ℕ ℕ) (told : List ℕ) (calling : AreCallers p callers) (methods : AreMethods p told) where
+module _ (p : LinkedProgram) (callers : Grouped ℕ ℕ) (told : List ℕ) (calling : AreCallers p callers) (methods : AreMethodNumbers p told) where
   -- the told methods are found, each that is found is loud, and the callers of the first ones are found
   pub record IsSearched (done : ℕ) (found : List ℕ) : Type 0 where
     pub begun : (m : ℕ) → Has told m → Has found m

@@ -14,5 +14,5 @@ abbrev pub AreCallers : LinkedProgram → Grouped ℕ ℕ → Type 0
 AreCallers p callers = (target method : ℕ) → target < length p.methods → Has (found_at eqb callers target) method ↔ IsCaller p target method
 
 -- methods of the program
-abbrev pub AreMethods : LinkedProgram → List ℕ → Type 0
-AreMethods p methods = (method : ℕ) → Has methods method → method < length p.methods
+abbrev pub AreMethodNumbers : LinkedProgram → List ℕ → Type 0
+AreMethodNumbers p methods = (method : ℕ) → Has methods method → method < length p.methods

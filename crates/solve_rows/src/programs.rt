@@ -1,40 +1,5 @@
 //! The texts of the programs. Before each stand the numbers of its methods; the root is the last one.
 
-/// 0 `set`, 1 `get`, 2 `main`.
-pub const TWO_BOXES: &str = "class A { }
-class B { }
-class Box {
-java.lang.Object v;
-void set(java.lang.Object) {
-Box r; java.lang.Object p;
-r := @this: Box;
-p := @parameter0: java.lang.Object;
-r.<Box: java.lang.Object v> = p;
-return;
-}
-java.lang.Object get() {
-Box r; java.lang.Object q;
-r := @this: Box;
-q = r.<Box: java.lang.Object v>;
-return q;
-}
-}
-class Main {
-static void main(java.lang.String[]) {
-Box a, b; java.lang.Object o, p, x, y;
-a = new Box;
-b = new Box;
-o = new A;
-p = new B;
-virtualinvoke a.<Box: void set(java.lang.Object)>(o);
-virtualinvoke b.<Box: void set(java.lang.Object)>(p);
-x = virtualinvoke a.<Box: java.lang.Object get()>();
-y = virtualinvoke b.<Box: java.lang.Object get()>();
-return;
-}
-}
-";
-
 /// 0 `main`, which builds a list of three cells and reads it to its end.
 pub const THREE_CELLS: &str = "class N { N next; }
 class Main { static void main(java.lang.String[]) { N a, b, c, x, y, z; a = new N; b = new N; b.<N: N next> = a; c = new N; c.<N: N next> = b;

@@ -5,10 +5,11 @@ ghost use Rattle.link_rules.specs.WellLinked.{IsWellLinked};
 ghost use Rattle.spds_rules.specs.Demand.{Asked};
 ghost use Rattle.spds_rules.specs.Nodes.{IsNode};
 
-use super::programs::{COPIES, CROWDED, PASSED_ON, THREE_CELLS, TWO_BOXES};
+use super::programs::{COPIES, CROWDED, PASSED_ON, THREE_CELLS};
 use demand_set::{Demand, DemandError, Reach};
 use link_program::Linked;
 use link_sites::Site;
+use linked_text::programs::TWO_BOXES;
 use linked_text::spelled::{is_string, node, site};
 use linked_text::{Rows, first_wrong};
 use lists::NoMemory;

@@ -1,4 +1,4 @@
-use Rattle.class_tree.specs.Paths.{here}
+use Rattle.class_order.specs.Paths.{here}
 use Rattle.class_tree.proofs.LawFacts.{sub_transitive}
 use Rattle.class_tree.proofs.laws.sub_is_an_order.Goals as goal
 

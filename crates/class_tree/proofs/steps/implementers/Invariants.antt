@@ -1,5 +1,5 @@
 use Rattle.std.proofs.Common.{◌≡◌, ℕ, ◌↔◌, length, take, Contains}
-use Rattle.class_tree.specs.Tables.{Under}
+use Rattle.class_order.specs.Tables.{Under}
 use Rattle.class_tree.proofs.steps.implementers.Given as goal
 
 abbrev pub invariant-loop-class : goal.invariant-loop-class

@@ -1,6 +1,6 @@
 use Rattle.std.proofs.Common.{◌≡◌, ℕ, ◌<◌, ◌⊎◌, ◌↔◌, length}
 use Rattle.class_tree.specs.Rows.{HasInterface, HasParent}
-use Rattle.class_tree.specs.Tables.{Under}
+use Rattle.class_order.specs.Tables.{Under}
 use Rattle.class_tree.proofs.steps.steps_up.Given as goal
 
 abbrev pub invariant-loop-class : goal.invariant-loop-class

@@ -1,17 +1,21 @@
 use Rattle.std.proofs.Common.{◌≡◌, arith, subst}
 use Rattle.lists.specs.Lists.{IsLeast}
 use Rattle.class_tree.specs.Rows.{IsOwnAncestor}
-use Rattle.class_tree.proofs.Building.{step-below, proper_map, least_map}
-use Rattle.class_tree.specs.Tables.{IsOver, Under}
-use Rattle.class_tree.proofs.LookedAt.{depth_first_map, upper_known}
-use Rattle.class_tree.proofs.Searches.{bent}
+use Rattle.class_tree.proofs.Building.{step-below, least_map}
+use Rattle.class_order.proofs.Reached.{proper_map}
+use Rattle.class_order.specs.Tables.{IsOver, Under}
+use Rattle.class_order.proofs.LookedAt.{depth_first_map, upper_known}
+use Rattle.class_order.proofs.Searches.{bent}
 use Rattle.class_tree.proofs.tree.build.Goals as goal
 
 pub finish_order-requires-clause-below : goal.finish_order-requires-clause-below
 finish_order-requires-clause-below c = λ a b u. rw c.in_ok-below.ensures.len (step-below _ _ a b c.requires.named.implements ((c.in_ok-below.ensures.steps a b).0 u))
 
+pub steps_down-requires-clause-all : goal.steps_down-requires-clause-all
+steps_down-requires-clause-all c = λ a h. rw c.as_slice.ensures.value (c.in_ok-starts.ensures.all a h)
+
 pub finish_order-requires-clause-all : goal.finish_order-requires-clause-all
-finish_order-requires-clause-all c = λ a h. rw c.as_slice.ensures.value (c.in_ok-starts.ensures.all a (rw c.in_ok-below.ensures.len at h))
+finish_order-requires-clause-all c = λ a h. rw c.as_slice-2.ensures.value (c.in_ok-starts.ensures.all a (rw c.in_ok-below.ensures.len at h))
 
 pub least_cyclic-requires-clause-above : goal.least_cyclic-requires-clause-above
 least_cyclic-requires-clause-above c = λ a b u.

@@ -1,8 +1,10 @@
 use Rattle.std.proofs.Common.{◌≡◌, ℕ, ◌↔◌, List, length, subst, inl, inr, ◌<◌, ◌≤◌, ◌⊎◌, ◌∙◌, arith}
+use Rattle.std.proofs.lemmas.List.Elements.{Contains-get_or}
 use Rattle.class_tree.specs.declared.rows.ClassRow.{ClassRow}
 use Rattle.class_tree.specs.Rows.{rows_of, HasInterface, HasParent, IsOwnAncestor, NamesUnknown, Step}
-use Rattle.class_tree.specs.Tables.{ArePlaces, IsReach, Under}
-use Rattle.class_tree.proofs.Building.{proper_map, step-below, interfaces_known, reach_map, acyclic_from_places, tells_declared, tells_near}
+use Rattle.class_order.specs.Tables.{ArePlaces, IsReach, Under}
+use Rattle.class_tree.proofs.Building.{step-below, interfaces_known, reach_map, acyclic_from_places, tells_declared, tells_near}
+use Rattle.class_order.proofs.Reached.{proper_map}
 use Rattle.class_tree.proofs.Held.{tells_holders}
 use Rattle.class_tree.proofs.tree.indexed.Goals as goal
 
@@ -21,13 +23,19 @@ near_spans-requires-clause-interface c = rw c.requires.len (interfaces_known c.a
 pub near_spans-requires-clause-below : goal.near_spans-requires-clause-below
 near_spans-requires-clause-below c = λ a b m. (c.requires.steps a b).1 (inr m)
 
-pub new-requires-clause-len : goal.new-requires-clause-len
-new-requires-clause-len c = c.in_ok-reach.ensures.len ∙ c.requires.len
+pub reach_spans-requires-clause-places : goal.reach_spans-requires-clause-places
+reach_spans-requires-clause-places c = rw (c.requires.len, c.as_slice-places.ensures.value) c.in_ok-numbering.ensures.own
 
-pub new-requires-clause-fields : goal.new-requires-clause-fields
-new-requires-clause-fields c = let len : length c.in_ok-near.near ≡ length c.args.classes.now = c.in_ok-near.ensures.len ∙ c.requires.len in rw len c.requires.named.fields
+pub near_spans-requires-clause-places : goal.near_spans-requires-clause-places
+near_spans-requires-clause-places c = rw (c.requires.len, c.as_slice-places.ensures.value) c.in_ok-numbering.ensures.own
 
--- no class is its own ancestor, since places fall
+pub new-requires-2-clause-len : goal.new-requires-2-clause-len
+new-requires-2-clause-len c = c.in_ok-reach.ensures.len ∙ c.requires.len
+
+pub new-requires-2-clause-fields : goal.new-requires-2-clause-fields
+new-requires-2-clause-fields c = let len : length c.in_ok-near.near ≡ length c.args.classes.now = c.in_ok-near.ensures.len ∙ c.requires.len in rw len c.requires.named.fields
+
+-- no class is its own ancestor, since ranks fall
 acyclic : (classes : List ClassRow) (implements : List (ℕ × ℕ)) (below : List (List ℕ)) (places : List ℕ) → ((a b : ℕ) → Under below a b ↔ Step classes implements a b) → ArePlaces below places
     → (a : ℕ) → IsOwnAncestor classes implements a → ⊥
 acyclic classes implements below places steps p = acyclic_from_places (Step classes implements) places (λ a b s. p.falls a b ((steps a b).1 s))
@@ -38,31 +46,36 @@ parents_known classes implements known a b named = elim (below_or b (length clas
     below_or : (a b : ℕ) → (a < b) ⊎ (b ≤ a)
     below_or a b = grind arith
 
-pub new-requires-2-clause-known : goal.new-requires-2-clause-known
-new-requires-2-clause-known c = parents_known c.args.classes.now c.args.implements.now c.requires.known
+pub new-requires-clause-known : goal.new-requires-clause-known
+new-requires-clause-known c = parents_known c.args.classes.now c.args.implements.now c.requires.known
 
-pub new-requires-2-clause-acyclic : goal.new-requires-2-clause-acyclic
-new-requires-2-clause-acyclic c = λ a p. acyclic _ _ _ _ c.requires.steps c.in_ok-places.ensures.places a
+pub new-requires-clause-acyclic : goal.new-requires-clause-acyclic
+new-requires-clause-acyclic c = λ a p. acyclic _ _ _ _ c.requires.steps c.in_ok-ranks.ensures.places a
     (proper_map (HasParent c.args.classes.now) (Step c.args.classes.now c.args.implements.now) (λ x y named. inl named) a a p)
 
-pub new-requires-2-clause-bodies : goal.new-requires-2-clause-bodies
-new-requires-2-clause-bodies c = c.in_ok-members.ensures.bodies
+pub new-requires-clause-within : goal.new-requires-clause-within
+new-requires-clause-within c = λ k d h. rw (← c.requires.len) (c.requires.order.settled.within _ (Contains-get_or c.args.order.now k d h))
 
-pub new-requires-2-clause-own_fields : goal.new-requires-2-clause-own_fields
-new-requires-2-clause-own_fields c = c.in_ok-members.ensures.own_fields
+pub new-requires-clause-all : goal.new-requires-clause-all
+new-requires-clause-all c = λ k h. c.requires.order.all k (rw c.requires.len h)
+
+pub new-requires-3-clause-bodies : goal.new-requires-3-clause-bodies
+new-requires-3-clause-bodies c = c.in_ok-members.ensures.bodies
+
+pub new-requires-3-clause-own_fields : goal.new-requires-3-clause-own_fields
+new-requires-3-clause-own_fields c = c.in_ok-members.ensures.own_fields
 
 pub invariant_of-result : goal.invariant_of-result
 invariant_of-result c =
-    let reached = reach_map (Under c.args.below) (Step c.args.classes.now c.args.implements.now) _ _ c.in_ok-places.places.items c.in_ok-reach.reach
-    (λ a b u. (c.requires.steps a b).0 u) (λ a b s. (c.requires.steps a b).1 s) c.requires.len (rw c.as_slice.ensures.value at c.in_ok-reach.ensures) in
-    let near = subst (λ n. IsReach (HasInterface c.args.implements.now) n c.in_ok-places.places.items c.in_ok-near.near) c.requires.len (rw c.as_slice-2.ensures.value at c.in_ok-near.ensures) in
+    let reached = reach_map (Under c.args.below.now) (Step c.args.classes.now c.args.implements.now) _ _ c.in_ok-numbering.numbering.numbers.items c.in_ok-reach.reach
+    (λ a b u. (c.requires.steps a b).0 u) (λ a b s. (c.requires.steps a b).1 s) c.requires.len (rw c.as_slice-places.ensures.value at c.in_ok-reach.ensures) in
+    let near = subst (λ n. IsReach (HasInterface c.args.implements.now) n c.in_ok-numbering.numbering.numbers.items c.in_ok-near.near) c.requires.len (rw c.as_slice-places.ensures.value at c.in_ok-near.ensures) in
     rw c.in_ok-rows.ensures (record {
       named = c.requires.named;
-      hierarchy = record { known = c.requires.known; acyclic = acyclic _ _ _ _ c.requires.steps c.in_ok-places.ensures.places };
-      placed = record { len = c.in_ok-places.ensures.places.len ∙ c.requires.len; falls = λ a b s. c.in_ok-places.ensures.places.falls a b ((c.requires.steps a b).1 s) };
+      hierarchy = record { known = c.requires.known; acyclic = acyclic _ _ _ _ c.requires.steps c.in_ok-ranks.ensures.places };
+      ranked = record { len = c.in_ok-ranks.ensures.places.len ∙ c.requires.len; falls = λ a b s. c.in_ok-ranks.ensures.places.falls a b ((c.requires.steps a b).1 s) };
+      placed = c.in_ok-numbering.ensures.own;
       few = c.requires.classes;
-      below_len = c.requires.len;
-      below_are = c.requires.steps;
       interfaces_len = c.in_ok-interfaces.ensures.len;
       interfaces_are = c.in_ok-interfaces.ensures.lists;
       reached = reached;
@@ -77,4 +90,4 @@ invariant_of-result c =
     })
 
 pub returns-clause-acyclic : goal.returns-clause-acyclic
-returns-clause-acyclic c = acyclic _ _ _ _ c.requires.steps c.in_ok-places.ensures.places
+returns-clause-acyclic c = acyclic _ _ _ _ c.requires.steps c.in_ok-ranks.ensures.places

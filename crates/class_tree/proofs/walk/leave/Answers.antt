@@ -1,7 +1,7 @@
 use Rattle.std.proofs.Common.{◌≡◌, ◌∙◌, List, None, ap, arith, get_or, refl, subst, sym}
 use Rattle.std.proofs.lemmas.List.{take_all}
 use Rattle.class_tree.specs.declared.own_rows.Own.{Own}
-use Rattle.class_tree.specs.Groups.{group}
+use Rattle.class_order.specs.Groups.{group}
 use Rattle.class_tree.specs.Turns.{HaveTurned, row_over, turned}
 use Rattle.class_tree.proofs.Turning.{row_read, turned_more_by, turned_none}
 use Rattle.class_tree.proofs.walk.leave.Goals as goal

@@ -1,5 +1,5 @@
 use Rattle.std.proofs.Common.{◌≡◌, take}
-use Rattle.class_tree.specs.Groups.{group}
+use Rattle.class_order.specs.Groups.{group}
 use Rattle.class_tree.specs.Turns.{HaveTurned, row_over}
 use Rattle.class_tree.proofs.walk.leave.Given as goal
 

@@ -1,7 +1,7 @@
 use Rattle.std.proofs.Common.{◌≡◌, ◌<◌, ℕ, arith, length, subst}
 use Rattle.std.specs.List.{Contains}
 use Rattle.class_tree.specs.declared.own_rows.Own.{Own}
-use Rattle.class_tree.specs.Groups.{group}
+use Rattle.class_order.specs.Groups.{group}
 use Rattle.class_tree.specs.Turns.{HaveTurned, IsBefore, row_over}
 use Rattle.class_tree.proofs.Walking.{if_some, ok_map, taken_up, tell_kept}
 use Rattle.class_tree.proofs.walk.take_up.Goals as goal

@@ -2,8 +2,11 @@ use Rattle.std.proofs.lemmas.Option.{slice_get-get_or}
 use Rattle.jim_signs.proofs.SignLemmas.{all_named, next_signs, token_begins}
 use Rattle.jim_signs.proofs.sign.signs.Goals as goal
 
-pub sign-requires : goal.sign-requires
-sign-requires c = token_begins c.requires c.loop-token.token-index _ (slice_get-get_or c.args.tokens.now c.loop-token.token-index _ c.loop-token-test.true)
+pub lead-requires : goal.lead-requires
+lead-requires c = token_begins c.requires c.loop-token.token-index _ (slice_get-get_or c.args.tokens.now c.loop-token.token-index _ c.loop-token-test.true)
+
+pub sign-requires-clause-begins : goal.sign-requires-clause-begins
+sign-requires-clause-begins c = token_begins c.requires c.loop-token.token-index _ (slice_get-get_or c.args.tokens.now c.loop-token.token-index _ c.loop-token-test.true)
 
 pub loop-token-preserved : goal.loop-token-preserved
 loop-token-preserved c =

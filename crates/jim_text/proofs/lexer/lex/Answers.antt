@@ -1,57 +1,41 @@
-use Rattle.std.proofs.Common.{◌≡◌, [], ◌∷◌, ◌++◌, length, rules, true≢false, append_assoc, refl, sym, ◌∙◌, arith, append-nil}
+use Rattle.std.proofs.Common.{◌≡◌, [], ◌∷◌, ◌++◌, length, rules, append_assoc, arith, append-nil}
 use Rattle.jim_text.specs.Lexes.{StopsAt, Lexes}
-use Rattle.jim_text.specs.Lexes.Reads.{ends, blank, comment, token}
 use Rattle.jim_text.proofs.ReadLemmas.{stop_no_list, read_spelled, read_order, order_few}
 use Rattle.jim_text.proofs.lexer.lex.Goals as goal
-use Rattle.jim_text.proofs.lexer.lex.Goals.{After-loop-at}
+use Rattle.jim_text.proofs.lexer.lex.Goals.{In-End}
 
-pub loop-at-preserved-then-is_blank : goal.loop-at-preserved-then-is_blank
-loop-at-preserved-then-is_blank c = record {
-  within = c.blanks_end-at.ensures.within;
-  read = λ to tokens more. c.loop-at.invariant.read to tokens (blank c.loop-at-test.true (sym c.is_blank.ensures ∙ c.if-is_blank.true) (c.blanks_end-at.ensures.read to tokens more));
-}
-
-pub loop-at-preserved-in-Some : goal.loop-at-preserved-in-Some
-loop-at-preserved-in-Some c = record {
-  within = c.in-Some.ensures.2;
-  read = λ to tokens more. c.loop-at.invariant.read to tokens (comment c.in-Some.ensures.0 more);
-}
-
-pub returns-in_default-token_at-clause-error : goal.returns-in_default-token_at-clause-error
-returns-in_default-token_at-clause-error c =
-    let stop : StopsAt c.args.bytes.now c.loop-at.at = record {
-      tokens = c.loop-at.tokens.items;
-      reached = rw append-nil at (c.loop-at.invariant.read c.loop-at.at [] (ends refl));
-      before = c.loop-at-test.true;
-      stuck = record {
-        blank = λ less b. true≢false (sym b ∙ sym c.is_blank.ensures ∙ c.if-is_blank.false);
-        comment = c.in_default.ensures;
-        token = c.in_default-token_at.ensures;
-      };
-    } in
-    (stop_no_list stop, stop)
-
-pub loop-at-preserved : goal.loop-at-preserved
-loop-at-preserved c =
-    let first = c.in-Some-token_at.token in
-    let pushed : c.push.new.self.items ≡ c.loop-at.tokens.items ++ (first ∷ []) = search rules in
+pub loop-lexeme-preserved : goal.loop-lexeme-preserved
+loop-lexeme-preserved c =
+    let first = c.in-Token.lexeme.token in
+    let next = c.in-Token.ensures.0 in
+    let pushed : c.push.new.self.items ≡ c.loop-lexeme.tokens.items ++ (first ∷ []) = search rules in
     record {
-      within = c.in-Some-token_at.ensures.1.begins.within;
-      read = λ to tokens more. rw (pushed, append_assoc) (c.loop-at.invariant.read to (first ∷ tokens) (token first c.in-Some-token_at.ensures.0 c.in-Some-token_at.ensures.1 more));
+      within = next.spelled.within;
+      read = λ to tokens more. rw (pushed, append_assoc) (c.loop-lexeme.invariant.read to (first ∷ tokens) (next.reads to tokens more));
     }
 
 -- all bytes are read
-whole : (c : After-loop-at) → Lexes c.args.bytes.now c.loop-at.tokens.items
-whole c = rw append-nil at (c.loop-at.invariant.read (length c.args.bytes.now) [] (ends (omega arith)))
+whole : (c : In-End) → Lexes c.args.bytes.now c.loop-lexeme.tokens.items
+whole c = rw append-nil at (c.loop-lexeme.invariant.read (length c.args.bytes.now) [] c.in-End.ensures)
 
-pub returns-clause-tokens : goal.returns-clause-tokens
-returns-clause-tokens c = whole c
+pub returns-in-End-clause-tokens : goal.returns-in-End-clause-tokens
+returns-in-End-clause-tokens c = whole c
 
-pub returns-clause-spelled : goal.returns-clause-spelled
-returns-clause-spelled c = read_spelled (whole c)
+pub returns-in-End-clause-spelled : goal.returns-in-End-clause-spelled
+returns-in-End-clause-spelled c = read_spelled (whole c)
 
-pub returns-clause-order : goal.returns-clause-order
-returns-clause-order c = read_order (whole c)
+pub returns-in-End-clause-order : goal.returns-in-End-clause-order
+returns-in-End-clause-order c = read_order (whole c)
 
-pub returns-clause-few : goal.returns-clause-few
-returns-clause-few c = omega (arith, c.loop-at.tokens.ok.0, order_few c.loop-at.tokens.items 0 (length c.args.bytes.now) (read_order (whole c)))
+pub returns-in-End-clause-few : goal.returns-in-End-clause-few
+returns-in-End-clause-few c = omega (arith, c.loop-lexeme.tokens.ok.0, order_few c.loop-lexeme.tokens.items 0 (length c.args.bytes.now) (read_order (whole c)))
+
+pub returns-in-Nothing-clause-error : goal.returns-in-Nothing-clause-error
+returns-in-Nothing-clause-error c =
+    let stop : StopsAt c.args.bytes.now c.in-Nothing.at = record {
+      tokens = c.loop-lexeme.tokens.items;
+      reached = rw append-nil at (c.loop-lexeme.invariant.read c.in-Nothing.at [] c.in-Nothing.ensures.0);
+      before = c.in-Nothing.ensures.1;
+      stuck = c.in-Nothing.ensures.2;
+    } in
+    (stop_no_list stop, stop)

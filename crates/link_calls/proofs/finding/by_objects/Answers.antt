@@ -1,61 +1,68 @@
-use Rattle.std.proofs.Common.{◌≡◌, ◌<◌, ◌↔◌, ℕ, Some, get_or, refl, length, slice_get, sym, ap, subst, ◌∙◌, eqb, eqb-true, eq-eqb, arith}
-use Rattle.std.specs.List.{AllPairs, Contains}
+use Rattle.std.proofs.Common.{◌≡◌, ◌<◌, ℕ, Some, get_or, refl, length, slice_get, sym, subst, ◌∙◌, eqb, eqb-true, eq-eqb, IsTrue}
+use Rattle.std.specs.List.{Contains}
 use Rattle.std.proofs.lemmas.List.Elements.{Contains-get_or}
 use Rattle.std.proofs.lemmas.Option.{slice_get-get_or}
-use Rattle.class_tree.specs.Rows.{Sub}
+use Rattle.class_tree.specs.Lookups.{IsDefault}
+use Rattle.class_tree.proofs.Lowest.{held_by}
 use Rattle.lists.specs.Lists.{Adds}
-use Rattle.link_calls.specs.Selected.{IsSelected}
 use Rattle.lists.proofs.Keys.{Adds-insert_key}
-use Rattle.link_calls.proofs.Selecting.{found_of_all, looked_at_all, looked_at_next, looked_at_none, selected_before, selected_next, selected_same, selected_several}
+use Rattle.link_calls.specs.Receivers.{AreChoices}
+use Rattle.link_calls.specs.Selected.{IsSelection}
+use Rattle.link_calls.specs.declared.selection.Selection.TheVariants.{Method, Nothing, Several}
+use Rattle.link_calls.proofs.Choosing.{found_of_all, looked_at_next, looked_at_none}
+use Rattle.link_calls.proofs.Marked.{within_classes}
 use Rattle.link_calls.proofs.finding.by_objects.Goals as goal
 use Rattle.link_calls.proofs.finding.by_objects.Goals.{in-Method+in_ok-insert-in-Method, in-Several, in-Nothing}
 
-pub loop-receiver-init : goal.loop-receiver-init
-loop-receiver-init c = rw c.new-rows.ensures.empty (looked_at_none c.args.classes.now.world c.args.class c.args.key c.as_slice-receiver-items.result.now)
+pub chosen-requires-clause-class : goal.chosen-requires-clause-class
+chosen-requires-clause-class c = (c.args.classes.now.world, c.requires.receivers, rw c.requires.receivers.as_many c.requires.class)
 
-pub selected-requires : goal.selected-requires
-selected-requires c =
-    let lt = rw c.as_slice-receiver-items.ensures.value at c.loop-receiver-test.true in
-    let known = c.in_ok-below.ensures.known c.loop-receiver.receiver-index 0 lt in
-    let items = ap (λ xs. get_or xs c.loop-receiver.receiver-index 0) c.as_slice-receiver-items.ensures.value in
-    omega (arith, known, items, ap (λ r. length r.classes) c.tree.ensures.rows, c.tree.ensures.classes)
+pub chosen-requires-clause-parts : goal.chosen-requires-clause-parts
+chosen-requires-clause-parts c = (c.args.key, c.requires.parts)
 
-pub loop-receiver-preserved : goal.loop-receiver-preserved
-loop-receiver-preserved c =
+pub loop-choice-init : goal.loop-choice-init
+loop-choice-init c = rw c.new-rows.ensures.empty (looked_at_none c.args.classes.now.world c.args.class c.args.key c.as_slice-choice-items.result.now)
+
+pub selected-requires-clause-class : goal.selected-requires-clause-class
+selected-requires-clause-class c =
+    let w = c.args.classes.now.world in
+    let chosen = subst (AreChoices w c.args.class c.args.key c.in_interfaces-all.result) (sym c.as_slice-choice-items.ensures.value) (c.in_ok-choices.ensures w c.args.key c.requires.receivers c.requires.parts) in
+    within_classes w _ (chosen.instantiable _ (Contains-get_or c.as_slice-choice-items.result.now c.loop-choice.choice-index _ c.loop-choice-test.true))
+
+pub selected-requires-clause-on_path : goal.selected-requires-clause-on_path
+selected-requires-clause-on_path c =
+    let w = c.args.classes.now.world in
+    let chosen = subst (AreChoices w c.args.class c.args.key c.in_interfaces-all.result) (sym c.as_slice-choice-items.ensures.value) (c.in_ok-choices.ensures w c.args.key c.requires.receivers c.requires.parts) in
+    chosen.on_path _ (Contains-get_or c.as_slice-choice-items.result.now c.loop-choice.choice-index _ c.loop-choice-test.true)
+
+pub loop-choice-preserved : goal.loop-choice-preserved
+loop-choice-preserved c =
     let w0 = c.args.classes.now.world in
-    let class = c.args.class in
     let key = c.args.key in
-    let at = c.loop-receiver in
-    let below = c.as_slice-receiver-items.result.now in
-    let receiver = get_or below at.receiver-index 0 in
-    let each : (a : ℕ) → Contains below a ↔ Sub w0.rows a class =
-    subst (λ xs. (a : ℕ) → Contains xs a ↔ Sub w0.rows a class) (sym c.as_slice-receiver-items.ensures.value) (rw c.tree.ensures.rows at c.in_ok-below.ensures.each) in
-    let ascending = subst (AllPairs (λ a b. a < b)) (sym c.as_slice-receiver-items.ensures.value) c.in_ok-below.ensures.ascending in
-    let there : slice_get below at.receiver-index ≡ Some receiver = slice_get-get_or below at.receiver-index 0 c.loop-receiver-test.true in
-    let sub : Sub w0.rows receiver class = (each receiver).0 (Contains-get_or below at.receiver-index 0 c.loop-receiver-test.true) in
-    let before = selected_before w0 class key below each ascending at.receiver-index receiver there at.rows.keys at.several at.invariant in
-    let next = looked_at_next w0 class key below each ascending at.receiver-index receiver there at.rows.keys at.several at.invariant in
+    let at = c.loop-choice in
+    let choices = c.as_slice-choice-items.result.now in
+    let all = c.in_interfaces-all.result in
+    let held : (IsTrue all → ⊥) → (receiver row : ℕ) → IsDefault w0.rows receiver key row → ⊥ =
+    λ no receiver row is. no ((rw c.tree.ensures.rows at c.in_interfaces-all.ensures).1 (is.interface, held_by w0.rows receiver key is.interface is.lowest.holder)) in
+    let chosen = subst (AreChoices w0 c.args.class key all) (sym c.as_slice-choice-items.ensures.value) (c.in_ok-choices.ensures w0 key c.requires.receivers c.requires.parts) in
+    let next = looked_at_next w0 c.args.class key all choices chosen held at.choice-index _ (slice_get-get_or choices at.choice-index _ c.loop-choice-test.true) at.rows.keys at.several at.invariant in
     elim c.match-selected.branch [
       | in-Method+in_ok-insert-in-Method w ↦
           let adds : Adds at.rows.keys w.in-Method.row w.insert.new.self.keys =
           subst (Adds at.rows.keys w.in-Method.row) (sym w.in_ok-insert-in-Method.ensures.keys) (Adds-insert_key eqb eqb-true (λ x. eq-eqb x x refl) at.rows.keys w.in-Method.row) in
-          let selects = subst (IsSelected w0 class key receiver) w.in-Method.is (c.selected.ensures class sub) in
-          rw (w.rows-is, w.several-is) (next _ _ (selected_next w0 class key receiver w.in-Method.row at.rows.keys w.insert.new.self.keys at.several before selects.0 adds selects.1))
-      | in-Several w ↦
-          let selects = subst (IsSelected w0 class key receiver) w.in-Several.is (c.selected.ensures class sub) in
-          rw (w.rows-is, w.several-is) (next _ _ (selected_several w0 class key receiver at.rows.keys at.several selects before))
-      | in-Nothing w ↦
-          let selects = subst (IsSelected w0 class key receiver) w.in-Nothing.is (c.selected.ensures class sub) in
-          rw (w.rows-is, w.several-is) (next _ _ (selected_same w0 class key receiver at.rows.keys at.several selects before))
+          rw (w.rows-is, w.several-is) (next (Method w.in-Method.row) (subst (IsSelection w0.rows _ key) w.in-Method.is c.selected.ensures) _ _ (adds, refl))
+      | in-Several w ↦ rw (w.rows-is, w.several-is) (next Several (subst (IsSelection w0.rows _ key) w.in-Several.is c.selected.ensures) _ _ (refl, refl))
+      | in-Nothing w ↦ rw (w.rows-is, w.several-is) (next Nothing (subst (IsSelection w0.rows _ key) w.in-Nothing.is c.selected.ensures) _ _ (refl, refl))
     ]
 
 pub returns : goal.returns
 returns c =
     let w0 = c.args.classes.now.world in
-    let at = c.loop-receiver in
-    let below = c.as_slice-receiver-items.result.now in
-    let each : (a : ℕ) → Contains below a ↔ Sub w0.rows a c.args.class =
-    subst (λ xs. (a : ℕ) → Contains xs a ↔ Sub w0.rows a c.args.class) (sym c.as_slice-receiver-items.ensures.value) (rw c.tree.ensures.rows at c.in_ok-below.ensures.each) in
-    let ascending = subst (AllPairs (λ a b. a < b)) (sym c.as_slice-receiver-items.ensures.value) c.in_ok-below.ensures.ascending in
-    let all = looked_at_all w0 c.args.class c.args.key below each ascending at.receiver-index at.rows.keys at.several c.loop-receiver-test.false at.invariant in
-    found_of_all w0 c.args.class c.args.key all.0 at.rows.keys at.several _ all.1 all.2 (c.in_ok-rows.ensures.items ∙ c.as_slice.ensures.keys) refl
+    let key = c.args.key in
+    let at = c.loop-choice in
+    let choices = c.as_slice-choice-items.result.now in
+    let all = c.in_interfaces-all.result in
+    let held : (IsTrue all → ⊥) → (receiver row : ℕ) → IsDefault w0.rows receiver key row → ⊥ =
+    λ no receiver row is. no ((rw c.tree.ensures.rows at c.in_interfaces-all.ensures).1 (is.interface, held_by w0.rows receiver key is.interface is.lowest.holder)) in
+    let chosen = subst (AreChoices w0 c.args.class key all) (sym c.as_slice-choice-items.ensures.value) (c.in_ok-choices.ensures w0 key c.requires.receivers c.requires.parts) in
+    found_of_all w0 c.args.class key all choices chosen held at.choice-index at.rows.keys at.several c.loop-choice-test.false at.invariant _ (c.in_ok-rows.ensures.items ∙ c.as_slice.ensures.keys) refl

@@ -1,11 +1,11 @@
 use Rattle.std.proofs.Common.{◌-◌, ◌^◌}
 use Rattle.link_rules.specs.Linked.{LinkedProgram}
-use Rattle.site_events.specs.Callers.{AreCallers, AreMethods}
+use Rattle.site_events.specs.Callers.{AreCallers, AreMethodNumbers}
 use Rattle.site_events.proofs.Searching.{IsSearched}
 use Rattle.site_events.proofs.loud.loud_methods.Given as goal
 
 abbrev pub invariant-loop-target : goal.invariant-loop-target
-invariant-loop-target l = (p : LinkedProgram) (calling : AreCallers p l.callers) (methods : AreMethods p l.told)
+invariant-loop-target l = (p : LinkedProgram) (calling : AreCallers p l.callers) (methods : AreMethodNumbers p l.told)
     → IsSearched p l.callers l.told calling methods l.at l.found.keys
 
 abbrev pub decreases-loop-target : goal.decreases-loop-target

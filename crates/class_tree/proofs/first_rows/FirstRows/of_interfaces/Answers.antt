@@ -1,7 +1,7 @@
 use Rattle.std.proofs.Common.{◌==◌, ◌&&◌, ap, ◌∙◌}
 use Rattle.class_tree.specs.FirstRows.{row_at}
 use Rattle.class_tree.proofs.Held.{in_another, no_interface_at}
-use Rattle.class_tree.proofs.Positions.{position_from-next, position_from-next_not}
+use Rattle.class_order.proofs.Positions.{position_from-next, position_from-next_not}
 use Rattle.class_tree.proofs.first_rows.FirstRows.of_interfaces.Goals as goal
 use Rattle.class_tree.proofs.first_rows.FirstRows.of_interfaces.Goals.{then-classes-method+in_ok-add, else-classes-method}
 

@@ -13,29 +13,29 @@ use Rattle.class_tree.specs.Rows.{HasInterface}
 use Rattle.class_tree.specs.Turns.{AreRowsOf, TellPaths}
 use Rattle.std.proofs.lemmas.Option.{slice_get-get_or}
 use Rattle.class_tree.proofs.Building.{Contains-mapped}
-use Rattle.class_tree.proofs.Listed.{Contains-at}
+use Rattle.class_order.proofs.Listed.{Contains-at}
 use Rattle.class_tree.proofs.Slots.{body_rows, field_rows}
 use Rattle.class_tree.proofs.inherited.Inherited.new.Goals as goal
 
-pub new-requires-2-clause-members : goal.new-requires-2-clause-members
-new-requires-2-clause-members c = rw (c.as_slice-of_methods.ensures.value, c.in_ok-of_methods.ensures) (All-map (λ (m : Member). m.class < length c.args.classes.now) member_of_method c.args.methods.now c.requires.named.methods)
+pub new-requires-clause-members : goal.new-requires-clause-members
+new-requires-clause-members c = rw (c.as_slice-of_methods.ensures.value, c.in_ok-of_methods.ensures) (All-map (λ (m : Member). m.class < length c.args.classes.now) member_of_method c.args.methods.now c.requires.named.methods)
 
-pub new-requires-3-clause-members : goal.new-requires-3-clause-members
-new-requires-3-clause-members c = rw (c.as_slice-of_fields.ensures.value, c.in_ok-of_fields.ensures) (All-map (λ (m : Member). m.class < length c.args.classes.now) member_of_field c.args.fields.now c.requires.named.fields)
+pub new-requires-2-clause-members : goal.new-requires-2-clause-members
+new-requires-2-clause-members c = rw (c.as_slice-of_fields.ensures.value, c.in_ok-of_fields.ensures) (All-map (λ (m : Member). m.class < length c.args.classes.now) member_of_field c.args.fields.now c.requires.named.fields)
 
 -- two functions of a class and a key that give the same are one
 same_rows : {f g : ℕ → ℕ → Option ℕ} → ((c k : ℕ) → f c k ≡ g c k) → f ≡ g
 same_rows same j c k = same c k j
 
-told_by : {f g : ℕ → ℕ → Option ℕ} {paths : Paths} (classes : List ClassRow) → ((c k : ℕ) → f c k ≡ g c k) → TellPaths classes f paths → TellPaths classes g paths
-told_by {paths = paths} classes same told = subst (λ own. TellPaths classes own paths) (same_rows same) told
+told_by : {f g : ℕ → ℕ → Option ℕ} {numbers : List ℕ} {paths : Paths} (classes : List ClassRow) → ((c k : ℕ) → f c k ≡ g c k) → TellPaths classes f numbers paths → TellPaths classes g numbers paths
+told_by {numbers = numbers} {paths = paths} classes same told = subst (λ own. TellPaths classes own numbers paths) (same_rows same) told
 
-pub new-requires-2-clause-rows : goal.new-requires-2-clause-rows
-new-requires-2-clause-rows c = rw (c.as_slice-of_methods.ensures.value, c.in_ok-of_methods.ensures)
+pub new-requires-clause-rows : goal.new-requires-clause-rows
+new-requires-clause-rows c = rw (c.as_slice-of_methods.ensures.value, c.in_ok-of_methods.ensures)
     (subst (λ own. AreRowsOf own (map member_of_method c.args.methods.now)) (sym (same_rows c.requires.bodies)) (body_rows c.args.methods.now))
 
-pub new-requires-3-clause-rows : goal.new-requires-3-clause-rows
-new-requires-3-clause-rows c = rw (c.as_slice-of_fields.ensures.value, c.in_ok-of_fields.ensures)
+pub new-requires-2-clause-rows : goal.new-requires-2-clause-rows
+new-requires-2-clause-rows c = rw (c.as_slice-of_fields.ensures.value, c.in_ok-of_fields.ensures)
     (subst (λ own. AreRowsOf own (map member_of_field c.args.fields.now)) (sym (same_rows c.requires.own_fields)) (field_rows c.args.fields.now))
 
 -- an interface that some class names has a field only with one of the keys

@@ -1,7 +1,7 @@
 use Rattle.std.proofs.Common.{◌<◌, ◌∙◌, length, length-set, get_or, arith, Contains}
 use Rattle.std.proofs.lemmas.List.Elements.{Contains-get_or, All-contains}
 use Rattle.class_tree.specs.declared.first_rows.Member.{Member}
-use Rattle.class_tree.specs.Groups.{group}
+use Rattle.class_order.specs.Groups.{group}
 use Rattle.class_tree.proofs.KeyLists.{keyed_apart, keyed_exact, united_more, apart_more}
 use Rattle.class_tree.proofs.key_spans.KeySpans.new.Goals as goal
 

@@ -1,6 +1,6 @@
 use Rattle.std.proofs.Common.{◌≡◌, ℕ, ◌<◌, ◌↔◌, length}
-use Rattle.class_tree.specs.Groups.{group}
-use Rattle.class_tree.specs.Spans.{AreApart, Holds, HoldsAny}
+use Rattle.class_order.specs.Groups.{group}
+use Rattle.class_order.specs.Spans.{AreApart, Holds, HoldsAny}
 use Rattle.class_tree.proofs.key_spans.KeySpans.new.Given as goal
 
 abbrev pub invariant-loop-at : goal.invariant-loop-at

@@ -1,9 +1,9 @@
 use Rattle.std.proofs.Common.{◌∙◌, arith}
 use Rattle.class_tree.specs.Rows.{HasParent}
-use Rattle.class_tree.specs.Tables.{Under}
-use Rattle.class_tree.proofs.Building.{proper_map}
+use Rattle.class_order.specs.Tables.{Under}
+use Rattle.class_order.proofs.Reached.{proper_map}
 use Rattle.class_tree.proofs.Parents.{parent-below}
-use Rattle.class_tree.proofs.Searches.{finishing_by}
+use Rattle.class_order.proofs.Searches.{finishing_by}
 use Rattle.class_tree.proofs.numbering.Numbering.new.Goals as goal
 
 pub finish_order-requires-clause-below : goal.finish_order-requires-clause-below
@@ -26,8 +26,11 @@ returns c =
       within = λ k m. omega (arith, c.in_ok-finish.ensures.within k m, c.in_ok-below.ensures.len);
       all = λ k h. c.in_ok-finish.ensures.all k (omega (arith, h, c.in_ok-below.ensures.len));
       placed = rw c.as_slice-2.ensures.value at c.in_ok-numbers.ensures.each;
-      len = places.len ∙ c.in_ok-below.ensures.len;
-      apart = λ a b ha hb e. places.own a b (omega (arith, ha, c.in_ok-below.ensures.len)) (omega (arith, hb, c.in_ok-below.ensures.len)) e;
+      own = record {
+        len = places.len ∙ c.in_ok-below.ensures.len;
+        within = λ k h. omega (arith, places.within k (omega (arith, h, c.in_ok-below.ensures.len)), c.in_ok-below.ensures.len);
+        own = λ a b ha hb e. places.own a b (omega (arith, ha, c.in_ok-below.ensures.len)) (omega (arith, hb, c.in_ok-below.ensures.len)) e;
+      };
       falls = λ a b named. places.falls a b ((c.in_ok-below.ensures.steps a b).1 named);
       known = c.requires.known;
     }

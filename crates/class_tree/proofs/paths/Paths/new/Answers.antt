@@ -25,9 +25,9 @@ returns c =
     c.in_ok-owns.ensures.exact c.in_ok-owns.ensures.len (c.in_ok-numbers.ensures.items ∙ c.as_slice.ensures.value) c.requires.numbering in
     record {
       len = c.in_ok-turns.ensures.len ∙ c.len.ensures.len;
-      numbers = f.len;
       rising = λ key. slot_rising c.args.classes.now own c.args.members.now c.in_ok-keys.keys.keys c.in_ok-numbers.numbers.items c.in_ok-owns.owns c.in_ok-turns.turns
           c.requires.rows c.in_ok-owns.ensures.exact c.in_ok-keys.ensures f c.in_ok-turns.ensures.rising _;
-      exact = key_path c.args.classes.now own c.args.members.now c.in_ok-keys.keys.keys c.in_ok-numbers.numbers.items c.in_ok-owns.owns c.in_ok-turns.turns
-          c.requires.rows c.in_ok-owns.ensures.exact c.in_ok-keys.ensures f c.in_ok-turns.ensures.told;
+      exact = λ k key h. rw (c.in_ok-numbers.ensures.items ∙ c.as_slice.ensures.value) at
+          (key_path c.args.classes.now own c.args.members.now c.in_ok-keys.keys.keys c.in_ok-numbers.numbers.items c.in_ok-owns.owns c.in_ok-turns.turns
+          c.requires.rows c.in_ok-owns.ensures.exact c.in_ok-keys.ensures f c.in_ok-turns.ensures.told k key h);
     }

@@ -13,7 +13,7 @@ pub loop-row-smaller : goal.loop-row-smaller
 loop-row-smaller c =
     let ix = rw c.self.view_is at c.self.invariant in
     let named : HasParent c.args.self.now.classes c.loop-row.at c.in-Some-parent.parent = row_parent _ _ _ _ _ c.self.view_is c.loop-row.invariant.within c.index.ensures c.in-Some-parent.is in
-    ix.placed.falls _ _ (inl named)
+    ix.ranked.falls _ _ (inl named)
 
 pub loop-row-preserved : goal.loop-row-preserved
 loop-row-preserved c =

@@ -3,7 +3,7 @@ use Rattle.std.specs.List.{Contains, All}
 use Rattle.std.proofs.lemmas.List.Elements.{Contains-get_or}
 use Rattle.class_tree.specs.Indexed.{HasFieldNear, IsFirstNear}
 use Rattle.class_tree.specs.Lookups.{FieldHere}
-use Rattle.class_tree.proofs.Listed.{Contains-at}
+use Rattle.class_order.proofs.Listed.{Contains-at}
 use Rattle.class_tree.proofs.Parents.{interface_named}
 use Rattle.class_tree.proofs.TreeFacts.{field_in_class, field_nowhere, field_from_interface, not_near, step-above}
 use Rattle.class_tree.proofs.tree.Tree.field_here.Goals as goal
@@ -11,7 +11,7 @@ use Rattle.class_tree.proofs.tree.Tree.field_here.Goals as goal
 pub returns-in-Some : goal.returns-in-Some
 returns-in-Some c =
     let ix = rw c.self.view_is at c.self.invariant in
-    c.loop-row.invariant.goes_on c.in-Some.row (field_in_class _ _ ix.placed c.loop-row.at c.args.key c.in-Some.row (c.in-Some.ensures ∙ ix.fields c.loop-row.at c.args.key))
+    c.loop-row.invariant.goes_on c.in-Some.row (field_in_class _ _ ix.ranked c.loop-row.at c.args.key c.in-Some.row (c.in-Some.ensures ∙ ix.fields c.loop-row.at c.args.key))
 
 pub first_near-requires : goal.first_near-requires
 first_near-requires c = λ k d h.
@@ -23,7 +23,7 @@ pub loop-row-smaller : goal.loop-row-smaller
 loop-row-smaller c =
     let ix = rw c.self.view_is at c.self.invariant in
     let first = subst (λ xs. IsFirstNear c.args.self.now xs c.args.key c.in-Some-first_near.interface) (c.get-in-loop-row.ensures ∙ ix.interfaces_are c.loop-row.at) c.in-Some-first_near.ensures.some in
-    ix.placed.falls c.loop-row.at c.in-Some-first_near.interface (inr (interface_named c.args.self.now.implements c.loop-row.at _ (Contains-at _ first.index _ first.there)))
+    ix.ranked.falls c.loop-row.at c.in-Some-first_near.interface (inr (interface_named c.args.self.now.implements c.loop-row.at _ (Contains-at _ first.index _ first.there)))
 
 pub loop-row-preserved : goal.loop-row-preserved
 loop-row-preserved c =
@@ -31,7 +31,7 @@ loop-row-preserved c =
     let first = subst (λ xs. IsFirstNear c.args.self.now xs c.args.key c.in-Some-first_near.interface) (c.get-in-loop-row.ensures ∙ ix.interfaces_are c.loop-row.at) c.in-Some-first_near.ensures.some in
     record {
       within = step-above _ ix.hierarchy c.loop-row.at _ (inr (interface_named c.args.self.now.implements c.loop-row.at _ (Contains-at _ first.index _ first.there)));
-      goes_on = λ r here. c.loop-row.invariant.goes_on r (field_from_interface _ _ ix.placed c.loop-row.at c.args.key c.in-Some-first_near.interface first.index r
+      goes_on = λ r here. c.loop-row.invariant.goes_on r (field_from_interface _ _ ix.ranked c.loop-row.at c.args.key c.in-Some-first_near.interface first.index r
           (c.in_default.ensures ∙ ix.fields c.loop-row.at c.args.key) first.there first.first here);
       near = inr first.near;
     }
@@ -40,8 +40,8 @@ pub returns-in-None : goal.returns-in-None
 returns-in-None c =
     let ix = rw c.self.view_is at c.self.invariant in
     let others = subst (All (λ i. HasFieldNear c.args.self.now i c.args.key → ⊥)) (c.get-in-loop-row.ensures ∙ ix.interfaces_are c.loop-row.at) c.in-None.ensures.none in
-    let none = not_near _ _ ix.placed c.loop-row.at c.args.key (c.in_default.ensures ∙ ix.fields c.loop-row.at c.args.key) others in
+    let none = not_near _ _ ix.ranked c.loop-row.at c.args.key (c.in_default.ensures ∙ ix.fields c.loop-row.at c.args.key) others in
     elim c.loop-row.invariant.near [
-      | inl first ↦ subst (λ k. FieldHere c.args.self.now c.args.key k None) first (field_nowhere _ _ ix.placed c.loop-row.at c.args.key none)
+      | inl first ↦ subst (λ k. FieldHere c.args.self.now c.args.key k None) first (field_nowhere _ _ ix.ranked c.loop-row.at c.args.key none)
       | inr near ↦ absurd (none near)
     ]

@@ -11,4 +11,4 @@ invariant-loop-row l = record {
 }
 
 abbrev pub decreases-loop-row : goal.decreases-loop-row
-decreases-loop-row l = get_or l.self-inside.places.items l.at 0
+decreases-loop-row l = get_or l.self-inside.ranks.items l.at 0

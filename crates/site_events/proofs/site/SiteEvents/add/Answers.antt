@@ -4,7 +4,7 @@ use Rattle.lists.specs.Lists.{Has, AreAll}
 use Rattle.lists.proofs.Places.{Has-push}
 use Rattle.lists.proofs.Joined.{slice_get-mapped}
 use Rattle.link_rules.specs.Linked.{LinkedProgram}
-use Rattle.site_events.specs.Callers.{AreMethods}
+use Rattle.site_events.specs.Callers.{AreMethodNumbers}
 use Rattle.site_events.specs.Loud.{IsLoud}
 use Rattle.site_events.proofs.Entering.{loud_calls_enter}
 use Rattle.track_systems.proofs.Meaning.{meaning}
@@ -21,7 +21,7 @@ has_some [] other = cc (other)
 has_some (s ∷ rest) other = (s, (0, refl))
 
 -- the methods of statements in methods of the program are such
-methods_in : (p : LinkedProgram) (statements : List Statement) (told : List ℕ) → told ≡ map (λ (s : Statement). s.method) statements → AreInMethods p statements → AreMethods p told
+methods_in : (p : LinkedProgram) (statements : List Statement) (told : List ℕ) → told ≡ map (λ (s : Statement). s.method) statements → AreInMethods p statements → AreMethodNumbers p told
 methods_in p statements told is among m has =
     let listed = subst (λ (xs : List ℕ). Has xs m) is has in
     let x = slice_get-mapped (λ (s : Statement). s.method) statements listed.0 m listed.1 in

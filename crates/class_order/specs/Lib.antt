@@ -1,0 +1,4 @@
+pub mod Groups
+pub mod Paths
+pub mod Spans
+pub mod Tables

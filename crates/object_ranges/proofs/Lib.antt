@@ -1,0 +1,4 @@
+pub mod Leasts
+pub mod Heaped
+pub mod Laid
+pub mod Serving

@@ -1,0 +1,4 @@
+pub mod Marks
+pub mod Minima
+pub mod Parts
+pub mod Chosen
