@@ -1,4 +1,4 @@
-//! Commands over programs, with the replies found by hand. Rows are those of `rows`.
+//! Commands over programs, with the replies found by hand. Rows are as those of the worked programs.
 use super::rows::first_wrong_in;
 use asked_text::{METHOD, Pieces, is_answered, is_reply, words};
 use boom_io::{MemSink, MemSource};

@@ -6,8 +6,6 @@ mod batches;
 #[cfg(test)]
 mod commands;
 #[cfg(test)]
-mod explained;
-#[cfg(test)]
 mod explains;
 #[cfg(test)]
 mod gates;

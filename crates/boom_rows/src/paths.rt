@@ -1,4 +1,4 @@
-//! Queries of paths, with the replies found by hand. Rows are those of `rows`.
+//! Queries of paths, with the replies found by hand. Rows are as those of the worked programs.
 use super::rows::first_wrong_in;
 use asked_text::SMALL;
 use std::test::Fail;

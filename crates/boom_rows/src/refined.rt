@@ -1,4 +1,4 @@
-//! Refined calls, with the replies found by hand. Rows are those of `rows`.
+//! Refined calls, with the replies found by hand. Rows are as those of the worked programs.
 use super::rows::first_wrong_in;
 use asked_text::SMALL;
 use std::test::Fail;

@@ -9,10 +9,12 @@ use Rattle.cert_rules.specs.declared.fact.Fact.{Fact}
 use Rattle.cert_rules.specs.declared.fact.Fact.TheVariants.{At, Link, Shared, Met}
 use Rattle.cert_rules.specs.contracts.fact.FactPartialEq.TheImpl as fact
 use Rattle.cert_rules.proofs.Same.{same_entry, same_side}
+use Rattle.cert_lines.specs.declared.keys.FieldAt.{FieldAt}
 use Rattle.cert_lines.specs.declared.keys.Known.{Known}
 use Rattle.cert_lines.specs.declared.keys.Origin.{Origin}
 use Rattle.cert_lines.specs.declared.keys.Spot.{Spot}
 use Rattle.cert_lines.specs.declared.keys.Word.{Word}
+use Rattle.cert_lines.specs.contracts.keys.FieldAtPartialEq.TheImpl as field_at
 use Rattle.cert_lines.specs.contracts.keys.KnownPartialEq.TheImpl as known
 use Rattle.cert_lines.specs.contracts.keys.OriginPartialEq.TheImpl as origin
 use Rattle.cert_lines.specs.contracts.keys.SpotPartialEq.TheImpl as spot
@@ -36,6 +38,13 @@ same_spot x y h =
 
 pub same_origin : (x y : Origin) → origin.eq-value.it x y ≡ true → x ≡ y
 same_origin x y h = let site = same_site x.site y.site h in λ j. record { site = site j }
+
+pub same_field_at : (x y : FieldAt) → field_at.eq-value.it x y ≡ true → x ≡ y
+same_field_at x y h =
+    let p = and_parts _ _ h in
+    let field = eqb-true x.field y.field p.0 in
+    let node = same_node x.node y.node p.1 in
+    λ j. record { field = field j; node = node j }
 
 same_store : (x y : StoreAt) → store.eq-value.it x y ≡ true → x ≡ y
 same_store x y h =

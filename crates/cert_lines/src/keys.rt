@@ -1,5 +1,10 @@
 //! What facts and lines are looked for by.
 ghost use Rattle.std.specs.Prelude.{◌≡◌};
+ghost use Rattle.link_sites.specs.declared.site.Site.{Site as AnySite};
+ghost use Rattle.cert_rules.specs.declared.fact.Entry.{Entry as AnyEntry};
+ghost use Rattle.cert_rules.specs.declared.fact.Fact.TheVariants.{At};
+ghost use Rattle.cert_rules.specs.declared.line.Side.{Side as AnySide};
+ghost use Rattle.spds_rules.specs.declared.node.Node.{Node as AnyNode};
 ghost use Rattle.cert_lines.specs.Spread.{entry_spread, fact_spread, known_of, mix, place_spread, site_spread, spot_spread, store_spread, word_spread};
 
 use cert_rules::{Entry, Fact, Side};
@@ -16,13 +21,31 @@ pub struct Known {
 
 impl Known {
     /// Of a fact.
-    pub fn of(fact: Fact) -> Self
-        ensures { result ≡ known_of fact }
+    #[inline(always)]
+    pub fn of(fact: &Fact) -> Self
+        ensures { result ≡ known_of fact.now }
     {
         Known {
-            spread: fact_spread(&fact),
-            fact,
+            spread: fact_spread(fact),
+            fact: *fact,
         }
+    }
+
+    /// Of an object at the other node, under the words under which it is at this one. Costs no look at these: a fact is large.
+    pub fn at(&self, node: Node) -> Self
+        requires { (side : AnySide) × (site : AnySite) × (entry : AnyEntry) × (from : AnyNode) × (self.now ≡ known_of (At side site entry from)) }
+        ensures { (side : AnySide) (site : AnySite) (entry : AnyEntry) (from : AnyNode) → self.now ≡ known_of (At side site entry from)
+            → result ≡ known_of (At side site entry node) }
+    {
+        let mut there = *self;
+        match &mut there.fact {
+            Fact::At { node: here, .. } => {
+                there.spread = spread_at(self.spread, *here, node);
+                *here = node;
+            }
+            _ => unreachable!(),
+        }
+        there
     }
 }
 
@@ -45,6 +68,13 @@ pub struct Spot {
 #[derive(Clone, Copy, Debug, PartialEq, Eq)]
 pub struct Origin {
     pub site: Site,
+}
+
+/// A field, and a node.
+#[derive(Clone, Copy, Debug, PartialEq, Eq)]
+pub struct FieldAt {
+    pub field: u32,
+    pub node: Node,
 }
 
 // A number for two numbers, in their order.
@@ -100,6 +130,13 @@ fn at_spread(site: &Site, node: &Node) -> u64
     ensures { result ≡ spot_spread (record { site = site.now; node = node.now }) }
 {
     mix(site_spread(site), node.spread())
+}
+
+// The number by which it is spread that an object is at the one node, from that at another, under the same words.
+fn spread_at(spread: u64, from: Node, to: Node) -> u64
+    ensures { (side : AnySide) (site : AnySite) (entry : AnyEntry) → spread ≡ fact_spread (At side site entry from) → result ≡ fact_spread (At side site entry to) }
+{
+    spread.wrapping_sub(from.spread()).wrapping_add(to.spread())
 }
 
 fn store_spread(store: &StoreAt) -> u64
@@ -178,6 +215,20 @@ impl Key for Origin {
     }
 
     ghost same = { same_origin };
+}
+
+impl Key for FieldAt {
+    ghost use Rattle.spds_rules.specs.Spread.{node_spread};
+    ghost use Rattle.cert_lines.specs.Spread.{mix};
+    ghost use Rattle.cert_lines.specs.SameKeys.{same_field_at};
+
+    ghost spread = { λ k. mix (node_spread k.node) k.field };
+
+    fn spread(self) -> u64 {
+        mix(self.node.spread(), self.field as u64)
+    }
+
+    ghost same = { same_field_at };
 }
 
 impl Key for Known {

@@ -5,5 +5,5 @@
 mod keys;
 mod written;
 
-pub use keys::{Known, Origin, Spot, Word};
+pub use keys::{FieldAt, Known, Origin, Spot, Word};
 pub use written::Written;

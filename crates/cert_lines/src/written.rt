@@ -1,6 +1,8 @@
 //! Lines as they are made, with what each gives.
 ghost use Rattle.std.specs.Prelude.{◌≡◌, ◌↔◌, ◌+◌, ◌<◌, ◌^◌, ◌++◌, ◌∷◌, ℕ, [], Some, length, slice_get, IfNone, IfOk, IfSome, IsTrue, OnErr, OnOk};
+ghost use Rattle.cert_rules.specs.declared.fact.Fact.{Fact as AnyFact};
 ghost use Rattle.cert_lines.specs.Noted.{GivesAt, IsBettered, IsNotedIn, IsShortestOf};
+ghost use Rattle.cert_lines.specs.Spread.{known_of};
 
 use super::keys::Known;
 use cert_rules::{Fact, Line};
@@ -38,7 +40,8 @@ impl Model for Written {
     ghost invariant = { λ w. AreNotes w.lines.items w.facts.keys w.notes.items w.best.items };
 }
 
-// Puts a line and its note last, and gives its number, from 0.
+// Puts a line and its note last, and gives its number, from 0. A line is large: inlined, it isn't copied on the way.
+#[inline(always)]
 fn push(
     lines: &mut Vec<Line>,
     notes: &mut Vec<Note>,
@@ -64,6 +67,7 @@ fn push(
 }
 
 // The same of a line that is the first to give its fact, which is so the best one.
+#[inline(always)]
 fn push_first(
     lines: &mut Vec<Line>,
     notes: &mut Vec<Note>,
@@ -120,12 +124,21 @@ impl Written {
     }
 
     /// The fact that the line with the number, from 0, gives.
-    pub fn fact(&self, number: u32) -> Fact
+    pub fn fact(&self, number: u32) -> &Fact
         requires { number < length self.now.lines }
-        ensures { GivesAt self.now number result }
+        ensures { GivesAt self.now number result.now }
     {
         let note = self.notes[number as usize];
-        self.facts.key(note.fact).fact
+        &self.facts.keys()[note.fact as usize].fact
+    }
+
+    /// The same fact, with the number by which it is spread.
+    pub fn known(&self, number: u32) -> &Known
+        requires { number < length self.now.lines }
+        ensures { (fact : AnyFact) → GivesAt self.now number fact → result.now ≡ known_of fact }
+    {
+        let note = self.notes[number as usize];
+        &self.facts.keys()[note.fact as usize]
     }
 
     /// How long it is.
@@ -150,18 +163,18 @@ impl Written {
         ensures some { IfSome result (λ number. IsShortestOf self.now fact number) }
         ensures none { IfNone result ((number : ℕ) → GivesAt self.now number fact → ⊥) }
     {
-        let number = self.facts.find(Known::of(fact))?;
+        let number = self.facts.find(Known::of(&fact))?;
         Some(self.best[number as usize])
     }
 
     /// Puts a line last, with what it gives and its length, unless a line that gives this is no longer. The number is that of a line, from 0, that now gives
     /// it. Want of memory leaves all as it was.
-    pub fn add(&mut self, line: Line, fact: Fact, length: u32) -> Result<u32, NoMemory>
-        ensures number { IfOk result (λ number. GivesAt self.new number fact) }
-        ensures ok { OnOk result (IsNotedIn self.old self.new line fact length) }
+    pub fn add(&mut self, line: Line, known: Known, length: u32) -> Result<u32, NoMemory>
+        requires { known ≡ known_of known.fact }
+        ensures number { IfOk result (λ number. GivesAt self.new number known.fact) }
+        ensures ok { OnOk result (IsNotedIn self.old self.new line known.fact length) }
         ensures err { OnErr result (self.new ≡ self.old) }
     {
-        let known = Known::of(fact);
         if let Some(number) = self.facts.find(known) {
             let last = self.best[number as usize];
             if self.notes[last as usize].length <= length {

@@ -8,7 +8,7 @@ ghost use Rattle.cert_work.specs.Work.{AreFiled, IsWorkOf, TellsAt};
 use super::programs::TWO_CALLS;
 use cert_lines::{Origin, Spot, Word, Written};
 use cert_rules::{Entry, Fact, Line, Side};
-use cert_work::{Roads, View, Wants, Work, add, nothing, number_of, start_all, work_off};
+use cert_work::{Ahead, Roads, View, Wants, Work, add, nothing, number_of, start_all, work_off};
 use demand_set::{Demand, Reach};
 use link_program::Linked;
 use link_sites::Site;
@@ -99,7 +99,7 @@ fn add_start(
         entry: Entry::Base,
         node,
     };
-    add(view, written, line, fact, 0)?;
+    add(view, written, line, &fact, 0)?;
     Ok(number_of(written, fact))
 }
 
@@ -168,7 +168,7 @@ fn is_row(
     requires { IsDemandOf linked.now (about target) demand.now }
 {
     let roads = Roads::of(alloc, linked, target, demand)?;
-    let mut wants = Wants::new(alloc);
+    let mut wants = Wants::new(alloc, Ahead::everywhere(alloc));
     let Some((first, told)) = row.split_once(' ') else {
         return Ok(false);
     };
@@ -234,7 +234,7 @@ fn are_followed(
     at: Node,
     other: Node,
 ) -> Result<bool, NoMemory> {
-    let mut wants = Wants::new(alloc);
+    let mut wants = Wants::new(alloc, Ahead::everywhere(alloc));
     let none = !wants.has(all, at) && !wants.has(some, at);
     wants.sites.add(Origin { site: all })?;
     wants.add(all, at)?;

@@ -21,7 +21,7 @@ use Rattle.cert_trace.proofs.Told.{closed_shortest}
 module _ (p : LinkedProgram) (t : Node) (w : Noted) (closed : AreClosed p t w (Meets p (about t))) where
   pub field_there : (o : Site) → IsAnswered p (about t) t o → (most : ℕ) × IsThere w (At Field o Base t) most
   field_there o is =
-      let held = fields_held p t closed.wants w (Meets p (about t)) closed.closed o is.0 (closed.closed.wanted.answered o is) in
+      let held = fields_held p t closed.wants w (Meets p (about t)) closed.closed o is.0 (closed.closed.wanted.answered o is) tt in
       (held.front, subst (λ (x : Entry). IsThere w (At Field o x t) held.front) held.spelled held.at)
 
   pub call_there : (o : Site) → IsAnswered p (about t) t o → (i : ℕ) × (e : Entry) × Cites w.given i (At Call o e t)

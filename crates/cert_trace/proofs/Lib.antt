@@ -1,6 +1,7 @@
 mod Held
 mod Read
 mod Told
+mod FoundAhead
 mod Wanted
 mod Traced
 mod Claimed

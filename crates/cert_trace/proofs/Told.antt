@@ -66,7 +66,7 @@ module _ (p : LinkedProgram) (t : Node) where
   pub closed_shortest : (w : Noted) → AreClosed p t w (Meets p (about t)) → w.lengths ≡ map as_told (lengths_of w.lines) → (o : Site) → IsAnswered p (about t) t o
       → (i : ℕ) → IsShortestOf w (At Field o Base t) i → IsShortest p t o (cited_length (lengths_of w.lines) (suc i))
   closed_shortest w is told o answered i least h =
-      let held = fields_held p t is.wants w (Meets p (about t)) is.closed o h (is.closed.wanted.answered o answered) in
+      let held = fields_held p t is.wants w (Meets p (about t)) is.closed o h (is.closed.wanted.answered o answered) tt in
       let at : IsThere w (At Field o Base t) held.front = subst (λ (x : Entry). IsThere w (At Field o x t) held.front) held.spelled held.at in
       let short = least.least at.at at.gives in
       let is : length_at w i ≡ as_told (cited_length (lengths_of w.lines) (suc i))

@@ -47,6 +47,11 @@ module _ (p : LinkedProgram) (t : Node) where
     back = are.back;
     stored = λ o base s n m. are.stored o base s n (less o base s m);
     into = λ o base s n m. are.into o base s n (less o base s m);
+    ahead = record {
+      loaded = are.ahead.loaded;
+      kept = are.ahead.kept;
+      stored = λ f x y o base s m. are.ahead.stored f x y o base s (less o base s m);
+    };
   }
 
   -- what was put behind a new list is put behind none
@@ -66,7 +71,7 @@ module _ (v : View) (d : DemandParts) (before : List Met) (w : Noted) (closed : 
   rests_justified arg into m o b s string =
       let p = v.linked.now in
       let under = rests.stores in
-      let base = fields_held p v.target v.wants.now w (IsListed d before) closed rests.base under.is_base into in
+      let base = fields_held p v.target v.wants.now w (IsListed d before) closed rests.base under.is_base into tt in
       let at : IsThere w (At Field rests.base Base rests.store.base) base.front
       = subst (λ (x : Entry). IsThere w (At Field rests.base x rests.store.base) base.front) base.spelled base.at in
       rw (o, b, s, string) (record {

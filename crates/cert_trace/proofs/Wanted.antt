@@ -17,10 +17,12 @@ use Rattle.cert_rules.specs.Given.{about}
 use Rattle.cert_lines.specs.declared.keys.Origin.{Origin}
 use Rattle.cert_lines.specs.declared.keys.Spot.{Spot}
 use Rattle.cert_work.specs.declared.wants.Wants.{Wants}
-use Rattle.cert_work.specs.Wants.{AreWants, IsWanted, IsWider}
+use Rattle.cert_work.specs.Wants.{AreWants, IsEverywhere, IsWanted, IsWider}
 use Rattle.cert_trace.specs.declared.filing.Grounds.{Grounds}
 use Rattle.cert_trace.specs.declared.pairing.Pairing.{Pairing}
-use Rattle.cert_trace.specs.Settled.{IsBackFiled, IsEverywhere, IsFollowedBack, IsSettled, IsStoreFiled}
+use Rattle.cert_trace.specs.Ahead.{IsAheadIn}
+use Rattle.cert_trace.proofs.FoundAhead.{ahead_of_all}
+use Rattle.cert_trace.specs.Settled.{IsBackFiled, IsFollowedBack, IsSettled, IsStoreFiled}
 
 pub less_next : (i n : ℕ) → i < n + 1 → (i < n) ⊎ (i ≡ n)
 less_next zero zero low = inr refl
@@ -29,13 +31,14 @@ less_next (suc i) zero low = absurd (omega (arith, low))
 less_next (suc i) (suc n) low = elim (less_next i n (omega (arith, low))) [ inl a ↦ inl (omega (arith, a)) | inr b ↦ inr (omega (arith, b)) ]
 
 pub wider_none : (w : Wants) → IsWider w w
-wider_none w = record { sites = refl; more = []; spots = sym (append-nil w.spots.keys) }
+wider_none w = record { sites = refl; more = []; spots = sym (append-nil w.spots.keys); ahead = refl }
 
 pub wider_more : (a b c : Wants) → IsWider a b → IsWider b c → IsWider a c
 wider_more a b c first second = record {
   sites = second.sites ∙ first.sites;
   more = first.more ++ second.more;
   spots = second.spots ∙ ap (λ (ks : List Spot). ks ++ second.more) first.spots ∙ append_assoc a.spots.keys first.more second.more;
+  ahead = second.ahead ∙ first.ahead;
 }
 
 module _ (old new : Wants) (wider : IsWider old new) where
@@ -53,7 +56,7 @@ module _ (old new : Wants) (wider : IsWider old new) where
 
   pub followed_more : (g : Grounds) (spot : Spot) → IsFollowedBack old g spot → IsFollowedBack new g spot
   followed_more g spot is = record {
-    back = λ n has. wanted_more spot.site n (is.back n has);
+    back = λ e has. wanted_more spot.site e.from (is.back e has);
     stored = λ base s starts filed.
         let both = is.stored base s starts filed in (wanted_more spot.site s.arg both.0, wanted_more base s.base both.1);
   }
@@ -71,14 +74,14 @@ settled_at w files x y z o base s is a b c =
 module _ (p : LinkedProgram) (t : Node) (d : DemandParts) (demand : IsDemandOf p (about t) d) (w : Wants) (g : Grounds)
     (answers : (i : ℕ) (o : Site) → slice_get d.sites i ≡ Some o → IsAnswered p (about t) t o → IsEverywhere w o) (back : (e : Edge) → Has d.edges e → IsBackFiled g.back e)
     (settled : (o base : Site) (s : StoreAt) → Meets p (about t) o base s → IsSettled w g.stores o base s)
-    (followed : (spot : Spot) → Has w.spots.keys spot → IsFollowedBack w g spot) where
+    (followed : (spot : Spot) → Has w.spots.keys spot → IsFollowedBack w g spot) (ahead : IsAheadIn d w.ahead) where
   pub are_wants : AreWants p t w (Meets p (about t))
   are_wants = record {
     answered = λ o is. (
         let has = (demand.sites.each o).1 (fields_site p (about t) (Meets p (about t)) o is.0) in inl (answers has.0 o has.1 is));
     back = λ o e along wanted. elim wanted [
       | inl has ↦ inl has
-      | inr has ↦ (followed (record { site = o; node = e.to }) has).back e.from (back e (demand.edges.all e along))
+      | inr has ↦ (followed (record { site = o; node = e.to }) has).back e (back e (demand.edges.all e along))
     ];
     stored = λ o base s n m st wanted. elim wanted [
       | inl has ↦ inl has
@@ -94,4 +97,5 @@ module _ (p : LinkedProgram) (t : Node) (d : DemandParts) (demand : IsDemandOf p
         | inr has ↦ ((followed (record { site = o; node = n }) has).stored base s st.0.1 is.1).1
       ]
     ];
+    ahead = ahead_of_all p t d demand w.ahead ahead;
   }

@@ -3,6 +3,7 @@ pub mod Readings
 pub mod SameReading
 pub mod Meeting
 pub mod SamePairing
+pub mod Ahead
 pub mod Settled
 pub mod Fitting
 pub mod Resting

@@ -10,18 +10,14 @@ use Rattle.spds_rules.specs.declared.store.StoreAt.{StoreAt}
 use Rattle.spds_rules.specs.Nodes.{site_of}
 use Rattle.cert_lines.specs.declared.keys.Spot.{Spot}
 use Rattle.cert_work.specs.declared.wants.Wants.{Wants}
-use Rattle.cert_work.specs.Wants.{IsWanted}
+use Rattle.cert_work.specs.Wants.{IsEverywhere, IsWanted}
 use Rattle.cert_trace.specs.contracts.pairing.PairingPartialEq.TheImpl as pairing
 use Rattle.cert_trace.specs.declared.filing.Grounds.{Grounds}
 use Rattle.cert_trace.specs.declared.pairing.Pairing.{Pairing}
 
--- objects of the site are followed everywhere
-abbrev pub IsEverywhere : Wants → Site → Type 0
-IsEverywhere w o = Has w.sites.keys (record { site = o })
-
 -- the edge is found by where it leads
-abbrev pub IsBackFiled : Grouped Node Node → Edge → Type 0
-IsBackFiled files e = Has (found_at node.eq-value.it files e.to) e.from
+abbrev pub IsBackFiled : Grouped Node Edge → Edge → Type 0
+IsBackFiled files e = Has (found_at node.eq-value.it files e.to) e
 
 -- the store is found by the two
 abbrev pub IsStoreFiled : Grouped Pairing StoreAt → Site → Site → StoreAt → Type 0
@@ -33,6 +29,6 @@ IsSettled w files o base s = (IsEverywhere w o × IsWanted w base s.base) ⊎ ((
 
 -- an object that is followed at the place is followed wherever it may have come from
 pub record IsFollowedBack (w : Wants) (g : Grounds) (spot : Spot) : Type 0 where
-  pub back : (n : Node) → Has (found_at node.eq-value.it g.back spot.node) n → IsWanted w spot.site n
+  pub back : (e : Edge) → Has (found_at node.eq-value.it g.back spot.node) e → IsWanted w spot.site e.from
   pub stored : (base : Site) (s : StoreAt) → site_of spot.node ≡ Some base → IsStoreFiled g.stores spot.site base s
       → IsWanted w spot.site s.arg × IsWanted w base s.base

@@ -7,7 +7,7 @@ ghost use Rattle.spds_rules.specs.declared.node.Node.{Node as AnyNode};
 ghost use Rattle.spds_rules.specs.Answers.{IsAnswered};
 ghost use Rattle.spds_rules.specs.Demand.{Asked};
 ghost use Rattle.spds_solve.specs.Solved.{IsSolved};
-ghost use Rattle.cert_trace.specs.Settled.{IsEverywhere};
+ghost use Rattle.cert_work.specs.Wants.{IsEverywhere};
 
 use cert_lines::Origin;
 use cert_work::Wants;
@@ -38,6 +38,7 @@ fn want_if(
     ensures wanted { OnOk result ((p : LinkedProgram) (q : Asked) (d : DemandParts) (n : AnyNode) → IsSolved p q d solved.now → slice_get d.sites number ≡ Some site
         → slice_get d.nodes target ≡ Some n → IsAnswered p q n site → IsEverywhere wants.new site) }
     ensures kept { OnOk result ((o : AnySite) → IsEverywhere wants.old o → IsEverywhere wants.new o) }
+    ensures ahead { OnOk result (wants.new.ahead ≡ wants.old.ahead) }
 {
     if solved.holds(number, target) {
         wants.sites.add(Origin { site })?;
@@ -52,8 +53,9 @@ pub(crate) fn want_answered(
     wants: &mut Wants,
     target: u32,
 ) -> Result<(), NoMemory>
-    ensures { OnOk result ((p : LinkedProgram) (q : Asked) (n : AnyNode) → IsSolved p q demand.now solved.now → slice_get demand.now.nodes target ≡ Some n
+    ensures wanted { OnOk result ((p : LinkedProgram) (q : Asked) (n : AnyNode) → IsSolved p q demand.now solved.now → slice_get demand.now.nodes target ≡ Some n
         → (i : ℕ) (o : AnySite) → slice_get demand.now.sites i ≡ Some o → IsAnswered p q n o → IsEverywhere wants.new o) }
+    ensures ahead { OnOk result (wants.new.ahead ≡ wants.old.ahead) }
 {
     let sites = demand.sites();
     let mut number: u32 = 0;

@@ -21,20 +21,20 @@ use spds_rules::{Edge, Node, StoreAt};
 use spds_solve::Met;
 use std::alloc::Global;
 
-/// Where edges come from, by where they lead, and stores, by an object and one that it may be stored into.
+/// Edges by where they lead, and stores, by an object and one that it may be stored into.
 #[derive(Drop)]
 pub(crate) struct Grounds {
-    pub(crate) back: ByKey<Node, Node>,
+    pub(crate) back: ByKey<Node, Edge>,
     pub(crate) stores: ByKey<Pairing, StoreAt>,
 }
 
-/// Where the edges come from, by where they lead.
-pub(crate) fn file_back(alloc: Global, edges: &[Edge]) -> Result<ByKey<Node, Node>, NoMemory>
+/// The edges by where they lead.
+pub(crate) fn file_back(alloc: Global, edges: &[Edge]) -> Result<ByKey<Node, Edge>, NoMemory>
     ensures { IfOk result (λ files. (e : AnyEdge) → Has edges.now e → IsBackFiled files e) }
 {
     let mut files = ByKey::new(alloc);
     for edge in edges {
-        files.add(edge.to, edge.from)?;
+        files.add(edge.to, *edge)?;
     }
     Ok(files)
 }

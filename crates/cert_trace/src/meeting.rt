@@ -91,7 +91,7 @@ fn share(
         base: meeting.base,
         at: meeting.store.base,
     };
-    add(view, written, line, fact, 0)?;
+    add(view, written, line, &fact, 0)?;
     Ok(number_of(written, fact))
 }
 
@@ -116,7 +116,7 @@ fn met(
         base: meeting.base,
         store: meeting.store,
     };
-    add(view, written, line, fact, 0)
+    add(view, written, line, &fact, 0)
 }
 
 // From lines that read the string for both.

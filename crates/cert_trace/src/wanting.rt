@@ -2,7 +2,7 @@
 ghost use Rattle.std.specs.Prelude.{◌≡◌, IfOk, OnOk};
 ghost use Rattle.lists.specs.Lists.{Has};
 ghost use Rattle.link_rules.specs.Linked.{LinkedProgram};
-ghost use Rattle.spds_rules.specs.declared.node.Node.{Node as AnyNode};
+ghost use Rattle.spds_rules.specs.declared.edge.Edge.{Edge as AnyEdge};
 ghost use Rattle.spds_rules.specs.declared.store.StoreAt.{StoreAt as AnyStore};
 ghost use Rattle.spds_rules.specs.Systems.{Meets};
 ghost use Rattle.demand_set.specs.Demands.{IsDemandOf};
@@ -12,6 +12,7 @@ ghost use Rattle.cert_lines.specs.declared.keys.Spot.{Spot as AnySpot};
 ghost use Rattle.cert_work.specs.Wants.{AreWants, IsWanted, IsWider};
 ghost use Rattle.cert_trace.specs.Settled.{IsFollowedBack};
 
+use super::ahead::ahead_of;
 use super::answered::want_answered;
 use super::filing::{Grounds, file_back, file_mets};
 use super::pairing::Pairing;
@@ -21,17 +22,17 @@ use demand_set::Demand;
 use link_program::Linked;
 use link_sites::Site;
 use lists::NoMemory;
-use spds_rules::{Node, StoreAt, site_of};
+use spds_rules::{Edge, Node, StoreAt, site_of};
 use spds_solve::Solved;
 use std::alloc::Global;
 
-// Objects of the site are followed at the nodes.
-fn want_nodes(wants: &mut Wants, site: Site, nodes: &[Node]) -> Result<(), NoMemory>
-    ensures all { OnOk result ((n : AnyNode) → Has nodes.now n → IsWanted wants.new site n) }
+// Objects of the site are followed where the edges come from.
+fn want_sources(wants: &mut Wants, site: Site, edges: &[Edge]) -> Result<(), NoMemory>
+    ensures all { OnOk result ((e : AnyEdge) → Has edges.now e → IsWanted wants.new site e.from) }
     ensures wider { OnOk result (IsWider wants.old wants.new) }
 {
-    for node in nodes {
-        wants.add(site, *node)?;
+    for edge in edges {
+        wants.add(site, edge.from)?;
     }
     Ok(())
 }
@@ -62,7 +63,7 @@ fn want_back(wants: &mut Wants, grounds: &Grounds, spot: Spot) -> Result<(), NoM
     ensures back { OnOk result (IsFollowedBack wants.new grounds.now spot) }
     ensures wider { OnOk result (IsWider wants.old wants.new) }
 {
-    want_nodes(wants, spot.site, grounds.back.at(spot.node))?;
+    want_sources(wants, spot.site, grounds.back.at(spot.node))?;
     let Some(base) = site_of(spot.node) else {
         return Ok(());
     };
@@ -88,8 +89,9 @@ fn want_all(wants: &mut Wants, grounds: &Grounds) -> Result<(), NoMemory>
     Ok(())
 }
 
-/// Where objects have to be followed for the answers of a node: those of answered sites everywhere, and others back from the stores into them. Costs a
-/// look-up for each edge, each meet and each place at which they are followed.
+/// Where objects have to be followed for the answers of a node: those of answered sites everywhere, and others back from the stores into them, and both
+/// only where a load of the first field of their words lies ahead. Costs look-ups for each edge, each store, each meet and each place at which they are
+/// followed.
 pub(crate) fn wants_of(
     alloc: Global,
     linked: &Linked,
@@ -102,9 +104,10 @@ pub(crate) fn wants_of(
     ensures { IfOk result (λ wants. AreWants linked.now target wants (Meets linked.now (about target))) }
 {
     let number = demand.number_of(target).unwrap();
-    let mut wants = Wants::new(alloc);
-    want_answered(demand, solved, &mut wants, number)?;
     let back = file_back(alloc, demand.edges())?;
+    let ahead = ahead_of(alloc, demand, &back)?;
+    let mut wants = Wants::new(alloc, ahead);
+    want_answered(demand, solved, &mut wants, number)?;
     let stores = file_mets(alloc, demand, solved.meets(), &mut wants)?;
     let grounds = Grounds { back, stores };
     want_all(&mut wants, &grounds)?;

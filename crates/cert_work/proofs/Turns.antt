@@ -26,7 +26,7 @@ use Rattle.cert_work.specs.Added.{AreAdded}
 use Rattle.cert_work.specs.Held.{IsHeld}
 use Rattle.cert_work.specs.Roads.{IsEnd}
 use Rattle.cert_work.specs.Rules.{AreWorked, AreWorkedIfBest, IsAlongIfBest, IsFollowed, IsPoppedIfBest, IsPutIfBest}
-use Rattle.cert_work.specs.Wants.{IsWanted}
+use Rattle.cert_work.specs.Wants.{IsFollowedAt}
 use Rattle.cert_work.specs.Work.{AreStored, HasWord, IsAt, IsBelow, IsStored, IsTaker, IsWork, IsWorking, PutsAtEnd, spot_of, word_of}
 use Rattle.cert_work.proofs.Filing.{filed_if, filed_next, filed_same, le_next, no_at, no_below, no_stored, no_taker, not_along, not_linked, not_met, not_popped, not_put, worked_kept, worked_more, worked_next}
 use Rattle.cert_work.proofs.Growing.{many_more, second}
@@ -95,7 +95,7 @@ module _ (p : LinkedProgram) (t : Node) (wants : Wants) (old : Work) (is : IsWor
         let n : k.node ≡ h.node = cc in
         let one : k ≡ spot_of h = λ j. record { site = o j; node = n j } in one ∙ sym place_is
 
-    taken_one : (k : Word) (is : IsTaker p t wants new k num) → (is.edge.from ≡ h.node) × Takes h.side h.entry is.edge.kind × IsWanted wants h.site h.node
+    taken_one : (k : Word) (is : IsTaker p t wants new k num) → (is.edge.from ≡ h.node) × Takes h.side h.entry is.edge.kind × IsFollowedAt wants h.site h.entry h.node
     taken_one k is =
         let same = cites_one new.given num (At k.side k.site k.entry is.edge.from) (At h.side h.site h.entry h.node) is.put here in
         let s : k.side ≡ h.side = cc in
@@ -104,12 +104,13 @@ module _ (p : LinkedProgram) (t : Node) (wants : Wants) (old : Work) (is : IsWor
         let n : is.edge.from ≡ h.node = cc in
         let takes : Takes h.side h.entry is.edge.kind
         = subst (λ (y : Entry). Takes h.side y is.edge.kind) x (subst (λ (y : Side). Takes y k.entry is.edge.kind) s is.takes) in
-        let wanted : IsWanted wants h.site h.node
-        = subst (λ (y : Node). IsWanted wants h.site y) n (subst (λ (y : Site). IsWanted wants y is.edge.from) o is.wanted) in
+        let wanted : IsFollowedAt wants h.site h.entry h.node
+        = subst (λ (y : Node). IsFollowedAt wants h.site h.entry y) n
+        (subst (λ (y : Entry). IsFollowedAt wants h.site y is.edge.from) x (subst (λ (y : Site). IsFollowedAt wants y k.entry is.edge.from) o is.wanted)) in
         (n, takes, wanted)
 
     -- an edge takes the first letter off
-    pub takers_next : (takers : Grouped Word ℕ) → WordAdded old.takers key num takers → IsWanted wants h.site h.node → (f : Edge)
+    pub takers_next : (takers : Grouped Word ℕ) → WordAdded old.takers key num takers → IsFollowedAt wants h.site h.entry h.node → (f : Edge)
         → EdgeIn p (about t) f.from f.kind f.to → f.from ≡ h.node → Takes h.side h.entry f.kind → AreTakers num takers
     takers_next takers words wanted f edge from takes =
         let itself : IsTaker p t wants new (word_of h) num = record {
@@ -117,7 +118,7 @@ module _ (p : LinkedProgram) (t : Node) (wants : Wants) (old : Work) (is : IsWor
           edge_in = edge;
           takes = takes;
           put = subst (λ (n : Node). Cites new.given num (At h.side h.site h.entry n)) (sym from) here;
-          wanted = subst (λ (n : Node). IsWanted wants h.site n) (sym from) wanted;
+          wanted = subst (λ (n : Node). IsFollowedAt wants h.site h.entry n) (sym from) wanted;
         } in
         filed_next (λ (k : Word) (i : ℕ). Has (found_at word.eq-value.it old.takers k) i) (IsTaker p t wants old.written) (IsTaker p t wants new) old.done num e is.takers
         (λ k i below. taker_kept p t added wants k i) (λ k i below. taker_less p t added wants k i (omega (arith, below, is.within)))
@@ -129,7 +130,7 @@ module _ (p : LinkedProgram) (t : Node) (wants : Wants) (old : Work) (is : IsWor
     takers_other none = takers_same (λ k taker. let one = taken_one k taker in none taker.edge taker.edge_in one.0 one.1)
 
     -- the object isn't followed
-    pub takers_past : (IsWanted wants h.site h.node → ⊥) → AreTakers num old.takers
+    pub takers_past : (IsFollowedAt wants h.site h.entry h.node → ⊥) → AreTakers num old.takers
     takers_past unwanted = takers_same (λ k taker. let one = taken_one k taker in unwanted one.2)
 
     -- so it goes on by no letter that is taken off
@@ -142,7 +143,7 @@ module _ (p : LinkedProgram) (t : Node) (wants : Wants) (old : Work) (is : IsWor
         let n : f.from ≡ h.node = cc in
         absurd (none f edge n (subst (λ (z : Entry). Takes h.side z f.kind) y (subst (λ (z : Side). Takes z x f.kind) s takes)))
 
-    wanted_here : IsFollowed wants new num → IsWanted wants h.site h.node
+    wanted_here : IsFollowed wants new num → IsFollowedAt wants h.site h.entry h.node
     wanted_here followed = followed h.side h.site h.entry h.node here
 
     -- at an end the line is filed
@@ -158,9 +159,9 @@ module _ (p : LinkedProgram) (t : Node) (wants : Wants) (old : Work) (is : IsWor
 
     pub turn_at : {E : Type 0} → (E ↔ IsEnd p t h.node) → (takers : Grouped Word ℕ) (spots : Grouped Spot ℕ) → AreTakers num takers
         → SpotAddedIf E old.spots place num spots
-        → (IsWanted wants h.site h.node → (f : Edge) → EdgeIn p (about t) f.from f.kind f.to → IsAlongIfBest new num f)
-        → (IsWanted wants h.site h.node → (i : ℕ) → Has (found_at word.eq-value.it old.links key) i → (f : Edge) → EdgeIn p (about t) f.from f.kind f.to → IsPoppedIfBest new num i f)
-        → (IsWanted wants h.site h.node → (i : ℕ) → Has (found_at spot.eq-value.it old.mets place) i → (base : Site) (n : Node) → StartIn p (about t) base n → IsPutIfBest new num i base n)
+        → (IsFollowedAt wants h.site h.entry h.node → (f : Edge) → EdgeIn p (about t) f.from f.kind f.to → IsAlongIfBest new num f)
+        → (IsFollowedAt wants h.site h.entry h.node → (i : ℕ) → Has (found_at word.eq-value.it old.links key) i → (f : Edge) → EdgeIn p (about t) f.from f.kind f.to → IsPoppedIfBest new num i f)
+        → (IsFollowedAt wants h.site h.entry h.node → (i : ℕ) → Has (found_at spot.eq-value.it old.mets place) i → (base : Site) (n : Node) → StartIn p (about t) base n → IsPutIfBest new num i base n)
         → IsWorking p t wants (record { written = new; done = num; takers = takers; links = old.links; spots = spots; mets = old.mets })
     turn_at end takers spots words places along popped put = record {
       within = low;

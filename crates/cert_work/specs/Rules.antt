@@ -18,7 +18,7 @@ use Rattle.cert_rules.specs.Given.{Cites, Takes, about}
 use Rattle.cert_rules.specs.Lengths.{cited_length}
 use Rattle.cert_lines.specs.Noted.{IsBettered, IsThere, Noted}
 use Rattle.cert_work.specs.declared.wants.Wants.{Wants}
-use Rattle.cert_work.specs.Wants.{IsWanted}
+use Rattle.cert_work.specs.Wants.{IsFollowedAt}
 
 -- one rule more than so many: in the system of calls none is counted
 abbrev pub one_more : Side → ℕ → ℕ
@@ -77,7 +77,7 @@ IsPutIfBest w i met base n = (side : Side) (o : Site) (x : Entry) (s : StoreAt) 
 
 -- if the line put an object somewhere, it is followed there
 abbrev pub IsFollowed : Wants → Noted → ℕ → Type 0
-IsFollowed wants w i = (side : Side) (o : Site) (x : Entry) (n : Node) → Cites w.given i (At side o x n) → IsWanted wants o n
+IsFollowed wants w i = (side : Side) (o : Site) (x : Entry) (n : Node) → Cites w.given i (At side o x n) → IsFollowedAt wants o x n
 
 -- what the rules give of the lines up to the number is there, as far as objects are followed
 pub record AreWorked (p : LinkedProgram) (t : Node) (wants : Wants) (w : Noted) (done : ℕ) : Type 0 where

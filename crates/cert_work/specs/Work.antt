@@ -23,7 +23,7 @@ use Rattle.cert_work.specs.declared.wants.Wants.{Wants}
 use Rattle.cert_work.specs.declared.work.Work.{Work}
 use Rattle.cert_work.specs.Roads.{IsEnd}
 use Rattle.cert_work.specs.Rules.{AreWorked, AreWorkedIfBest}
-use Rattle.cert_work.specs.Wants.{IsWanted}
+use Rattle.cert_work.specs.Wants.{IsFollowedAt}
 
 -- the words under which it is there
 abbrev pub word_of : Held → Word
@@ -60,7 +60,7 @@ pub record IsTaker (p : LinkedProgram) (t : Node) (wants : Wants) (w : Noted) (k
   pub edge_in : EdgeIn p (about t) edge.from edge.kind edge.to
   pub takes : Takes k.side k.entry edge.kind
   pub put : Cites w.given i (At k.side k.site k.entry edge.from)
-  pub wanted : IsWanted wants k.site edge.from
+  pub wanted : IsFollowedAt wants k.site k.entry edge.from
 
 -- the lines that were gone through, by what they are looked for by
 pub record AreFiled (w : Noted) (k : Work) : Type 0 where

@@ -12,7 +12,7 @@ ghost use Rattle.cert_work.specs.Held.{IsHeld};
 ghost use Rattle.cert_work.specs.Roads.{AreAddedIn, AreEdgesAt, EdgeOf};
 ghost use Rattle.cert_work.specs.Rules.{GoesOn, IsAlong, one_more};
 
-use super::adding::add;
+use super::adding::{add, add_known};
 use super::held::{Held, one_more};
 use super::roads::View;
 use cert_lines::Written;
@@ -21,7 +21,7 @@ use link_sites::Place;
 use lists::NoMemory;
 use spds_rules::{Edge, EdgeKind};
 
-// Goes on under the same words.
+// Goes on under the same words. Most lines come so.
 fn flow(view: &View<'_>, written: &mut Written, held: &Held, edge: &Edge) -> Result<(), NoMemory>
     requires held { IsHeld written.old held.now }
     requires edge { EdgeOf view.now edge.now }
@@ -35,13 +35,11 @@ fn flow(view: &View<'_>, written: &mut Written, held: &Held, edge: &Edge) -> Res
         from: held.number,
         node: edge.to,
     };
-    let fact = Fact::At {
-        side: held.side,
-        site: held.site,
-        entry: held.entry,
-        node: edge.to,
-    };
-    add(view, written, line, fact, one_more(held.side, held.length))?;
+    // Each line has a length.
+    let _count = written.len();
+    let known = written.known(held.number - 1).at(edge.to);
+    let length = one_more(held.side, held.length);
+    add_known(view, written, line, known, length)?;
     Ok(())
 }
 
@@ -65,7 +63,7 @@ fn jump(view: &View<'_>, written: &mut Written, held: &Held, edge: &Edge) -> Res
         entry: Entry::Base,
         node: edge.to,
     };
-    add(view, written, line, fact, 0)
+    add(view, written, line, &fact, 0)
 }
 
 // Comes back from a method in which it may be under each call string.
@@ -95,7 +93,7 @@ fn return_base(
         entry: Entry::Base,
         node: edge.to,
     };
-    add(view, written, line, fact, 0)
+    add(view, written, line, &fact, 0)
 }
 
 // Is passed into a call.
@@ -127,7 +125,7 @@ fn pass(
         },
         node: edge.to,
     };
-    add(view, written, line, fact, 0)
+    add(view, written, line, &fact, 0)
 }
 
 // What then stands below the call.
@@ -159,7 +157,7 @@ fn link(
         },
         below: held.entry,
     };
-    add(view, written, line, fact, 0)
+    add(view, written, line, &fact, 0)
 }
 
 // Is passed into a call, and what then stands below it.

@@ -122,7 +122,7 @@ pub(crate) fn held_under(written: &Written, number: u32, word: Word) -> Held
 {
     let _count = written.len();
     let length = written.length(number - 1);
-    match written.fact(number - 1) {
+    match *written.fact(number - 1) {
         Fact::At { node, .. } => Held {
             number,
             side: word.side,
@@ -144,7 +144,7 @@ pub(crate) fn held_at(written: &Written, number: u32, spot: Spot) -> Held
 {
     let _count = written.len();
     let length = written.length(number - 1);
-    match written.fact(number - 1) {
+    match *written.fact(number - 1) {
         Fact::At { side, entry, .. } => Held {
             number,
             side,
@@ -166,7 +166,7 @@ pub(crate) fn below_under(written: &Written, number: u32, word: Word) -> Below
 {
     let _count = written.len();
     let length = written.length(number - 1);
-    match written.fact(number - 1) {
+    match *written.fact(number - 1) {
         Fact::Link { below, .. } => Below {
             number,
             entry: below,
@@ -184,7 +184,7 @@ pub(crate) fn meeting_at(written: &Written, number: u32, spot: Spot) -> Meeting
     ensures number { result.number ≡ number }
 {
     let _count = written.len();
-    match written.fact(number - 1) {
+    match *written.fact(number - 1) {
         Fact::Met { base, store, .. } => Meeting {
             number,
             base,

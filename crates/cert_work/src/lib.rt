@@ -15,5 +15,5 @@ mod work;
 pub use adding::{add, number_of};
 pub use roads::{Roads, View};
 pub use starts::start_all;
-pub use wants::Wants;
+pub use wants::{Ahead, Wants};
 pub use work::{Work, nothing, work_off};

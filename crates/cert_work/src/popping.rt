@@ -57,7 +57,7 @@ fn pop(
         node: edge.to,
     };
     let length = one_more(held.side, held.length.saturating_add(below.length));
-    add(view, written, line, fact, length)?;
+    add(view, written, line, &fact, length)?;
     Ok(())
 }
 

@@ -48,7 +48,7 @@ fn push(
         },
         node: start,
     };
-    add(view, written, line, fact, 0)
+    add(view, written, line, &fact, 0)
 }
 
 // What then stands below the field.
@@ -84,7 +84,7 @@ fn link(
         view,
         written,
         line,
-        fact,
+        &fact,
         one_more(Side::Field, held.length),
     )?;
     Ok(())
@@ -116,7 +116,7 @@ fn put_calls(
         entry: Entry::Base,
         node: start,
     };
-    add(view, written, line, fact, 0)
+    add(view, written, line, &fact, 0)
 }
 
 // The field is pushed, and what then stands below it.

@@ -40,7 +40,7 @@ fn start_line(
         entry: Entry::Base,
         node,
     };
-    add(view, written, line, fact, 0)
+    add(view, written, line, &fact, 0)
 }
 
 // In both systems.

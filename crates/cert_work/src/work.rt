@@ -1,5 +1,5 @@
 //! Lines and how far they were gone through.
-ghost use Rattle.std.specs.Prelude.{◌≡◌, ◌↔◌, ◌⊎◌, ◌+◌, ◌<◌, ◌≤◌, ℕ, [], length, IsTrue, OnOk};
+ghost use Rattle.std.specs.Prelude.{◌≡◌, ◌↔◌, ◌⊎◌, ◌+◌, ◌<◌, ◌≤◌, ℕ, [], length, IfSome, IsTrue, OnOk};
 ghost use Rattle.lists.specs.Groups.{found_at};
 ghost use Rattle.lists.specs.Lists.{Has};
 ghost use Rattle.link_sites.specs.declared.site.Site.{Site as AnySite};
@@ -13,7 +13,7 @@ ghost use Rattle.cert_rules.specs.Lengths.{cited_length};
 ghost use Rattle.cert_work.specs.Held.{IsHeld};
 ghost use Rattle.cert_work.specs.Roads.{AreAddedIn, AreEdgesAt, EdgeOf, EndOf, IsView, StartOf};
 ghost use Rattle.cert_work.specs.Rules.{IsAlongIfBest, IsPoppedIfBest, IsPutIfBest};
-ghost use Rattle.cert_work.specs.Wants.{IsWanted};
+ghost use Rattle.cert_work.specs.Wants.{IsEverywhere, IsFollowedAt};
 ghost use Rattle.cert_work.specs.Work.{AreFiled, IsAt, IsBelow, IsStored, IsWorkOf, IsWorkingOf, TellsAt, spot_of, word_of};
 
 use super::along::along_all;
@@ -23,6 +23,7 @@ use super::popping::is_taken;
 use super::roads::View;
 use cert_lines::{Spot, Word, Written};
 use cert_rules::{Entry, Fact};
+use link_sites::Site;
 use lists::{ByKey, NoMemory};
 use spds_rules::Edge;
 use std::alloc::Global;
@@ -141,7 +142,7 @@ fn work_taker(
     requires held { IsHeld work.old.written held.now }
     requires number { held.now.number ≡ work.old.done + 1 }
     requires edges { AreEdgesAt view.now held.now.node edges.now }
-    requires wanted { IsWanted view.now.wants.now held.now.site held.now.node }
+    requires wanted { IsFollowedAt view.now.wants.now held.now.site held.now.entry held.now.node }
     requires taken { (e : AnyEdge) × Has edges.now e × Takes held.now.side held.now.entry e.kind }
     requires end { IsTrue at_end ↔ EndOf view.now held.now.node }
     ensures added { OnOk result (AreAddedIn view.now work.old.written work.new.written) }
@@ -191,7 +192,7 @@ fn work_past(view: &View<'_>, work: &mut Work, held: &Held, at_end: bool) -> Res
     requires work { IsWorkingOf view.now work.old }
     requires held { IsHeld work.old.written held.now }
     requires number { held.now.number ≡ work.old.done + 1 }
-    requires unwanted { IsWanted view.now.wants.now held.now.site held.now.node → ⊥ }
+    requires unwanted { IsFollowedAt view.now.wants.now held.now.site held.now.entry held.now.node → ⊥ }
     requires end { IsTrue at_end ↔ EndOf view.now held.now.node }
     ensures added { OnOk result (AreAddedIn view.now work.old.written work.new.written) }
     ensures work { OnOk result (IsWorkingOf view.now work.new) }
@@ -203,17 +204,24 @@ fn work_past(view: &View<'_>, work: &mut Work, held: &Held, at_end: bool) -> Res
 }
 
 // Goes through a line that put an object somewhere.
-fn work_at(view: &View<'_>, work: &mut Work, held: &Held) -> Result<(), NoMemory>
+fn work_at(
+    view: &View<'_>,
+    work: &mut Work,
+    held: &Held,
+    last: &mut Option<Site>,
+) -> Result<(), NoMemory>
     requires view { IsView view.now }
     requires work { IsWorkingOf view.now work.old }
     requires held { IsHeld work.old.written held.now }
     requires number { held.now.number ≡ work.old.done + 1 }
+    requires last { IfSome last.old (IsEverywhere view.now.wants.now) }
     ensures added { OnOk result (AreAddedIn view.now work.old.written work.new.written) }
     ensures work { OnOk result (IsWorkingOf view.now work.new) }
     ensures done { OnOk result (work.new.done ≡ work.old.done + 1) }
+    ensures last { IfSome last.new (IsEverywhere view.now.wants.now) }
 {
     let at_end = view.is_end(held.node);
-    if !view.wants.has(held.site, held.node) {
+    if !view.wants.follows(last, held.site, &held.entry, held.node) {
         return work_past(view, work, held, at_end);
     }
     let edges = view.edges(held.node);
@@ -260,19 +268,21 @@ fn work_met(view: &View<'_>, work: &mut Work, spot: Spot, meeting: &Meeting) -> 
     Ok(())
 }
 
-// Goes through the next line.
-fn work_next(view: &View<'_>, work: &mut Work) -> Result<(), NoMemory>
+// Goes through the next line. What is kept is a site whose objects are followed everywhere, where one was found.
+fn work_next(view: &View<'_>, work: &mut Work, last: &mut Option<Site>) -> Result<(), NoMemory>
     requires view { IsView view.now }
     requires work { IsWorkingOf view.now work.old }
     requires more { work.old.done < length work.old.written.given }
+    requires last { IfSome last.old (IsEverywhere view.now.wants.now) }
     ensures added { OnOk result (AreAddedIn view.now work.old.written work.new.written) }
     ensures work { OnOk result (IsWorkingOf view.now work.new) }
     ensures done { OnOk result (work.new.done ≡ work.old.done + 1) }
+    ensures last { IfSome last.new (IsEverywhere view.now.wants.now) }
 {
     let _count = work.written.len();
     let number = work.done + 1;
     let length = work.written.length(work.done);
-    match work.written.fact(work.done) {
+    match *work.written.fact(work.done) {
         Fact::At {
             side,
             site,
@@ -280,7 +290,7 @@ fn work_next(view: &View<'_>, work: &mut Work) -> Result<(), NoMemory>
             node,
         } => {
             let word = Word { side, site, entry };
-            work_at(view, work, &Held::new(number, word, node, length))
+            work_at(view, work, &Held::new(number, word, node, length), last)
         }
         Fact::Link {
             side,
@@ -314,8 +324,9 @@ pub fn work_off(view: &View<'_>, work: &mut Work) -> Result<(), NoMemory>
     ensures work { OnOk result (IsWorkOf view.now work.new) }
     ensures all { OnOk result (work.new.done ≡ length work.new.written.given) }
 {
+    let mut last = None;
     while work.done < work.written.len() {
-        work_next(view, work)?;
+        work_next(view, work, &mut last)?;
     }
     Ok(())
 }

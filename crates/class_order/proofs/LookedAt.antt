@@ -2,10 +2,11 @@
 use Rattle.std.proofs.Common.{◌≡◌, ℕ, ◌+◌, ◌<◌, ◌≤◌, ◌⊎◌, ◌↔◌, Some, List, [], length, slice_get, ap, subst, ◌∙◌, inl, inr, arith}
 use Rattle.std.specs.List.{Contains}
 use Rattle.std.proofs.lemmas.Option.{slice_get-get_or, slice_get_within}
-use Rattle.class_order.specs.Paths.{Path, ProperPath, here, step}
+use Rattle.class_rules.specs.Paths.{Path, ProperPath, here, step}
 use Rattle.lists.specs.Lists.{IsLeast}
 use Rattle.class_order.specs.Tables.{IsDepthFirst, IsOver, Under}
-use Rattle.class_order.proofs.Listed.{Contains-nil, group-past}
+use Rattle.class_order.proofs.Listed.{group-past}
+use Rattle.lists.proofs.Elements.{Contains-nil}
 use Rattle.class_order.proofs.Placed.{taken_at, Contains-taken}
 use Rattle.class_order.proofs.Reached.{path_push, proper_map, proper_last, proper_push}
 

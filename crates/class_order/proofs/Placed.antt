@@ -5,7 +5,8 @@ use Rattle.std.proofs.lemmas.Bool.{cases_eq}
 use Rattle.std.proofs.lemmas.List.{get_or-take, length-take-le}
 use Rattle.std.proofs.lemmas.Option.{slice_get-get_or, slice_get_within, get_or_from_slice_get}
 use Rattle.class_order.specs.Tables.{Under, IsSettled, IsFinishing, ArePlaces}
-use Rattle.class_order.proofs.Listed.{Contains-at, Contains-nil, group-past}
+use Rattle.class_order.proofs.Listed.{group-past}
+use Rattle.lists.proofs.Elements.{Contains-at, Contains-nil}
 use Rattle.class_order.proofs.Searches.{settled_bound}
 
 -- where an element of the first i stands

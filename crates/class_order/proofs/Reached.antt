@@ -5,10 +5,11 @@ use Rattle.std.proofs.lemmas.List.{length-replicate}
 use Rattle.std.proofs.lemmas.Option.{slice_get-get_or, slice_get_within}
 use Rattle.class_order.specs.declared.spans.Span.{Span}
 use Rattle.class_order.specs.Groups.{group}
-use Rattle.class_order.specs.Paths.{Path, ProperPath, here, step}
+use Rattle.class_rules.specs.Paths.{Path, ProperPath, here, step}
 use Rattle.class_order.specs.Spans.{AreApart, Holds, HoldsAny}
 use Rattle.class_order.specs.Tables.{Under, IsFinishing, HavePlaces, IsReach}
-use Rattle.class_order.proofs.Listed.{Contains-at, Contains-nil, Contains-take_more, Contains-take_kept, Contains-take_last, group-replicate}
+use Rattle.class_order.proofs.Listed.{group-replicate}
+use Rattle.lists.proofs.Elements.{Contains-at, Contains-nil, Contains-take_more, Contains-take_kept, Contains-take_last}
 use Rattle.class_order.proofs.Placed.{taken_at}
 use Rattle.class_order.proofs.Spanned.{apart_none, holds_none, holds_left, holds_right, holds_cases, holds_push, holds_push_cases}
 

@@ -15,9 +15,10 @@ use Rattle.class_order.specs.declared.finish.Stage.{Stage}
 use Rattle.class_order.specs.declared.finish.Stage.TheVariants.{New, Open, Done}
 use Rattle.class_order.specs.declared.finish.Visit.{Visit}
 use Rattle.class_order.specs.Groups.{group}
-use Rattle.class_order.specs.Paths.{Path, here, step, ProperPath}
+use Rattle.class_rules.specs.Paths.{Path, here, step, ProperPath}
 use Rattle.class_order.specs.Tables.{IsFinishing, Under, IsDepthFirst, IsSettled, IsSearch, IsStraight, HasBegun}
-use Rattle.class_order.proofs.Listed.{Contains-nil, slice_get-kept, slice_get-push, slice_get-push_cases, slice_get-set_same, slice_get-set_other, slice_get-take_push, same_read}
+use Rattle.lists.proofs.Elements.{Contains-nil, slice_get-push_cases, slice_get-take_push, same_read}
+use Rattle.lists.proofs.Places.{slice_get-append_left, slice_get-push, slice_get-set_same, slice_get-set_other}
 
 -- ---- how many classes are new
 
@@ -143,7 +144,7 @@ module _ (below : List (List ℕ)) (stages : List Stage) (order : List ℕ) wher
     ordered = λ b m. let d = s.ordered b m in slice_get-set_other stages c b Open (λ at. let f = ap (slice_get stages) at in cc) ∙ d;
     under_way = λ b e. elim (cases_eq b c) [
       | inl at ↦ (length path, visit, slice_get-push path visit, sym at)
-      | inr apart ↦ let p = s.under_way b (sym (slice_get-set_other stages c b Open apart) ∙ e) in (p.0, p.1, slice_get-kept path _ p.0 p.1 p.2, p.3)
+      | inr apart ↦ let p = s.under_way b (sym (slice_get-set_other stages c b Open apart) ∙ e) in (p.0, p.1, slice_get-append_left path _ p.0 p.1 p.2, p.3)
     ];
     opened = λ k v e. elim (slice_get-push_cases path visit v k e) [
       | inl old ↦ slice_get-set_other stages c v.class Open (λ at. (not_on_path path s k v old).0 (ap (slice_get stages) at ∙ new)) ∙ s.opened k v old
@@ -206,17 +207,17 @@ module _ (below : List (List ℕ)) (stages : List Stage) (order : List ℕ) wher
     done = s.done;
     ordered = s.ordered;
     under_way = λ b e. let p = s.under_way b e in elim (slice_get-push_cases path v p.1 p.0 p.2) [
-      | inl old ↦ (p.0, p.1, slice_get-kept path _ p.0 p.1 old, p.3)
+      | inl old ↦ (p.0, p.1, slice_get-append_left path _ p.0 p.1 old, p.3)
       | inr last ↦ (length path, visit, slice_get-push path visit, ap (λ (w : Visit). w.class) last.1 ∙ p.3)
     ];
     opened = λ k w e. let o = old_of k w e in subst (λ x. slice_get stages x ≡ Some Open) o.2 (s.opened k o.0 o.1);
     apart = λ j k u w lt e f at. let a = old_of j u e in let b = old_of k w f in s.apart j k a.0 b.0 lt a.1 b.1 (a.2 ∙ at ∙ sym b.2);
     skipped = λ k j w e lt. elim (slice_get-push_cases path visit w k e) [
-      | inl old ↦ s.skipped k j w (slice_get-kept path _ k w old) lt
+      | inl old ↦ s.skipped k j w (slice_get-append_left path _ k w old) lt
       | inr last ↦ subst (λ (u : Visit). slice_get stages (get_or (group below u.class) j 0) ≡ Some New → ⊥) last.1 (skipped j (omega (arith, lt, ap (λ (u : Visit). u.next) last.1)))
     ];
     counted = λ k w e. elim (slice_get-push_cases path visit w k e) [
-      | inl old ↦ s.counted k w (slice_get-kept path _ k w old)
+      | inl old ↦ s.counted k w (slice_get-append_left path _ k w old)
       | inr last ↦ subst (λ (u : Visit). u.next ≤ length (group below u.class)) last.1 within
     ];
     linked = λ k u w e f. let a = old_of k u e in let b = old_of (k + 1) w f in subst (λ x. Under below x u.class) b.2 (subst (Under below b.0.class) a.2 (s.linked k a.0 b.0 a.1 b.1));
@@ -227,7 +228,7 @@ module _ (below : List (List ℕ)) (stages : List Stage) (order : List ℕ) wher
 
       old_of : (k : ℕ) (w : Visit) → slice_get (path ++ visit ∷ []) k ≡ Some w → (u : Visit) × (slice_get (path ++ v ∷ []) k ≡ Some u) × (u.class ≡ w.class)
       old_of k w e = elim (slice_get-push_cases path visit w k e) [
-        | inl old ↦ (w, slice_get-kept path _ k w old, refl)
+        | inl old ↦ (w, slice_get-append_left path _ k w old, refl)
         | inr last ↦ (v, ap (slice_get (path ++ v ∷ [])) last.0 ∙ slice_get-push path v, ap (λ (u : Visit). u.class) last.1)
       ]
 
@@ -349,7 +350,7 @@ module _ (below : List (List ℕ)) (stages : List Stage) (order : List ℕ) wher
       ]
 
       kept : (k : ℕ) (w : Visit) → slice_get path k ≡ Some w → slice_get (path ++ v ∷ []) k ≡ Some w
-      kept k w e = slice_get-kept path _ k w e
+      kept k w e = slice_get-append_left path _ k w e
 
   -- the last class of the path is known
   pub search_last : (path : List Visit) (v : Visit) → IsSearch below stages order (path ++ v ∷ []) → (v.class < length stages) × (v.class < length below) × (v.next ≤ length (group below v.class))

@@ -9,7 +9,7 @@ use Rattle.std.proofs.lemmas.List.Elements.{Contains-push, Contains-push_cases, 
 use Rattle.std.proofs.lemmas.List.Sorted.{Contains-permutation, IsPermutation-sym}
 use Rattle.class_order.specs.declared.spans.Span.{Span}
 use Rattle.class_order.specs.Spans.{AreApart, AreFilled, Holds}
-use Rattle.class_order.proofs.Listed.{Contains-at, Contains-nil, Contains-take_more, same_read}
+use Rattle.lists.proofs.Elements.{Contains-at, Contains-nil, Contains-take_more, same_read}
 
 pub holds_none : (p : ℕ) → Holds [] p → ⊥
 holds_none p h = Contains-nil h.0 h.1

@@ -13,10 +13,10 @@ use Rattle.std.proofs.lemmas.Map.Steps.{length-le_from_distinct_below}
 use Rattle.std.proofs.lemmas.Option.{slice_get-get_or, slice_get_within}
 use Rattle.indexmap.specs.IndexSet.{insert_key}
 use Rattle.class_order.specs.Groups.{group}
-use Rattle.class_order.specs.Paths.{Path, here, step, ProperPath}
+use Rattle.class_rules.specs.Paths.{Path, here, step, ProperPath}
 use Rattle.class_order.specs.Tables.{HasReached, IsWithin, Under, Visits}
 use Rattle.class_order.proofs.Reached.{proper_last, proper_push}
-use Rattle.class_order.proofs.Listed.{Contains-nil, Contains-at, Contains-take_more, Contains-take_kept, Contains-take_last, slice_get-append_below}
+use Rattle.lists.proofs.Elements.{Contains-nil, Contains-at, Contains-take_more, Contains-take_kept, Contains-take_last, slice_get-append_below}
 
 pub visits_none : (reached : List ℕ) → Visits [] reached reached
 visits_none reached = record { added = []; grown = sym (append-nil reached); visited = λ c h. absurd (Contains-nil c h); only = λ c h. inl h }

@@ -1,4 +1,3 @@
 pub mod Groups
-pub mod Paths
 pub mod Spans
 pub mod Tables

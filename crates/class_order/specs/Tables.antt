@@ -5,7 +5,7 @@ use Rattle.class_order.specs.declared.finish.Stage.TheVariants.{New, Open, Done}
 use Rattle.class_order.specs.declared.finish.Visit.{Visit}
 use Rattle.class_order.specs.declared.spans.Span.{Span}
 use Rattle.class_order.specs.Groups.{group}
-use Rattle.class_order.specs.Paths.{Path, ProperPath}
+use Rattle.class_rules.specs.Paths.{Path, ProperPath}
 use Rattle.class_order.specs.Spans.{AreApart, Holds}
 
 -- e stands in the list of d: e is one step below d

@@ -1,6 +1,6 @@
 ghost use Rattle.std.specs.Prelude.{◌≡◌, ℕ, ◌^◌, ◌<◌, ◌↔◌, ◌⊎◌, length, Contains, IfOk, OnOk, nat_eq};
 ghost use Rattle.indexmap.specs.IndexSet.{IsUnique};
-ghost use Rattle.class_order.specs.Paths.{ProperPath};
+ghost use Rattle.class_rules.specs.Paths.{ProperPath};
 ghost use Rattle.lists.specs.Lists.{IsLeast};
 ghost use Rattle.class_order.specs.Tables.{IsDepthFirst, IsOver, IsWithin, Under};
 

@@ -1,6 +1,6 @@
 ghost use Rattle.std.specs.Prelude.{◌≡◌, ℕ, ◌+◌, ◌^◌, ◌<◌, ◌≤◌, [], false, length, All, Contains, IfOk, IsTrue, MatchBool, slice_get, slice_index, Some};
 ghost use Rattle.class_order.specs.Groups.{group};
-ghost use Rattle.class_order.specs.Paths.{ProperPath};
+ghost use Rattle.class_rules.specs.Paths.{ProperPath};
 ghost use Rattle.class_order.specs.Tables.{HasBegun, IsDepthFirst, IsFinishing, IsSearch, IsStraight, IsWithin, Under};
 
 use super::groups::Groups;

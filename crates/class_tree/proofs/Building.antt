@@ -7,22 +7,22 @@ use Rattle.std.proofs.lemmas.List.Elements.{All-contains}
 use Rattle.std.proofs.lemmas.Option.{slice_get-get_or}
 use Rattle.class_tree.specs.declared.first_rows.Member.{Member}
 use Rattle.class_tree.specs.declared.key_spans.KeySpans.{KeySpans}
-use Rattle.class_tree.specs.declared.rows.ClassRow.{ClassRow}
-use Rattle.class_tree.specs.declared.rows.MethodRow.{MethodRow}
-use Rattle.class_tree.specs.declared.rows.FieldRow.{FieldRow}
+use Rattle.class_rules.specs.declared.rows.ClassRow.{ClassRow}
+use Rattle.class_rules.specs.declared.rows.MethodRow.{MethodRow}
+use Rattle.class_rules.specs.declared.rows.FieldRow.{FieldRow}
 use Rattle.class_order.specs.declared.spans.Span.{Span}
 use Rattle.class_order.specs.Groups.{group}
 use Rattle.class_tree.specs.Indexed.{HasFieldNear, TellsOf}
 use Rattle.class_tree.specs.KeySpans.{IsKeyed, member_of_method, member_of_field}
-use Rattle.class_tree.specs.Lookups.{own_field, Declared}
-use Rattle.class_order.specs.Paths.{Path, here, step, ProperPath}
+use Rattle.class_rules.specs.Lookups.{own_field, Declared}
+use Rattle.class_rules.specs.Paths.{Path, here, step, ProperPath}
 use Rattle.lists.specs.Lists.{IsLeast}
-use Rattle.class_tree.specs.Rows.{Rows, HasInterface, NamesUnknown, NameClasses, Step}
+use Rattle.class_rules.specs.Rows.{Rows, HasInterface, NamesUnknown, NameClasses, Step}
 use Rattle.class_order.specs.Spans.{Holds}
 use Rattle.class_order.specs.Tables.{Under, IsFinishing, IsReach}
-use Rattle.class_order.proofs.Listed.{Contains-at}
+use Rattle.lists.proofs.Elements.{Contains-at}
 use Rattle.class_order.proofs.Reached.{path_map}
-use Rattle.class_tree.proofs.Parents.{parent-below}
+use Rattle.class_rules.proofs.Parents.{parent-below}
 use Rattle.class_order.proofs.Positions.{found_at, found_from}
 
 -- ---- the steps of the rows

@@ -7,18 +7,18 @@ use Rattle.std.proofs.lemmas.List.Elements.{Contains-push, Contains-push_cases, 
 use Rattle.std.proofs.lemmas.Option.{slice_get-get_or, get_or_from_slice_get}
 use Rattle.class_tree.specs.declared.first_rows.Member.{Member}
 use Rattle.class_tree.specs.declared.holders.Holders.{Holders}
-use Rattle.class_tree.specs.declared.rows.ClassRow.{ClassRow}
-use Rattle.class_tree.specs.declared.rows.MethodRow.{MethodRow}
+use Rattle.class_rules.specs.declared.rows.ClassRow.{ClassRow}
+use Rattle.class_rules.specs.declared.rows.MethodRow.{MethodRow}
 use Rattle.class_tree.specs.Holders.{AreHolders, IsInterface, holders_of}
 use Rattle.class_tree.specs.Indexed.{HoldsMethod}
 use Rattle.class_tree.specs.KeySpans.{AreClassesByKey, list_at, member_of_method}
-use Rattle.class_tree.specs.Lookups.{own_row}
-use Rattle.class_tree.specs.Rows.{Rows}
+use Rattle.class_rules.specs.Lookups.{own_row}
+use Rattle.class_rules.specs.Rows.{Rows}
 use Rattle.class_tree.proofs.Building.{Contains-map, Contains-mapped}
 use Rattle.class_tree.proofs.KeyLists.{key_found, key_same}
-use Rattle.class_order.proofs.Listed.{Contains-nil, Contains-take_more, Contains-take_kept, Contains-take_last}
+use Rattle.lists.proofs.Elements.{Contains-nil, Contains-take_more, Contains-take_kept, Contains-take_last}
 use Rattle.class_order.proofs.Positions.{found_from}
-use Rattle.class_tree.proofs.Selected.{owned_row}
+use Rattle.class_rules.proofs.Selected.{owned_row}
 
 -- ---- interfaces
 

@@ -14,7 +14,8 @@ use Rattle.class_order.specs.declared.spans.Span.{Span}
 use Rattle.class_order.specs.Groups.{group}
 use Rattle.class_tree.specs.KeySpans.{AreClassesByKey, HoldsKey, list_at}
 use Rattle.class_order.specs.Spans.{AreApart, Holds, HoldsAny}
-use Rattle.class_order.proofs.Listed.{Contains-nil, Contains-take_more, Contains-take_kept, Contains-take_last, Under-push, Under-kept, Under-pushed, group-replicate}
+use Rattle.class_order.proofs.Listed.{Under-push, Under-kept, Under-pushed, group-replicate}
+use Rattle.lists.proofs.Elements.{Contains-nil, Contains-take_more, Contains-take_kept, Contains-take_last}
 use Rattle.class_order.proofs.Positions.{found_from}
 use Rattle.class_order.proofs.Spanned.{apart_none, holds_none}
 

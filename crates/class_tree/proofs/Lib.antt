@@ -1,15 +1,10 @@
-pub mod Parents
 pub mod RowLists
 pub mod StepLists
 pub mod KeyLists
-pub mod OrderFacts
 pub mod TreeFacts
 pub mod Building
-pub mod LawFacts
 pub mod Turning
 pub mod Walking
 pub mod Slots
-pub mod Selected
 pub mod Held
 pub mod Lowest
-pub mod Decided

@@ -6,18 +6,18 @@ use Rattle.std.proofs.lemmas.Bool.{cases_eq}
 use Rattle.std.proofs.lemmas.List.Elements.{Contains-get_or}
 use Rattle.std.proofs.lemmas.Option.{slice_get_within, slice_get-get_or, get_or_from_slice_get}
 use Rattle.class_tree.specs.declared.holders.Holders.{Holders}
-use Rattle.class_tree.specs.Bodies.{has_body}
-use Rattle.class_tree.specs.declared.rows.MethodRow.{MethodRow}
+use Rattle.class_rules.specs.Bodies.{has_body}
+use Rattle.class_rules.specs.declared.rows.MethodRow.{MethodRow}
 use Rattle.class_tree.specs.declared.tree.Defaults.{Defaults}
 use Rattle.class_tree.specs.declared.tree.Defaults.TheVariants.{Nothing, One, Several}
 use Rattle.class_tree.specs.Defaults.{AreDefaults, HasTwo, IsDefaultFrom}
 use Rattle.class_tree.specs.Holders.{holders_of}
 use Rattle.class_tree.specs.Indexed.{AreReached, HoldsMethod}
-use Rattle.class_tree.specs.Lookups.{IsAmbiguous, IsDefault, IsHolder, IsLowestHolder, OnPath, Resolve, ambiguous, by_default, nowhere, own_row}
-use Rattle.class_tree.specs.Rows.{Rows, Sub}
-use Rattle.class_tree.proofs.LawFacts.{path_one}
-use Rattle.class_order.proofs.Listed.{Contains-nil}
-use Rattle.class_tree.proofs.Selected.{owned_row}
+use Rattle.class_rules.specs.Lookups.{IsAmbiguous, IsDefault, IsHolder, IsLowestHolder, OnPath, Resolve, ambiguous, by_default, nowhere, own_row}
+use Rattle.class_rules.specs.Rows.{Rows, Sub}
+use Rattle.class_rules.proofs.LawFacts.{path_one}
+use Rattle.lists.proofs.Elements.{Contains-nil}
+use Rattle.class_rules.proofs.Selected.{owned_row}
 
 -- ---- holders
 

@@ -6,22 +6,23 @@ use Rattle.std.proofs.lemmas.Bool.{and_parts, cases_eq}
 use Rattle.std.proofs.lemmas.List.Elements.{All-contains, Contains-append_left, Contains-get_or, Contains-push, Contains-push_cases}
 use Rattle.std.proofs.lemmas.List.Quantifiers.{position-Some}
 use Rattle.std.proofs.lemmas.Option.{slice_get_within}
-use Rattle.class_tree.specs.Bodies.{has_body}
+use Rattle.class_rules.specs.Bodies.{has_body}
 use Rattle.class_tree.specs.declared.first_rows.Member.{Member}
 use Rattle.class_tree.specs.declared.numbering.Numbering.{Numbering}
 use Rattle.class_tree.specs.declared.own_rows.Own.{Own}
-use Rattle.class_tree.specs.declared.rows.ClassRow.{ClassRow}
-use Rattle.class_tree.specs.declared.rows.FieldRow.{FieldRow}
-use Rattle.class_tree.specs.declared.rows.MethodRow.{MethodRow}
+use Rattle.class_rules.specs.declared.rows.ClassRow.{ClassRow}
+use Rattle.class_rules.specs.declared.rows.FieldRow.{FieldRow}
+use Rattle.class_rules.specs.declared.rows.MethodRow.{MethodRow}
 use Rattle.class_tree.specs.declared.turns.Turn.{Turn}
 use Rattle.class_order.specs.Groups.{group}
 use Rattle.class_tree.specs.KeySpans.{list_at, member_of_field, member_of_method}
-use Rattle.class_tree.specs.Lookups.{Upwards, found, further, ended, own_body, own_field}
-use Rattle.class_tree.specs.Rows.{HasParent}
+use Rattle.class_rules.specs.Lookups.{Upwards, found, further, ended, own_body, own_field}
+use Rattle.class_rules.specs.Rows.{HasParent}
 use Rattle.class_tree.specs.Turns.{AreOwn, AreRowsOf, HaveOneRow, IsForest, IsNumbering, OwnAt, SlotPath, turned}
 use Rattle.class_tree.proofs.KeyLists.{key_found, key_same}
-use Rattle.class_tree.proofs.LawFacts.{position_first}
-use Rattle.class_order.proofs.Listed.{Contains-at, Contains-nil, group-replicate}
+use Rattle.class_rules.proofs.LawFacts.{position_first}
+use Rattle.class_order.proofs.Listed.{group-replicate}
+use Rattle.lists.proofs.Elements.{Contains-at, Contains-nil}
 
 -- ---- the members of rows
 

@@ -3,12 +3,13 @@ use Rattle.std.proofs.Common.{◌≡◌, ◌≢◌, ℕ, ◌+◌, ◌<◌, ◌�
 use Rattle.std.specs.List.{Contains, filter}
 use Rattle.std.proofs.lemmas.List.{map-append, append-nil}
 use Rattle.std.proofs.lemmas.List.Elements.{filter_more}
-use Rattle.class_tree.specs.declared.rows.ClassRow.{ClassRow}
+use Rattle.class_rules.specs.declared.rows.ClassRow.{ClassRow}
 use Rattle.class_order.specs.Groups.{group}
-use Rattle.class_tree.specs.Rows.{HasInterface, HasParent, Step, interfaces_of}
+use Rattle.class_rules.specs.Rows.{HasInterface, HasParent, Step, interfaces_of}
 use Rattle.class_order.specs.Tables.{Under}
-use Rattle.class_order.proofs.Listed.{Under-push, Under-pushed, Under-kept, Contains-take_more, Contains-take_kept, Contains-take_last}
-use Rattle.class_tree.proofs.Parents.{interface_listed, interface_named, parent_from, parent_same, parent_at}
+use Rattle.class_order.proofs.Listed.{Under-push, Under-pushed, Under-kept}
+use Rattle.lists.proofs.Elements.{Contains-take_more, Contains-take_kept, Contains-take_last}
+use Rattle.class_rules.proofs.Parents.{interface_listed, interface_named, parent_from, parent_same, parent_at}
 
 below_or_at : (a i : ℕ) → a < i + 1 → (a < i) ⊎ (a ≡ i)
 below_or_at a i h = grind arith

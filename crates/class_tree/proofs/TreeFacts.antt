@@ -7,21 +7,21 @@ use Rattle.std.proofs.Common.{drop-cons}
 use Rattle.std.proofs.lemmas.List.Elements.{All-contains, Contains-append_left, Contains-append_right}
 use Rattle.std.proofs.lemmas.Option.{slice_get_within, get_or_from_slice_get}
 use Rattle.class_tree.specs.declared.key_spans.KeySpans.{KeySpans}
-use Rattle.class_tree.specs.declared.rows.ClassRow.{ClassRow}
+use Rattle.class_rules.specs.declared.rows.ClassRow.{ClassRow}
 use Rattle.class_order.specs.declared.spans.Span.{Span}
 use Rattle.class_order.specs.Groups.{group}
 use Rattle.class_tree.specs.Indexed.{HasFieldNear, AreRanked, TellsOf, IsHierarchy}
 use Rattle.class_tree.specs.KeySpans.{spans_of}
-use Rattle.class_tree.specs.Lookups.{own_field, FieldHere}
-use Rattle.class_tree.specs.Orders.{Orders, class_first, each, first_found}
-use Rattle.class_order.specs.Paths.{Path, here, step}
-use Rattle.class_tree.specs.Rows.{Rows, HasParent, HasNoParent, HasInterface, Step, interfaces_of}
+use Rattle.class_rules.specs.Lookups.{own_field, FieldHere}
+use Rattle.class_rules.specs.Orders.{Orders, class_first, each, first_found}
+use Rattle.class_rules.specs.Paths.{Path, here, step}
+use Rattle.class_rules.specs.Rows.{Rows, HasParent, HasNoParent, HasInterface, Step, interfaces_of}
 use Rattle.class_order.specs.Spans.{Holds}
 use Rattle.class_order.specs.Tables.{IsReach}
-use Rattle.class_order.proofs.Listed.{same_read}
-use Rattle.class_tree.proofs.OrderFacts.{order_misses, order_exists, orders_exist, orders_append, orders_miss, first_found-append}
+use Rattle.lists.proofs.Elements.{same_read}
+use Rattle.class_rules.proofs.OrderFacts.{order_misses, order_exists, orders_exist, orders_append, orders_miss, first_found-append}
 use Rattle.class_order.proofs.Placed.{taken_at}
-use Rattle.class_tree.proofs.Parents.{parent_from, no_parent_from, interface_named, interface_listed}
+use Rattle.class_rules.proofs.Parents.{parent_from, no_parent_from, interface_named, interface_listed}
 use Rattle.class_order.proofs.Reached.{path_last}
 
 -- ---- the parent in a row

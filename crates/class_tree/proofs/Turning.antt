@@ -8,7 +8,7 @@ use Rattle.class_tree.specs.declared.own_rows.Own.{Own}
 use Rattle.class_tree.specs.declared.turns.Turn.{Turn}
 use Rattle.class_order.specs.Groups.{group}
 use Rattle.class_tree.specs.Turns.{AreUpTo, HaveTurned, last_row, row_over, turned}
-use Rattle.class_order.proofs.Listed.{Contains-take_kept, Contains-take_last, Contains-take_more, Contains-nil}
+use Rattle.lists.proofs.Elements.{Contains-take_kept, Contains-take_last, Contains-take_more, Contains-nil}
 
 -- ---- what is read of turns
 

@@ -4,15 +4,16 @@ use Rattle.std.specs.List.{Contains}
 use Rattle.std.specs.Option.{is_some}
 use Rattle.std.proofs.lemmas.Bool.{cases_eq}
 use Rattle.class_tree.specs.declared.own_rows.Own.{Own}
-use Rattle.class_tree.specs.declared.rows.ClassRow.{ClassRow}
+use Rattle.class_rules.specs.declared.rows.ClassRow.{ClassRow}
 use Rattle.class_tree.specs.declared.turns.Turn.{Turn}
 use Rattle.class_order.specs.Groups.{group}
-use Rattle.class_tree.specs.Lookups.{Upwards, found, further, ended}
-use Rattle.class_tree.specs.Rows.{HasNoParent, HasParent}
+use Rattle.class_rules.specs.Lookups.{Upwards, found, further, ended}
+use Rattle.class_rules.specs.Rows.{HasNoParent, HasParent}
 use Rattle.class_tree.specs.Turns.{AreHere, HaveTurned, IsBefore, IsForest, OwnAt, SlotPath, TellBefore, last_row, numbered, row_over, turned}
-use Rattle.class_tree.proofs.LawFacts.{a_parent_or_none, one_parent}
-use Rattle.class_order.proofs.Listed.{Contains-nil, group-past}
-use Rattle.class_tree.proofs.Parents.{no_parent_from, parent_from}
+use Rattle.class_rules.proofs.LawFacts.{a_parent_or_none, one_parent}
+use Rattle.class_order.proofs.Listed.{group-past}
+use Rattle.lists.proofs.Elements.{Contains-nil}
+use Rattle.class_rules.proofs.Parents.{no_parent_from, parent_from}
 use Rattle.class_tree.proofs.Turning.{turned-last, up_to_more}
 
 -- whether a slot stands in a list

@@ -1,11 +1,11 @@
 -- The default methods of a key, one interface after the other.
 use Rattle.std.specs.Prelude.{◌≡◌, ◌≢◌, ℕ, Some, true, slice_get}
-use Rattle.class_tree.specs.Bodies.{has_body}
-use Rattle.class_tree.specs.declared.rows.MethodRow.{MethodRow}
+use Rattle.class_rules.specs.Bodies.{has_body}
+use Rattle.class_rules.specs.declared.rows.MethodRow.{MethodRow}
 use Rattle.class_tree.specs.declared.tree.Defaults.{Defaults}
 use Rattle.class_tree.specs.declared.tree.Defaults.TheVariants.{Nothing, One, Several}
-use Rattle.class_tree.specs.Lookups.{IsLowestHolder, own_row}
-use Rattle.class_tree.specs.Rows.{Rows}
+use Rattle.class_rules.specs.Lookups.{IsLowestHolder, own_row}
+use Rattle.class_rules.specs.Rows.{Rows}
 
 -- a default method that comes from this interface
 pub record IsDefaultFrom (rows : Rows) (class key interface row : ℕ) : Type 0 where

@@ -2,7 +2,7 @@
 use Rattle.std.specs.Prelude.{◌≡◌, ℕ, ◌↔◌, ◌==◌, true, List, Some, Contains, length, position, slice_get}
 use Rattle.class_tree.specs.declared.first_rows.Member.{Member}
 use Rattle.class_tree.specs.declared.holders.Holders.{Holders}
-use Rattle.class_tree.specs.declared.rows.ClassRow.{ClassRow}
+use Rattle.class_rules.specs.declared.rows.ClassRow.{ClassRow}
 use Rattle.class_tree.specs.KeySpans.{list_at}
 
 -- the class is an interface

@@ -4,17 +4,17 @@ use Rattle.class_tree.specs.declared.key_spans.KeySpans.{KeySpans}
 use Rattle.class_tree.specs.declared.kept.KeptRows.{KeptRows}
 use Rattle.class_tree.specs.declared.members.Members.{Members}
 use Rattle.class_tree.specs.declared.inherited.Inherited.{Inherited}
-use Rattle.class_tree.specs.declared.rows.ClassRow.{ClassRow}
-use Rattle.class_tree.specs.declared.rows.MethodRow.{MethodRow}
-use Rattle.class_tree.specs.declared.rows.FieldRow.{FieldRow}
+use Rattle.class_rules.specs.declared.rows.ClassRow.{ClassRow}
+use Rattle.class_rules.specs.declared.rows.MethodRow.{MethodRow}
+use Rattle.class_rules.specs.declared.rows.FieldRow.{FieldRow}
 use Rattle.class_order.specs.declared.spans.Span.{Span}
 use Rattle.class_tree.specs.FirstRows.{row_at}
 use Rattle.class_order.specs.Groups.{group}
 use Rattle.class_tree.specs.Holders.{AreHolders, IsInterface, holders_of}
 use Rattle.class_tree.specs.KeySpans.{IsKeyed, member_of_field, member_of_method, spans_of}
-use Rattle.class_tree.specs.Lookups.{own_body, own_field, own_row, Declared, IsHolder}
-use Rattle.class_order.specs.Paths.{Path}
-use Rattle.class_tree.specs.Rows.{Rows, rows_of, NameClasses, NamesUnknown, IsOwnAncestor, Step, HasInterface, interfaces_of}
+use Rattle.class_rules.specs.Lookups.{own_body, own_field, own_row, Declared, IsHolder}
+use Rattle.class_rules.specs.Paths.{Path}
+use Rattle.class_rules.specs.Rows.{Rows, rows_of, NameClasses, NamesUnknown, IsOwnAncestor, Step, HasInterface, interfaces_of}
 use Rattle.class_order.specs.Spans.{AreApart, Holds}
 use Rattle.class_order.specs.Tables.{HavePlaces, IsReach}
 use Rattle.class_tree.specs.Inherited.{AreInherited}

@@ -2,8 +2,8 @@
 use Rattle.std.specs.Prelude.{◌≡◌, ℕ, List, Some, Contains}
 use Rattle.class_tree.specs.declared.first_rows.Member.{Member}
 use Rattle.class_tree.specs.declared.inherited.Inherited.{Inherited}
-use Rattle.class_tree.specs.Lookups.{own_body, own_field}
-use Rattle.class_tree.specs.Rows.{Rows, HasInterface}
+use Rattle.class_rules.specs.Lookups.{own_body, own_field}
+use Rattle.class_rules.specs.Rows.{Rows, HasInterface}
 use Rattle.class_tree.specs.Turns.{TellPaths}
 
 abbrev pub member_of_pair : ℕ × ℕ → Member

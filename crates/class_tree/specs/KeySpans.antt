@@ -2,8 +2,8 @@
 use Rattle.std.specs.Prelude.{◌≡◌, ℕ, ◌↔◌, ◌==◌, Option, Some, None, List, [], Contains, length, position}
 use Rattle.class_tree.specs.declared.first_rows.Member.{Member}
 use Rattle.class_tree.specs.declared.key_spans.KeySpans.{KeySpans}
-use Rattle.class_tree.specs.declared.rows.MethodRow.{MethodRow}
-use Rattle.class_tree.specs.declared.rows.FieldRow.{FieldRow}
+use Rattle.class_rules.specs.declared.rows.MethodRow.{MethodRow}
+use Rattle.class_rules.specs.declared.rows.FieldRow.{FieldRow}
 use Rattle.class_order.specs.declared.spans.Span.{Span}
 use Rattle.class_order.specs.Groups.{group}
 use Rattle.class_order.specs.Spans.{AreApart, Holds}

@@ -1,8 +1,8 @@
 -- What the places of classes tell.
 use Rattle.std.specs.Prelude.{◌<◌, ◌^◌, length}
 use Rattle.class_tree.specs.declared.layout.Layout.{Layout}
-use Rattle.class_tree.specs.Lookups.{own_body}
-use Rattle.class_tree.specs.Rows.{Rows, Step}
+use Rattle.class_rules.specs.Lookups.{own_body}
+use Rattle.class_rules.specs.Rows.{Rows, Step}
 use Rattle.class_order.specs.Tables.{HavePlaces, IsReach}
 use Rattle.class_tree.specs.Turns.{TellPaths}
 

@@ -1,8 +1,4 @@
-pub mod Bodies
 pub mod FirstRows
-pub mod Lookups
-pub mod Orders
-pub mod Rows
 pub mod KeySpans
 pub mod Holders
 pub mod Indexed
@@ -10,4 +6,3 @@ pub mod Inherited
 pub mod Defaults
 pub mod Turns
 pub mod Layouts
-pub mod Laws

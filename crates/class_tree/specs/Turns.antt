@@ -5,12 +5,12 @@ use Rattle.class_tree.specs.declared.first_rows.Member.{Member}
 use Rattle.class_tree.specs.declared.numbering.Numbering.{Numbering}
 use Rattle.class_tree.specs.declared.own_rows.Own.{Own}
 use Rattle.class_tree.specs.declared.paths.Paths.{Paths}
-use Rattle.class_tree.specs.declared.rows.ClassRow.{ClassRow}
+use Rattle.class_rules.specs.declared.rows.ClassRow.{ClassRow}
 use Rattle.class_tree.specs.declared.turns.Turn.{Turn}
 use Rattle.class_order.specs.Groups.{group}
 use Rattle.class_tree.specs.KeySpans.{list_at}
-use Rattle.class_tree.specs.Lookups.{Upwards}
-use Rattle.class_tree.specs.Rows.{HasParent}
+use Rattle.class_rules.specs.Lookups.{Upwards}
+use Rattle.class_rules.specs.Rows.{HasParent}
 use Rattle.class_order.specs.Tables.{HavePlaces}
 
 -- the row of the last turn at the number or before it, of turns in order

@@ -1,11 +1,11 @@
 ghost use Rattle.std.specs.Prelude.{◌≡◌, ℕ, ◌==◌, ◌&&◌, ◌^◌, ◌<◌, length, All, Some, None, Option, IfOk, OnOk, cond, map};
 ghost use Rattle.std.specs.Option.{option_or, is_some};
 ghost use Rattle.class_tree.specs.Holders.{IsInterface};
-ghost use Rattle.class_tree.specs.Lookups.{own_body, own_field, own_row};
+ghost use Rattle.class_rules.specs.Lookups.{own_body, own_field, own_row};
 ghost use Rattle.class_tree.specs.FirstRows.{row_at, AddsRow};
 ghost use Rattle.class_tree.specs.KeySpans.{member_of_field, member_of_method};
 
-use super::rows::{ClassRow, FieldRow, MethodRow};
+use class_rules::{ClassRow, FieldRow, MethodRow};
 use std::alloc::{AllocError, Global};
 use std::collections::HashMap;
 

@@ -4,8 +4,8 @@ ghost use Rattle.class_tree.specs.Holders.{AreHolders, IsInterface, holders_of};
 
 use super::first_rows::Member;
 use super::key_spans::{classes_by_key, keys_of};
-use super::rows::ClassRow;
 use class_order::Groups;
+use class_rules::ClassRow;
 use indexmap::IndexSet;
 use std::alloc::{AllocError, Global};
 

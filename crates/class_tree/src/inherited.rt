@@ -1,8 +1,8 @@
 ghost use Rattle.std.specs.Prelude.{◌≡◌, ℕ, ◌^◌, ◌<◌, length, map, All, Contains, IfOk};
 ghost use Rattle.class_tree.specs.FirstRows.{row_at};
 ghost use Rattle.class_tree.specs.Inherited.{AreInherited, member_of_pair};
-ghost use Rattle.class_tree.specs.Lookups.{own_body, own_field};
-ghost use Rattle.class_tree.specs.Rows.{rows_of, NameClasses};
+ghost use Rattle.class_rules.specs.Lookups.{own_body, own_field};
+ghost use Rattle.class_rules.specs.Rows.{rows_of, NameClasses};
 ghost use Rattle.class_tree.specs.Turns.{IsNumbering};
 
 use super::first_rows::{Member, field_members, method_members};
@@ -10,7 +10,7 @@ use super::key_spans::keys_of;
 use super::members::Members;
 use super::numbering::Numbering;
 use super::paths::Paths;
-use super::rows::{ClassRow, FieldRow, MethodRow};
+use class_rules::{ClassRow, FieldRow, MethodRow};
 use indexmap::IndexSet;
 use std::alloc::{AllocError, Global};
 

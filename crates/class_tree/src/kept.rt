@@ -1,8 +1,8 @@
 ghost use Rattle.std.specs.Prelude.{◌≡◌, IfOk};
 ghost use Rattle.class_tree.specs.Indexed.{rows_in};
-ghost use Rattle.class_tree.specs.Rows.{rows_of};
+ghost use Rattle.class_rules.specs.Rows.{rows_of};
 
-use super::rows::{ClassRow, FieldRow, MethodRow};
+use class_rules::{ClassRow, FieldRow, MethodRow};
 use std::alloc::{AllocError, Global};
 
 /// The rows that a tree was built from.

@@ -6,8 +6,8 @@ ghost use Rattle.class_order.specs.Spans.{AreApart};
 use super::first_rows::{FirstRows, field_members, method_members};
 use super::holders::Holders;
 use super::key_spans::KeySpans;
-use super::rows::{ClassRow, FieldRow, MethodRow};
 use class_order::{Groups, Span};
+use class_rules::{ClassRow, FieldRow, MethodRow};
 use std::alloc::{AllocError, Global};
 
 /// What is kept of methods and fields.

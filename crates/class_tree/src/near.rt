@@ -1,6 +1,6 @@
 ghost use Rattle.std.specs.Prelude.{◌≡◌, ℕ, ◌^◌, ◌<◌, length, All, IfOk};
 ghost use Rattle.class_order.specs.Tables.{HavePlaces, IsFinishing, IsReach, Under};
-ghost use Rattle.class_tree.specs.Rows.{HasInterface};
+ghost use Rattle.class_rules.specs.Rows.{HasInterface};
 
 use super::steps::implementers;
 use class_order::{Groups, Span, reach_spans};

@@ -1,11 +1,11 @@
 ghost use Rattle.std.specs.Prelude.{ℕ, ◌^◌, ◌<◌, length, All, Contains, IfOk};
-ghost use Rattle.class_order.specs.Paths.{ProperPath};
-ghost use Rattle.class_tree.specs.Rows.{HasParent};
+ghost use Rattle.class_rules.specs.Paths.{ProperPath};
+ghost use Rattle.class_rules.specs.Rows.{HasParent};
 ghost use Rattle.class_tree.specs.Turns.{IsNumbering};
 
-use super::rows::ClassRow;
 use super::steps::{children, tops_first};
 use class_order::{finish_order, places_of};
+use class_rules::ClassRow;
 use std::alloc::{AllocError, Global};
 
 /// The classes in the order in which a search downwards over parents alone leaves them, and for each

@@ -7,10 +7,10 @@ use super::first_rows::{FirstRows, Member};
 use super::key_spans::keys_of;
 use super::numbering::Numbering;
 use super::own_rows::own_rows;
-use super::rows::ClassRow;
 use super::turns::{Turn, row_at};
 use super::walk::{Forest, turns_by_slot};
 use class_order::Groups;
+use class_rules::ClassRow;
 use indexmap::IndexSet;
 use std::alloc::{AllocError, Global};
 

@@ -1,10 +1,10 @@
 ghost use Rattle.std.specs.Prelude.{◌≡◌, ℕ, ◌^◌, ◌<◌, ◌↔◌, length, All, Contains, IfOk};
 ghost use Rattle.class_order.specs.Groups.{group};
-ghost use Rattle.class_tree.specs.Rows.{HasInterface, HasParent, NamesUnknown, Step, interfaces_of};
+ghost use Rattle.class_rules.specs.Rows.{HasInterface, HasParent, NamesUnknown, Step, interfaces_of};
 ghost use Rattle.class_order.specs.Tables.{Under};
 
-use super::rows::ClassRow;
 use class_order::Groups;
+use class_rules::ClassRow;
 use std::alloc::{AllocError, Global};
 
 /// For each class those that name it as their parent, as they stand in `order`.

@@ -3,20 +3,21 @@ ghost use Rattle.class_tree.specs.Defaults.{AreDefaults, IsDefaultFrom};
 ghost use Rattle.class_tree.specs.Indexed.{AreReached, HasFieldNear, HoldsMethod, IsFirstNear};
 ghost use Rattle.class_tree.specs.Layouts.{LaysOut};
 ghost use Rattle.lists.specs.Lists.{IsLeast};
-ghost use Rattle.class_tree.specs.Rows.{rows_of, NameClasses, NamesUnknown, IsOwnAncestor, Step, Sub, HasParent, interfaces_of};
+ghost use Rattle.class_rules.specs.Rows.{rows_of, NameClasses, NamesUnknown, IsOwnAncestor, Step, Sub, HasParent, interfaces_of};
 ghost use Rattle.class_order.specs.Tables.{IsFinishing, Under};
-ghost use Rattle.class_tree.specs.Lookups.{own_body, Declared, FieldHere, FieldOf, IsAmbiguous, IsDefault, IsHolder, IsLowestHolder, OnPath, Resolve};
+ghost use Rattle.class_rules.specs.Lookups.{own_body, Declared, FieldHere, FieldOf, IsAmbiguous, IsDefault, IsHolder, IsLowestHolder, OnPath, Resolve};
 
+use super::errors::TreeError;
 use super::inherited::Inherited;
 use super::kept::KeptRows;
 use super::layout::Layout;
 use super::members::Members;
 use super::near::near_spans;
 use super::numbering::Numbering;
-use super::rows::{ClassRow, FieldRow, MethodRow, TreeError};
 use super::steps::{interface_lists, steps_down, steps_up, tops_first};
 use super::unknown::first_unknown;
 use class_order::{Groups, Span, finish_order, holds, least_cyclic, places_of, reach_spans};
+use class_rules::{ClassRow, FieldRow, MethodRow};
 use std::alloc::{AllocError, Global};
 use std::marker::Model;
 
@@ -38,7 +39,7 @@ pub struct Tree {
 }
 
 impl Model for Tree {
-    ghost use Rattle.class_tree.specs.Rows.{Rows};
+    ghost use Rattle.class_rules.specs.Rows.{Rows};
     ghost use Rattle.class_tree.specs.Indexed.{IsIndexed, rows_in};
 
     ghost Value = { Rows };

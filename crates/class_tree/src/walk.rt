@@ -1,14 +1,14 @@
 ghost use Rattle.std.specs.Prelude.{◌≡◌, ℕ, ◌+◌, ◌<◌, List, length, All, Contains, IfOk, IfSome, IsTrue, OnOk, Some, None, slice_get, slice_index};
 ghost use Rattle.std.specs.List.Sorted.{IsNonDecreasingBy};
 ghost use Rattle.class_tree.specs.declared.own_rows.Own.{Own as AnOwn};
-ghost use Rattle.class_tree.specs.declared.rows.ClassRow.{ClassRow as ARow};
+ghost use Rattle.class_rules.specs.declared.rows.ClassRow.{ClassRow as ARow};
 ghost use Rattle.class_order.specs.Groups.{group};
 ghost use Rattle.class_tree.specs.Turns.{AreHere, AreUpTo, HaveOneRow, HaveTurned, IsBefore, IsForest, SlotPath, TellBefore, numbered, row_over, turned};
 
 use super::own_rows::Own;
-use super::rows::ClassRow;
 use super::turns::{Turn, row_at};
 use class_order::Groups;
+use class_rules::ClassRow;
 use std::alloc::{AllocError, Global};
 
 /// The first rows of the classes and their numbers, in an order in which those above come first.

@@ -45,9 +45,8 @@ fn shown<R: Threads + Sync, G: Gate>(
     ensures answered { IfOk result (λ a. AreAnswered linked.now (about target) target a.sites.items) }
     ensures evidence { IfOk result (λ a. IsEvidence linked.now target a.evidence) }
 {
-    let number = demand.number_of(target).unwrap();
     let solved = hands.solve(linked, demand)?;
-    let sites = answer_sites(hands.alloc, demand, &solved, number)?;
+    let sites = answer_sites(hands.alloc, demand, &solved, target)?;
     let evidence = Evidence::of(hands.alloc, linked, demand, &solved, target)?;
     Ok(Answered { sites, evidence })
 }

@@ -1,11 +1,11 @@
 -- What a call may run has a body, where no rule refuses it.
 use Rattle.std.proofs.Common.{◌≡◌, ℕ, ◌<◌, Bool, true, false, Option, Some, None, length, slice_get, refl, sym, ap, ◌∙◌, arith}
 use Rattle.std.specs.Option.{IsSome}
-use Rattle.class_tree.proofs.LawFacts.{path_finds}
-use Rattle.class_tree.proofs.Selected.{selection_finds}
-use Rattle.class_tree.specs.Bodies.{has_body}
-use Rattle.class_tree.specs.declared.rows.BodyKind.TheVariants.{Native}
-use Rattle.class_tree.specs.declared.rows.MethodRow.{MethodRow}
+use Rattle.class_rules.proofs.LawFacts.{path_finds}
+use Rattle.class_rules.proofs.Selected.{selection_finds}
+use Rattle.class_rules.specs.Bodies.{has_body}
+use Rattle.class_rules.specs.declared.rows.BodyKind.TheVariants.{Native}
+use Rattle.class_rules.specs.declared.rows.MethodRow.{MethodRow}
 use Rattle.lists.proofs.Places.{slice_get-below}
 use Rattle.jim_ast.specs.declared.syntax.Body.{Body}
 use Rattle.jim_ast.specs.declared.syntax.Mode.{Mode}

@@ -2,8 +2,8 @@
 use Rattle.std.proofs.Common.{ℕ, ◌<◌, List, [], ◌∷◌, length, get_or, All, refl, inl, inr, arith}
 use Rattle.std.specs.Option.{IsSome}
 use Rattle.std.proofs.lemmas.Option.{slice_get-get_or}
-use Rattle.class_order.specs.Paths.{Path, here, step}
-use Rattle.class_tree.specs.Rows.{Step}
+use Rattle.class_rules.specs.Paths.{Path, here, step}
+use Rattle.class_rules.specs.Rows.{Step}
 use Rattle.lists.specs.Lists.{Has}
 use Rattle.lists.proofs.Places.{slice_get-append_left, slice_get-below, slice_get-push}
 use Rattle.link_reach.specs.Reaches.{AreReached}

@@ -1,6 +1,6 @@
 -- The methods of the linked program while they are made: what is made of one stays, while each constant keeps its number.
 use Rattle.std.specs.Prelude.{◌≡◌, ℕ, ◌<◌, ◌++◌, List, [], ◌∷◌, Some, codes, flat_map, length, map, not, slice_get}
-use Rattle.class_tree.specs.Rows.{Step}
+use Rattle.class_rules.specs.Rows.{Step}
 use Rattle.jim_ast.specs.declared.syntax.Body.{Body}
 use Rattle.link_codes.specs.Contexts.{context_in}
 use Rattle.link_program.specs.Elements.{elements_in}

@@ -1,7 +1,7 @@
 -- Handlers of a statement, one after the other.
 use Rattle.std.proofs.Common.{◌≡◌, ℕ, ◌<◌, ◌↔◌, IsTrue, Bool, true, false, List, get_or, length}
 use Rattle.std.proofs.lemmas.Option.{get_or_from_slice_get}
-use Rattle.class_tree.specs.Rows.{Sub}
+use Rattle.class_rules.specs.Rows.{Sub}
 use Rattle.lists.proofs.Places.{slice_get-below}
 use Rattle.link_rules.specs.declared.code.Catch.{Catch}
 use Rattle.link_rules.specs.Flow.{CoversPlace}

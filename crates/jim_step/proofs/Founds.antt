@@ -1,8 +1,8 @@
 -- Method look-up finds one method.
 use Rattle.std.proofs.Common.{◌≡◌, ℕ, zero, suc, ◌==◌, true, false, ◌<◌, Option, Some, None, length, slice_get, sym, ◌∙◌, arith}
 use Rattle.std.proofs.lemmas.Bool.{eqb-true}
-use Rattle.class_tree.proofs.Selected.{selection_one}
-use Rattle.class_tree.specs.Lookups.{Resolve}
+use Rattle.class_rules.proofs.Selected.{selection_one}
+use Rattle.class_rules.specs.Lookups.{Resolve}
 use Rattle.lists.proofs.Places.{slice_get-below}
 use Rattle.link_rules.specs.Linked.{LinkedMethod, LinkedProgram}
 use Rattle.link_rules.specs.WellLinked.{IsInForm}

@@ -1,7 +1,7 @@
 //! What an exception in flight does.
 ghost use Rattle.std.specs.Prelude.{◌≡◌, ℕ, ◌<◌, ◌↔◌, IfNone, IfSome, IsTrue, length};
 ghost use Rattle.jim_step.specs.Plans.{IsCountable, Lists, UnwindsBy};
-ghost use Rattle.class_tree.specs.Rows.{Sub};
+ghost use Rattle.class_rules.specs.Rows.{Sub};
 ghost use Rattle.link_rules.specs.Flow.{CoversPlace};
 ghost use Rattle.step_rules.specs.Offers.{IsCaughtAt, MayCatch};
 ghost use Rattle.step_rules.specs.Shapes.{EachOf};

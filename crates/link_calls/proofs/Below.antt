@@ -2,9 +2,9 @@
 use Rattle.std.proofs.Common.{ℕ, ◌<◌, Option, Some, None, Result, Ok, Err, IfOk, All, length, arith}
 use Rattle.std.proofs.lemmas.Option.{slice_get-get_or}
 use Rattle.std.specs.Prelude.{IfSome}
-use Rattle.class_tree.specs.Lookups.{FieldOf}
-use Rattle.class_tree.proofs.LawFacts.{look_up_finds, path_finds}
-use Rattle.class_tree.proofs.Selected.{selection_finds}
+use Rattle.class_rules.specs.Lookups.{FieldOf}
+use Rattle.class_rules.proofs.LawFacts.{look_up_finds, path_finds}
+use Rattle.class_rules.proofs.Selected.{selection_finds}
 use Rattle.lists.proofs.Places.{slice_get-below}
 use Rattle.link_rules.specs.Classes.{fields_of, methods_of}
 use Rattle.jim_ast.specs.declared.syntax.Mode.{Mode}

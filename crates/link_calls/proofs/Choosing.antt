@@ -2,7 +2,7 @@
 use Rattle.std.proofs.Common.{◌≡◌, ℕ, ◌<◌, ◌≤◌, ◌+◌, ◌⊎◌, Bool, true, false, Option, Some, None, List, [], ◌∷◌, length, get_or, refl, sym, ap, subst, ◌∙◌, slice_get, inl, inr, arith, IsTrue}
 use Rattle.std.specs.Prelude.{Contains, ◌↔◌}
 use Rattle.std.proofs.lemmas.Option.{get_or_from_slice_get, slice_get-get_or, slice_get_within}
-use Rattle.class_tree.specs.Lookups.{IsDefault, OnPath, Resolve, ambiguous, by_default, nowhere, on_path}
+use Rattle.class_rules.specs.Lookups.{IsDefault, OnPath, Resolve, ambiguous, by_default, nowhere, on_path}
 use Rattle.lists.specs.Lists.{Adds, Has}
 use Rattle.jim_ast.specs.declared.syntax.Mode.TheVariants.{Virtual}
 use Rattle.object_ranges.specs.declared.chosen.Choice.{Choice}

@@ -9,12 +9,12 @@ use Rattle.std.proofs.lemmas.Option.{get_or_from_slice_get, slice_get_within}
 use Rattle.class_tree.specs.declared.layout.Layout.{Layout}
 use Rattle.class_order.specs.Groups.{group}
 use Rattle.class_tree.specs.Layouts.{LaysOut}
-use Rattle.class_tree.specs.Lookups.{OnPath}
+use Rattle.class_rules.specs.Lookups.{OnPath}
 use Rattle.class_order.specs.Spans.{Holds}
 use Rattle.class_order.specs.Tables.{HavePlaces}
 use Rattle.class_tree.specs.Turns.{turned, turns_of}
-use Rattle.class_tree.proofs.LawFacts.{path_one}
-use Rattle.class_order.proofs.Listed.{slice_get-set_other, slice_get-set_same}
+use Rattle.class_rules.proofs.LawFacts.{path_one}
+use Rattle.lists.proofs.Places.{slice_get-set_other, slice_get-set_same}
 use Rattle.lists.proofs.Places.{slice_get-below}
 use Rattle.object_ranges.specs.declared.chosen.Choice.{Choice}
 use Rattle.object_ranges.specs.Chosen.{AreChosen, IsServed}

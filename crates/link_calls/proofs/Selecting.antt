@@ -4,10 +4,10 @@ use Rattle.std.specs.Prelude.{AllPairs, ◌↔◌}
 use Rattle.std.proofs.Math.Nat.{eq-or-lt_of_le}
 use Rattle.std.proofs.lemmas.List.Quantifiers.{all_pairs_push}
 use Rattle.std.proofs.lemmas.Option.{slice_get-get_or}
-use Rattle.class_tree.specs.Lookups.{IsAmbiguous, IsDefault, OnPath, Resolve, ambiguous, nowhere}
-use Rattle.class_tree.specs.Rows.{Rows, Sub}
-use Rattle.class_tree.proofs.LawFacts.{path_one}
-use Rattle.class_tree.proofs.Selected.{selection_one}
+use Rattle.class_rules.specs.Lookups.{IsAmbiguous, IsDefault, OnPath, Resolve, ambiguous, nowhere}
+use Rattle.class_rules.specs.Rows.{Rows, Sub}
+use Rattle.class_rules.proofs.LawFacts.{path_one}
+use Rattle.class_rules.proofs.Selected.{selection_one}
 use Rattle.lists.specs.Lists.{Adds, Has, IsApart}
 use Rattle.lists.proofs.Places.{Has-adds_itself, IsApart-adds, slice_get-added, slice_get-adds, slice_get-below}
 use Rattle.jim_ast.specs.declared.syntax.Mode.{Mode}

@@ -3,8 +3,8 @@ use Rattle.std.specs.Prelude.{◌≡◌, ℕ, Bool, IfSome, IsTrue, List, None, 
 use Rattle.std.specs.HashMap as hash
 use Rattle.std.specs.List.Sorted.{IsNonDecreasingBy}
 use Rattle.class_tree.specs.Layouts.{LaysOut}
-use Rattle.class_tree.specs.Lookups.{OnPath}
-use Rattle.class_tree.specs.Rows.{Sub}
+use Rattle.class_rules.specs.Lookups.{OnPath}
+use Rattle.class_rules.specs.Rows.{Sub}
 use Rattle.class_tree.specs.Turns.{turns_of}
 use Rattle.object_ranges.specs.declared.chosen.Choice.{Choice}
 use Rattle.object_ranges.specs.declared.parts.Part.{Part}

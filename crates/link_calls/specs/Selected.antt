@@ -1,7 +1,7 @@
 -- The methods that the first classes select.
 use Rattle.std.specs.Prelude.{ℕ, ◌<◌, ◌↔◌, Bool, List, Some, None, IsTrue, AllPairs}
-use Rattle.class_tree.specs.Lookups.{IsAmbiguous, Resolve}
-use Rattle.class_tree.specs.Rows.{Rows}
+use Rattle.class_rules.specs.Lookups.{IsAmbiguous, Resolve}
+use Rattle.class_rules.specs.Rows.{Rows}
 use Rattle.lists.specs.Lists.{Has, IsApart}
 use Rattle.link_rules.specs.Faults.{FindsSeveralAt}
 use Rattle.link_rules.specs.Targets.{ComesBefore, Selects}

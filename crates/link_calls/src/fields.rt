@@ -1,6 +1,6 @@
 //! The field that an access means.
 ghost use Rattle.std.specs.Prelude.{◌<◌, ℕ, All, IfSome, length};
-ghost use Rattle.class_tree.specs.Lookups.{FieldOf};
+ghost use Rattle.class_rules.specs.Lookups.{FieldOf};
 ghost use Rattle.jim_ast.specs.declared.names.NameId.{NameId as ANameId};
 ghost use Rattle.link_rules.specs.Classes.{fields_of};
 ghost use Rattle.link_rules.specs.Conditions.{AreWithin, field_sig_names};

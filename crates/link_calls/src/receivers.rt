@@ -1,6 +1,6 @@
 //! The classes that may have objects, by their places.
 ghost use Rattle.std.specs.Prelude.{◌<◌, ℕ, IfOk, length};
-ghost use Rattle.class_tree.specs.Lookups.{OnPath};
+ghost use Rattle.class_rules.specs.Lookups.{OnPath};
 ghost use Rattle.class_order.specs.Tables.{HavePlaces};
 ghost use Rattle.link_rules.specs.World.{World as AWorld};
 ghost use Rattle.link_calls.specs.Receivers.{AreChoices, AreMarks, ArePartsOf, AreReceivers};

@@ -4,10 +4,10 @@ use Rattle.std.specs.List.{position_from}
 use Rattle.std.specs.Option.{is_some, option_map}
 use Rattle.std.proofs.lemmas.Bool.{cases_order}
 use Rattle.std.proofs.lemmas.Option.{slice_get-get_or, slice_get-map}
-use Rattle.class_tree.specs.Bodies.{has_body}
-use Rattle.class_tree.specs.Lookups.{own_body}
-use Rattle.class_tree.specs.declared.rows.BodyKind.TheVariants.{Plain}
-use Rattle.class_tree.specs.declared.rows.MethodRow.{MethodRow}
+use Rattle.class_rules.specs.Bodies.{has_body}
+use Rattle.class_rules.specs.Lookups.{own_body}
+use Rattle.class_rules.specs.declared.rows.BodyKind.TheVariants.{Plain}
+use Rattle.class_rules.specs.declared.rows.MethodRow.{MethodRow}
 use Rattle.jim_ast.specs.declared.syntax.Body.{Body}
 use Rattle.link_rules.specs.Classes.{DeclaredMethod, methods_of}
 use Rattle.link_rules.specs.Keys.{IsMethodKeyNumber, MethodKey}

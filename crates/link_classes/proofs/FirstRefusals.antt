@@ -1,7 +1,7 @@
 -- The first refusal of the program as a whole.
 use Rattle.std.proofs.Common.{◌≡◌, ℕ, ◌<◌, inl, inr, refl, subst, arith}
 use Rattle.lists.specs.Lists.{IsLeast}
-use Rattle.class_tree.specs.Rows.{IsOwnAncestor, NamesUnknown}
+use Rattle.class_rules.specs.Rows.{IsOwnAncestor, NamesUnknown}
 use Rattle.link_rules.specs.declared.refusal.LinkKind.{LinkKind}
 use Rattle.link_rules.specs.declared.refusal.LinkKind.TheVariants as rule
 use Rattle.link_rules.specs.Refusals.{HasEarlierName, IsBefore, IsEntry, IsFirst, Refusal, Refuses, RefusesWhole, number_of, whole, within}

@@ -2,7 +2,7 @@
 use Rattle.std.proofs.Common.{◌≡◌, ℕ, ◌<◌, ◌≤◌, ◌⊎◌, List, Option, Some, None, IfNone, IfSome, Err, length, refl, sym, ap, subst, inl, inr, arith}
 use Rattle.std.specs.declared.result.Result.{Result}
 use Rattle.std.proofs.lemmas.Bool.{cases_order}
-use Rattle.class_tree.specs.Rows.{Step}
+use Rattle.class_rules.specs.Rows.{Step}
 use Rattle.link_rules.specs.Classes.{IsNamed}
 use Rattle.link_rules.specs.World.{AreRows, World}
 use Rattle.link_classes.specs.RowTables.{IsSound}

@@ -4,7 +4,7 @@ use Rattle.std.specs.List.{enumerate_from}
 use Rattle.std.proofs.lemmas.List.{length-map}
 use Rattle.std.proofs.lemmas.List.Elements.{All-contains}
 use Rattle.std.proofs.lemmas.Option.{slice_get-get_or}
-use Rattle.class_tree.specs.Rows.{NameClasses, Rows, Step}
+use Rattle.class_rules.specs.Rows.{NameClasses, Rows, Step}
 use Rattle.lists.proofs.Places.{slice_get-below, slice_get-there}
 use Rattle.jim_ast.specs.declared.names.NameId.{NameId}
 use Rattle.jim_ast.specs.declared.syntax.FieldDecl.{FieldDecl}

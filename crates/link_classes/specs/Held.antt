@@ -1,6 +1,6 @@
 -- What is kept of the classes that are linked.
 use Rattle.std.specs.Prelude.{◌≡◌, ℕ, ◌<◌, ◌^◌, ◌++◌, List, All, length, map}
-use Rattle.class_tree.specs.Rows.{Rows}
+use Rattle.class_rules.specs.Rows.{Rows}
 use Rattle.jim_ast.specs.declared.names.NameId.{NameId}
 use Rattle.link_rules.specs.Classes.{class_name, fields_of, methods_of}
 use Rattle.link_rules.specs.Keys.{IsMethodKeyNumber}

@@ -1,9 +1,9 @@
 -- All rows of the classes.
 use Rattle.std.specs.Prelude.{ℕ, List}
-use Rattle.class_tree.specs.declared.rows.TreeError.{TreeError}
-use Rattle.class_tree.specs.declared.rows.TreeError.TheVariants as error
+use Rattle.class_tree.specs.declared.errors.TreeError.{TreeError}
+use Rattle.class_tree.specs.declared.errors.TreeError.TheVariants as error
 use Rattle.lists.specs.Lists.{IsLeast}
-use Rattle.class_tree.specs.Rows.{IsOwnAncestor, NamesUnknown, Rows, rows_of}
+use Rattle.class_rules.specs.Rows.{IsOwnAncestor, NamesUnknown, Rows, rows_of}
 use Rattle.link_rules.specs.Refusals.{HasEarlierName}
 use Rattle.link_rules.specs.World.{AreRows, World}
 use Rattle.link_classes.specs.declared.order.ClassOrder.{ClassOrder}

@@ -1,7 +1,7 @@
 //! The first three rules that refuse a program: a class with the name of an earlier one, a parent that isn't declared, a class that is its own
 //! ancestor.
 ghost use Rattle.std.specs.Prelude.{◌≡◌, ◌<◌, ◌^◌, ℕ, List, Err, IfErr, IfOk, length};
-ghost use Rattle.class_tree.specs.Rows.{IsOwnAncestor, NameClasses, NamesUnknown};
+ghost use Rattle.class_rules.specs.Rows.{IsOwnAncestor, NameClasses, NamesUnknown};
 ghost use Rattle.link_rules.specs.declared.refusal.LinkKind.{LinkKind as AKind};
 ghost use Rattle.link_rules.specs.Classes.{IsNamed};
 ghost use Rattle.link_rules.specs.Refusals.{HasEarlierName, IsFirst, IsPlaceOf, whole};

@@ -3,7 +3,7 @@ ghost use Rattle.std.specs.Prelude.{◌≡◌, ◌≤◌, ◌<◌, ◌↔◌, �
 ghost use Rattle.jim_ast.specs.declared.names.NameId.{NameId as ANameId};
 ghost use Rattle.link_rules.specs.declared.refusal.LinkKind.{LinkKind as AKind};
 ghost use Rattle.link_rules.specs.declared.refusal.LinkKind.TheVariants as rule;
-ghost use Rattle.class_tree.specs.Rows.{Step};
+ghost use Rattle.class_rules.specs.Rows.{Step};
 ghost use Rattle.link_rules.specs.Classes.{DeclaredClass, IsNamed, class_name, fields_of, methods_of};
 ghost use Rattle.link_rules.specs.Conditions.{IsRead, field_sig_names, method_sig_names, AreWithin};
 ghost use Rattle.link_rules.specs.Keys.{IsFieldKeyNumber, IsMethodKeyNumber, accessed_key, called_key, is_static_mode};

@@ -12,7 +12,7 @@ use super::members::{fields_in_order, methods_in_order};
 use super::order::ClassOrder;
 use super::seen::{FieldIn, MethodIn};
 use super::tables::{FieldKeys, MethodKeys};
-use class_tree::{BodyKind, FieldRow, MethodRow};
+use class_rules::{BodyKind, FieldRow, MethodRow};
 use jim_ast::{MethodDecl, Names};
 use lists::NoMemory;
 use std::alloc::Global;

@@ -6,7 +6,7 @@ ghost use Rattle.link_classes.specs.Seen.{IsOrder};
 use super::member_tables::{FieldTable, MethodTable};
 use super::order::ClassOrder;
 use super::rows::{class_rows, interface_pairs};
-use class_tree::ClassRow;
+use class_rules::ClassRow;
 use lists::NoMemory;
 use std::alloc::Global;
 

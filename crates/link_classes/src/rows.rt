@@ -7,7 +7,7 @@ ghost use Rattle.link_classes.specs.Seen.{IsOrder, IsParentOf, IsSeen, seen_clas
 
 use super::order::ClassOrder;
 use super::seen::ClassIn;
-use class_tree::ClassRow;
+use class_rules::ClassRow;
 use lists::NoMemory;
 use std::alloc::Global;
 

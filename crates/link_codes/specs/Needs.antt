@@ -1,7 +1,7 @@
 -- What has to be there for the code of a statement, part by part. Where no rule refuses the statement, it is.
 use Rattle.std.specs.Prelude.{ℕ, ◌<◌, None, Bool, true, false, All, length}
 use Rattle.std.specs.Option.{ForSome}
-use Rattle.class_tree.specs.Lookups.{FieldOf}
+use Rattle.class_rules.specs.Lookups.{FieldOf}
 use Rattle.lists.specs.Lists.{Has}
 use Rattle.jim_ast.specs.declared.names.NameId.{NameId}
 use Rattle.jim_ast.specs.declared.syntax.Expr.{Expr}

@@ -3,10 +3,10 @@ use Rattle.std.proofs.Common.{◌≡◌, ℕ, Bool, true, false, not, ◌<◌, �
 use Rattle.std.specs.Prelude.{◌↔◌}
 use Rattle.std.proofs.lemmas.Bool.{false≢true}
 use Rattle.std.proofs.lemmas.List.{get_or-map}
-use Rattle.class_tree.specs.Lookups.{FieldOf, OnPath, Resolve}
-use Rattle.class_tree.specs.Rows.{Rows, Sub}
-use Rattle.class_tree.proofs.LawFacts.{look_up_one, path_one}
-use Rattle.class_tree.proofs.Selected.{selection_one}
+use Rattle.class_rules.specs.Lookups.{FieldOf, OnPath, Resolve}
+use Rattle.class_rules.specs.Rows.{Rows, Sub}
+use Rattle.class_rules.proofs.LawFacts.{look_up_one, path_one}
+use Rattle.class_rules.proofs.Selected.{selection_one}
 use Rattle.jim_ast.specs.declared.names.NameId.{NameId}
 use Rattle.lists.proofs.Places.{slice_get-below}
 use Rattle.lists.proofs.Joined.{first_one}

@@ -1,6 +1,6 @@
 -- What refuses a statement where it stands, with the statement given: the rules of statements, each as a fact of its parts.
 use Rattle.std.specs.Prelude.{◌≡◌, ◌≢◌, ℕ, ◌≤◌, ◌⊎◌, List, Some, None, IsSomeAnd, true, length, slice_get}
-use Rattle.class_tree.specs.Lookups.{FieldOf}
+use Rattle.class_rules.specs.Lookups.{FieldOf}
 use Rattle.lists.specs.Lists.{Has}
 use Rattle.jim_ast.specs.declared.names.NameId.{NameId}
 use Rattle.jim_ast.specs.declared.syntax.Base.TheVariants as base
@@ -15,7 +15,7 @@ use Rattle.jim_ast.specs.declared.syntax.Label.{Label}
 use Rattle.jim_ast.specs.declared.syntax.MethodDecl.{MethodDecl}
 use Rattle.jim_ast.specs.declared.syntax.Stmt.{Stmt}
 use Rattle.jim_ast.specs.declared.syntax.Stmt.TheVariants as stmt
-use Rattle.class_tree.specs.declared.rows.BodyKind.TheVariants.{Native}
+use Rattle.class_rules.specs.declared.rows.BodyKind.TheVariants.{Native}
 use Rattle.link_rules.specs.declared.refusal.LinkKind.{LinkKind}
 use Rattle.link_rules.specs.declared.refusal.LinkKind.TheVariants as rule
 use Rattle.link_rules.specs.Bodies.{HasNoLabel, IsLabel, MayFollow}

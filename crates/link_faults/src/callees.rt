@@ -1,6 +1,6 @@
 //! What a call names and may run, and the rules on it.
 ghost use Rattle.std.specs.Prelude.{◌≡◌, ◌<◌, ◌↔◌, ℕ, None, All, IfOk, IsTrue, length};
-ghost use Rattle.class_tree.specs.Lookups.{OnPath, Resolve};
+ghost use Rattle.class_rules.specs.Lookups.{OnPath, Resolve};
 ghost use Rattle.lists.specs.Lists.{Has};
 ghost use Rattle.jim_ast.specs.declared.syntax.Mode.TheVariants.{Special};
 ghost use Rattle.link_rules.specs.Classes.{methods_of};

@@ -2,8 +2,8 @@
 use Rattle.std.proofs.Common.{◌≡◌, ◌≢◌, ℕ, ◌<◌, Bool, true, false, not, is_some, Option, Some, None, List, [], ◌∷◌, length, slice_get, refl, sym, ap, ◌∙◌, subst, inl, inr, arith}
 use Rattle.std.proofs.lemmas.Bool.{cases_eq}
 use Rattle.std.proofs.lemmas.List.{length-map}
-use Rattle.class_tree.specs.Lookups.{OnPath, Resolve, on_path}
-use Rattle.class_tree.specs.Rows.{IsOwnAncestor, NamesUnknown}
+use Rattle.class_rules.specs.Lookups.{OnPath, Resolve, on_path}
+use Rattle.class_rules.specs.Rows.{IsOwnAncestor, NamesUnknown}
 use Rattle.lists.proofs.Places.{slice_get-below}
 use Rattle.jim_ast.specs.declared.names.NameId.{NameId}
 use Rattle.jim_ast.specs.declared.syntax.Imm.{Imm}

@@ -2,10 +2,10 @@
 use Rattle.std.proofs.Common.{◌≡◌, ℕ, ◌+◌, ◌<◌, ◌≤◌, Bool, true, false, not, cond, Some, List, length, slice_get, take, count_by, refl, sym, ap, ◌∙◌, subst, inl, inr, arith}
 use Rattle.std.proofs.lemmas.List.Sums.{count_by_more_yes, sum_by-take-le}
 use Rattle.std.proofs.lemmas.Option.{get_or_from_slice_get}
-use Rattle.class_tree.specs.Lookups.{Declared, FieldOf, Resolve}
-use Rattle.class_tree.specs.declared.rows.MethodRow.{MethodRow}
-use Rattle.class_tree.proofs.LawFacts.{look_up_finds}
-use Rattle.class_tree.proofs.Selected.{selection_finds}
+use Rattle.class_rules.specs.Lookups.{Declared, FieldOf, Resolve}
+use Rattle.class_rules.specs.declared.rows.MethodRow.{MethodRow}
+use Rattle.class_rules.proofs.LawFacts.{look_up_finds}
+use Rattle.class_rules.proofs.Selected.{selection_finds}
 use Rattle.lists.proofs.Places.{slice_get-below}
 use Rattle.link_rules.specs.Classes.{DeclaredField, DeclaredMethod, fields_of, methods_of}
 use Rattle.link_rules.specs.Codes.{instance_number, static_number}

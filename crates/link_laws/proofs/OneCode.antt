@@ -1,6 +1,6 @@
 -- The code of a statement is one.
 use Rattle.std.proofs.Common.{◌≡◌, ℕ, Bool, true, false, Some, None, Option, List, length, refl, sym, ap, ◌∙◌, slice_get}
-use Rattle.class_tree.proofs.LawFacts.{look_up_one}
+use Rattle.class_rules.proofs.LawFacts.{look_up_one}
 use Rattle.lists.specs.Lists.{IsApart, BothOrNone}
 use Rattle.lists.proofs.Joined.{first_one}
 use Rattle.jim_ast.specs.declared.names.NameId.{NameId}

@@ -4,12 +4,12 @@ use Rattle.std.specs.List.{AllByRecursion, IsDistinct, list_any}
 use Rattle.std.proofs.lemmas.Bool.{cases_order}
 use Rattle.std.proofs.lemmas.Map.Keys.{IsDistinct-cons}
 use Rattle.std.proofs.lemmas.Map.Steps.{length-le_from_distinct_below}
-use Rattle.class_tree.specs.Lookups.{OnPath, Resolve, ambiguous, by_default, ended, found, further, nowhere, on_path, own_body}
-use Rattle.class_order.specs.Paths.{ProperPath, here, step}
-use Rattle.class_tree.specs.Rows.{HasParent, IsOwnAncestor, NamesUnknown, Rows, Step}
-use Rattle.class_tree.specs.declared.rows.ClassRow.{ClassRow}
-use Rattle.class_tree.proofs.Decided.{only_or_other, some_default_decided}
-use Rattle.class_tree.proofs.LawFacts.{sub_transitive}
+use Rattle.class_rules.specs.Lookups.{OnPath, Resolve, ambiguous, by_default, ended, found, further, nowhere, on_path, own_body}
+use Rattle.class_rules.specs.Paths.{ProperPath, here, step}
+use Rattle.class_rules.specs.Rows.{HasParent, IsOwnAncestor, NamesUnknown, Rows, Step}
+use Rattle.class_rules.specs.declared.rows.ClassRow.{ClassRow}
+use Rattle.class_rules.proofs.Decided.{only_or_other, some_default_decided}
+use Rattle.class_rules.proofs.LawFacts.{sub_transitive}
 use Rattle.lists.proofs.Places.{slice_get-there}
 
 -- no numbers are apart

@@ -1,8 +1,8 @@
 -- A call of static or special mode has one target.
 use Rattle.std.proofs.Common.{◌≡◌, ℕ, Some, None, List, [], ◌∷◌, length, refl, sym, ap, ◌∙◌, arith}
 use Rattle.std.proofs.lemmas.Option.{same_Some}
-use Rattle.class_tree.proofs.LawFacts.{path_one}
-use Rattle.class_tree.proofs.Selected.{selection_one}
+use Rattle.class_rules.proofs.LawFacts.{path_one}
+use Rattle.class_rules.proofs.Selected.{selection_one}
 use Rattle.lists.specs.Lists.{Has, IsApart}
 use Rattle.jim_ast.specs.declared.syntax.Mode.{Mode}
 use Rattle.jim_ast.specs.declared.syntax.Mode.TheVariants.{Special, Virtual, Interface, Static}

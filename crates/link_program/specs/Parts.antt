@@ -1,6 +1,6 @@
 -- A linked program by its parts.
 use Rattle.std.specs.Prelude.{◌<◌, ◌^◌, List, length, map}
-use Rattle.class_tree.specs.Rows.{Rows}
+use Rattle.class_rules.specs.Rows.{Rows}
 use Rattle.link_rules.specs.Linked.{LinkedField, LinkedKey, LinkedProgram}
 use Rattle.link_rules.specs.WellLinked.{IsInForm}
 use Rattle.link_indexes.specs.Tables.{AreIndexes, Tables}

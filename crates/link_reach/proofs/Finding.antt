@@ -7,9 +7,9 @@ use Rattle.std.proofs.lemmas.Map.Made.{is_member-Decides}
 use Rattle.std.specs.Option.{is_some, option_to_list}
 use Rattle.std.proofs.lemmas.List.{append-nil, append_assoc}
 use Rattle.std.proofs.lemmas.Option.{slice_get-get_or}
-use Rattle.class_tree.specs.Rows.{HasParent, interfaces_of}
-use Rattle.class_order.proofs.Listed.{Contains-at}
-use Rattle.class_tree.proofs.Parents.{interface_listed, interface_named}
+use Rattle.class_rules.specs.Rows.{HasParent, interfaces_of}
+use Rattle.lists.proofs.Elements.{Contains-at}
+use Rattle.class_rules.proofs.Parents.{interface_listed, interface_named}
 use Rattle.lists.specs.Lists.{Adds, Has}
 use Rattle.lists.proofs.Places.{Has-adds_itself, slice_get-added, slice_get-adds, slice_get-append_left, slice_get-push}
 use Rattle.link_rules.specs.Classes.{DeclaredMethod, methods_of}

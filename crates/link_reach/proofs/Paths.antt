@@ -1,7 +1,7 @@
 -- What the root leads to in the graph is what a run may reach.
 use Rattle.std.proofs.Common.{◌≡◌, ℕ, ◌⊎◌, [], refl, subst, inl, inr}
-use Rattle.class_order.specs.Paths.{Path, here, step}
-use Rattle.class_tree.specs.Rows.{Step, Sub}
+use Rattle.class_rules.specs.Paths.{Path, here, step}
+use Rattle.class_rules.specs.Rows.{Step, Sub}
 use Rattle.lists.proofs.Places.{slice_get-push}
 use Rattle.link_rules.specs.Classes.{DeclaredMethod, methods_of}
 use Rattle.link_rules.specs.Reach.{AsksFor, DeclaresBody, IsInitialized, IsMethod, Reached, asked, called, initialized, root}

@@ -7,8 +7,8 @@ use Rattle.std.proofs.lemmas.List.{take_more, take-append-le}
 use Rattle.std.proofs.lemmas.Map.Made.{is_member-Decides}
 use Rattle.std.proofs.lemmas.Map.Steps.{length-le_from_distinct_below}
 use Rattle.std.proofs.lemmas.Option.{get_or_from_slice_get, slice_get-get_or}
-use Rattle.class_tree.proofs.LawFacts.{path_finds}
-use Rattle.class_tree.proofs.Selected.{selection_finds}
+use Rattle.class_rules.proofs.LawFacts.{path_finds}
+use Rattle.class_rules.proofs.Selected.{selection_finds}
 use Rattle.lists.proofs.Places.{slice_get-append_left, slice_get-below, slice_get-there}
 use Rattle.jim_ast.specs.declared.syntax.Mode.{Mode}
 use Rattle.jim_ast.specs.declared.syntax.Mode.TheVariants.{Special, Virtual, Interface, Static}

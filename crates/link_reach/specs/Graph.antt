@@ -1,7 +1,7 @@
 -- What may be reached as a graph: methods lead to what they call and to the classes that they touch, classes to what is above them and to what
 -- their initializers run.
 use Rattle.std.specs.Prelude.{ℕ, ◌<◌, List, [], ◌∷◌, length}
-use Rattle.class_tree.specs.Rows.{Step}
+use Rattle.class_rules.specs.Rows.{Step}
 use Rattle.link_rules.specs.Classes.{DeclaredMethod, IsNamed, methods_of}
 use Rattle.link_rules.specs.Reach.{DeclaresBody, IsMethod, IsTarget, Touches}
 use Rattle.link_rules.specs.Root.{initializer_key, root_number, root_of}

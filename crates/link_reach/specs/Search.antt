@@ -1,7 +1,7 @@
 -- What the search has found.
 use Rattle.std.specs.Prelude.{◌≡◌, ℕ, ◌+◌, ◌-◌, ◌<◌, ◌≤◌, ◌↔◌, ◌⊎◌, ◌++◌, List, Some, length, slice_get, take}
 use Rattle.lists.specs.Lists.{Has}
-use Rattle.class_tree.specs.Rows.{Step}
+use Rattle.class_rules.specs.Rows.{Step}
 use Rattle.link_rules.specs.Classes.{DeclaredMethod, methods_of}
 use Rattle.link_rules.specs.Root.{root_number}
 use Rattle.link_rules.specs.World.{World}

@@ -1,11 +1,11 @@
 -- What is linked is determined: each relation that says what it is has one answer.
 use Rattle.std.proofs.Common.{◌≡◌, ℕ, Bool, ◌<◌, ◌++◌, Option, Some, None, List, [], ◌∷◌, length, refl, sym, ap, subst, ◌∙◌, inl, inr}
 use Rattle.std.proofs.lemmas.Bool.{cases_order}
-use Rattle.class_tree.specs.Rows.{Rows, rows_of}
-use Rattle.class_tree.specs.declared.rows.BodyKind.{BodyKind}
-use Rattle.class_tree.specs.declared.rows.ClassRow.{ClassRow}
-use Rattle.class_tree.specs.declared.rows.FieldRow.{FieldRow}
-use Rattle.class_tree.specs.declared.rows.MethodRow.{MethodRow}
+use Rattle.class_rules.specs.Rows.{Rows, rows_of}
+use Rattle.class_rules.specs.declared.rows.BodyKind.{BodyKind}
+use Rattle.class_rules.specs.declared.rows.ClassRow.{ClassRow}
+use Rattle.class_rules.specs.declared.rows.FieldRow.{FieldRow}
+use Rattle.class_rules.specs.declared.rows.MethodRow.{MethodRow}
 use Rattle.lists.proofs.Places.{slice_get-below, slice_get-extensional, slice_get-there}
 use Rattle.jim_ast.specs.declared.names.NameId.{NameId}
 use Rattle.link_rules.specs.Classes.{DeclaredClass, DeclaredField, DeclaredMethod, IsCompleted, IsDeclared, IsDefaultParent, IsNamed, IsParentBy, NamedInterface, class_name, comes, ends, fields_of, is_left_out, methods_of, named_interfaces}

@@ -2,9 +2,9 @@
 use Rattle.std.proofs.Common.{◌≡◌, ℕ, zero, suc, ◌<◌, ◌⊎◌, Some, List, [], ◌∷◌, ◌+◌, refl, sym, subst, ◌∙◌, slice_get, inl, inr, arith}
 use Rattle.std.specs.Prelude.{AllPairs, ◌↔◌}
 use Rattle.std.proofs.lemmas.Option.{get_or_from_slice_get}
-use Rattle.class_tree.specs.Lookups.{OnPath, Resolve}
-use Rattle.class_tree.proofs.LawFacts.{path_one}
-use Rattle.class_tree.proofs.Selected.{selection_one}
+use Rattle.class_rules.specs.Lookups.{OnPath, Resolve}
+use Rattle.class_rules.proofs.LawFacts.{path_one}
+use Rattle.class_rules.proofs.Selected.{selection_one}
 use Rattle.lists.specs.Lists.{Has, IsApart}
 use Rattle.lists.proofs.Places.{slice_get-below, slice_get-there}
 use Rattle.jim_ast.specs.declared.syntax.Mode.TheVariants.{Special, Virtual, Interface, Static}

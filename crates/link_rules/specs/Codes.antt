@@ -1,6 +1,6 @@
 -- The code of each statement, in which names are numbers.
 use Rattle.std.specs.Prelude.{◌≡◌, ℕ, suc, Bool, List, Some, None, true, false, count_by, not, slice_get, take}
-use Rattle.class_tree.specs.Lookups.{FieldOf}
+use Rattle.class_rules.specs.Lookups.{FieldOf}
 use Rattle.jim_ast.specs.declared.names.NameId.{NameId}
 use Rattle.jim_ast.specs.declared.syntax.Base.{Base}
 use Rattle.jim_ast.specs.declared.syntax.Base.TheVariants as base

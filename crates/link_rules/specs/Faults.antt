@@ -2,9 +2,9 @@
 -- analysed ends, or where a name has no meaning.
 use Rattle.std.specs.Prelude.{◌≡◌, ◌≢◌, ℕ, ◌<◌, ◌≤◌, ◌⊎◌, List, [], Option, Some, None, true, IsTrue, codes, length, nat_eq, slice_get}
 use Rattle.std.specs.List.{starts_with}
-use Rattle.class_tree.specs.Lookups.{Declared, FieldOf, IsAmbiguous, OnPath, Resolve}
-use Rattle.class_tree.specs.Rows.{Sub}
-use Rattle.class_tree.specs.declared.rows.BodyKind.TheVariants.{Native}
+use Rattle.class_rules.specs.Lookups.{Declared, FieldOf, IsAmbiguous, OnPath, Resolve}
+use Rattle.class_rules.specs.Rows.{Sub}
+use Rattle.class_rules.specs.declared.rows.BodyKind.TheVariants.{Native}
 use Rattle.lists.specs.Lists.{Has, IsRepeated}
 use Rattle.jim_ast.specs.declared.names.NameId.{NameId}
 use Rattle.jim_ast.specs.declared.syntax.Base.TheVariants as base

@@ -2,7 +2,7 @@
 use Rattle.std.specs.Prelude.{◌≡◌, ℕ, ◌↔◌, ◌++◌, ◌<◌, List, [], ◌∷◌, Option, Some, None, IsTrue, Bool, not, codes, count_by, filter, flat_map, length, map, slice_get}
 use Rattle.std.specs.List.{enumerate_from, filter_map}
 use Rattle.std.specs.Option.{option_to_list}
-use Rattle.class_tree.specs.Rows.{Rows}
+use Rattle.class_rules.specs.Rows.{Rows}
 use Rattle.lists.specs.Lists.{Has, AreIncreasing, Each, FirstSeen}
 use Rattle.jim_ast.specs.declared.syntax.Body.{Body}
 use Rattle.jim_ast.specs.declared.syntax.Expr.TheVariants as expr

@@ -1,8 +1,8 @@
 -- Which methods a run may reach: the least set with the root and the targets of calls, together with the initializers that the root calls.
 use Rattle.std.specs.Prelude.{◌≡◌, ℕ, ◌⊎◌, ◌↔◌, ◌++◌, List, [], ◌∷◌, Some, true, slice_get}
-use Rattle.class_tree.specs.Lookups.{own_body}
-use Rattle.class_tree.specs.Rows.{Sub}
-use Rattle.class_tree.specs.declared.rows.BodyKind.TheVariants.{Plain}
+use Rattle.class_rules.specs.Lookups.{own_body}
+use Rattle.class_rules.specs.Rows.{Sub}
+use Rattle.class_rules.specs.declared.rows.BodyKind.TheVariants.{Plain}
 use Rattle.lists.specs.Lists.{Has, AreIncreasing}
 use Rattle.jim_ast.specs.declared.syntax.Mode.TheVariants.{Static}
 use Rattle.jim_ast.specs.declared.syntax.Stmt.TheVariants as stmt

@@ -1,6 +1,6 @@
 -- Which rules refuse a program, which of them is first, and what is told of it.
 use Rattle.std.specs.Prelude.{◌≡◌, ℕ, ◌<◌, ◌⊎◌, List, [], Some, codes, slice_get}
-use Rattle.class_tree.specs.Rows.{IsOwnAncestor, NamesUnknown}
+use Rattle.class_rules.specs.Rows.{IsOwnAncestor, NamesUnknown}
 use Rattle.link_rules.specs.declared.refusal.LinkKind.{LinkKind}
 use Rattle.link_rules.specs.declared.refusal.LinkKind.TheVariants as rule
 use Rattle.link_rules.specs.Classes.{DeclaredClass, DeclaredMethod, IsNamed, class_name, method_text, methods_of}

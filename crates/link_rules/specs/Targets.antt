@@ -1,7 +1,7 @@
 -- Which methods a call may run: class hierarchy analysis (Dean, Grove and Chambers 1995), over the classes of which objects are made.
 use Rattle.std.specs.Prelude.{◌≡◌, ℕ, ◌<◌, ◌⊎◌, ◌↔◌, List, [], ◌∷◌, Some, false, codes, slice_get, AllPairs}
-use Rattle.class_tree.specs.Lookups.{OnPath, Resolve}
-use Rattle.class_tree.specs.Rows.{Sub}
+use Rattle.class_rules.specs.Lookups.{OnPath, Resolve}
+use Rattle.class_rules.specs.Rows.{Sub}
 use Rattle.lists.specs.Lists.{Has, IsApart}
 use Rattle.jim_ast.specs.declared.syntax.Mode.{Mode}
 use Rattle.jim_ast.specs.declared.syntax.Mode.TheVariants.{Special, Virtual, Interface, Static}

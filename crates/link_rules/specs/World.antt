@@ -1,11 +1,11 @@
 -- What is linked: the classes in order, the rows of their hierarchy, and where the program begins.
 use Rattle.std.specs.Prelude.{◌≡◌, ℕ, List, Option, Some, None, Bool, true, false, length}
-use Rattle.class_tree.specs.declared.rows.BodyKind.{BodyKind}
-use Rattle.class_tree.specs.declared.rows.BodyKind.TheVariants.{Plain, Native, Missing}
-use Rattle.class_tree.specs.declared.rows.ClassRow.{ClassRow}
-use Rattle.class_tree.specs.declared.rows.FieldRow.{FieldRow}
-use Rattle.class_tree.specs.declared.rows.MethodRow.{MethodRow}
-use Rattle.class_tree.specs.Rows.{Rows}
+use Rattle.class_rules.specs.declared.rows.BodyKind.{BodyKind}
+use Rattle.class_rules.specs.declared.rows.BodyKind.TheVariants.{Plain, Native, Missing}
+use Rattle.class_rules.specs.declared.rows.ClassRow.{ClassRow}
+use Rattle.class_rules.specs.declared.rows.FieldRow.{FieldRow}
+use Rattle.class_rules.specs.declared.rows.MethodRow.{MethodRow}
+use Rattle.class_rules.specs.Rows.{Rows}
 use Rattle.jim_ast.specs.declared.syntax.Body.{Body}
 use Rattle.jim_ast.specs.declared.syntax.Program.{Program}
 use Rattle.link_rules.specs.Classes.{DeclaredClass, DeclaredField, DeclaredMethod, NamedInterface, IsClassOrder, IsNamed, IsParentName, fields_of, named_interfaces, methods_of}

@@ -11,3 +11,4 @@ pub mod Exactly
 pub mod Joined
 pub mod OneKey
 pub mod Found
+pub mod Elements

@@ -7,7 +7,7 @@ use Rattle.std.proofs.lemmas.List.{get_or_append_left}
 use Rattle.std.proofs.lemmas.List.Elements.{All-contains, All-push, Contains-append_left, Contains-push, Contains-push_cases}
 use Rattle.class_tree.specs.declared.turns.Turn.{Turn}
 use Rattle.class_tree.specs.Turns.{turned}
-use Rattle.class_order.proofs.Listed.{Contains-nil, same_read}
+use Rattle.lists.proofs.Elements.{Contains-nil, same_read}
 use Rattle.class_tree.proofs.Turning.{row_before, row_before-at, row_before-none, turned-parted}
 use Rattle.object_ranges.specs.declared.parts.Part.{Part}
 use Rattle.object_ranges.specs.Marks.{Stands}

@@ -8,7 +8,7 @@ use Rattle.std.proofs.lemmas.List.{get_or-take, length-take-le, take_all}
 use Rattle.class_order.specs.declared.spans.Span.{Span}
 use Rattle.class_tree.specs.declared.turns.Turn.{Turn}
 use Rattle.class_tree.specs.Turns.{turned}
-use Rattle.class_order.proofs.Listed.{Contains-nil, Contains-take_kept, Contains-take_last, Contains-take_more}
+use Rattle.lists.proofs.Elements.{Contains-nil, Contains-take_kept, Contains-take_last, Contains-take_more}
 use Rattle.lists.specs.Lists.{IsLeast}
 use Rattle.object_ranges.specs.declared.chosen.Choice.{Choice}
 use Rattle.object_ranges.specs.declared.parts.Part.{Part}

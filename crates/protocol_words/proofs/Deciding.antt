@@ -2,7 +2,7 @@
 use Rattle.std.proofs.Common.{◌≡◌, ℕ, zero, suc, ◌+◌, ◌<◌, ◌≤◌, ◌⊎◌, List, [], ◌∷◌, ◌++◌, Option, Some, None, flat_map, length, slice_get, take, append_assoc, refl, sym, ap, subst, ◌∙◌, inl, inr, arith}
 use Rattle.std.proofs.lemmas.Bool.{cases_eq, cases_lt}
 use Rattle.std.proofs.lemmas.List.{append-nil, take_all}
-use Rattle.class_tree.proofs.Decided.{IsDecided, both_decided, same_decided}
+use Rattle.class_rules.proofs.Decided.{IsDecided, both_decided, same_decided}
 use Rattle.lists.specs.Lists.{Adds, Has, Each, FirstSeen, none, next}
 use Rattle.lists.proofs.Places.{IsApart-adds, slice_get-append_left, slice_get-there, take-next}
 use Rattle.link_laws.proofs.Lists.{map_at}

@@ -72,18 +72,20 @@ fn sought_sites(
     Ok(sites)
 }
 
-/// The sites whose objects the node with this number may hold, in the order in which they are printed, over its demand.
+/// The sites whose objects the node may hold, in the order in which they are printed, over the demand of its query.
 pub fn answer_sites(
     alloc: Global,
     demand: &Demand,
     solved: &Solved,
-    node: u32,
+    node: Node,
 ) -> Result<Vec<Site>, NoMemory>
-    requires few { length demand.now.sites < 2 ^ 32 }
-    ensures { IfOk result (λ sites. (p : LinkedProgram) (n : ANode) → IsDemandOf p (asked (n ∷ [])) demand.now
-        → IsSolved p (asked (n ∷ [])) demand.now solved.now → slice_get demand.now.nodes node ≡ Some n → AreAnswered p (asked (n ∷ [])) n sites.items) }
+    requires demanded { (p : LinkedProgram) × IsDemandOf p (asked (node ∷ [])) demand.now }
+    requires few { length demand.now.nodes < 2 ^ 32 }
+    ensures { IfOk result (λ sites. (p : LinkedProgram) → IsDemandOf p (asked (node ∷ [])) demand.now
+        → IsSolved p (asked (node ∷ [])) demand.now solved.now → AreAnswered p (asked (node ∷ [])) node sites.items) }
 {
-    sought_sites(alloc, demand, solved, node, None)
+    let number = demand.number_of(node).unwrap();
+    sought_sites(alloc, demand, solved, number, None)
 }
 
 // The number of the second node among those of the demand, where there is one.

@@ -1,8 +1,8 @@
 -- Which targets the answers of receivers lead to, and what is left after so many rounds. This is this project's own, over the answers of Späth, Ali and
 -- Bodden 2019.
 use Rattle.std.specs.Prelude.{◌≡◌, ℕ, zero, suc, ◌↔◌, ◌⊎◌, List, [], ◌∷◌, Some, slice_get}
-use Rattle.class_tree.specs.Lookups.{Resolve}
-use Rattle.class_tree.specs.Rows.{Sub}
+use Rattle.class_rules.specs.Lookups.{Resolve}
+use Rattle.class_rules.specs.Rows.{Sub}
 use Rattle.jim_ast.specs.declared.syntax.Mode.{Mode}
 use Rattle.jim_ast.specs.declared.syntax.Mode.TheVariants.{Special, Virtual, Interface, Static}
 use Rattle.link_rules.specs.Linked.{LinkedProgram}

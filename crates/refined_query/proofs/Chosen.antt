@@ -3,9 +3,9 @@ use Rattle.std.proofs.Common.{◌≡◌, ℕ, ◌+◌, ◌<◌, ◌≤◌, ◌�
 use Rattle.std.specs.Bool.{IsTrue}
 use Rattle.std.specs.Option.{is_some}
 use Rattle.std.proofs.lemmas.Bool.{cases_order}
-use Rattle.class_tree.proofs.Selected.{selection_one}
-use Rattle.class_tree.specs.Lookups.{Resolve}
-use Rattle.class_tree.specs.Rows.{Sub}
+use Rattle.class_rules.proofs.Selected.{selection_one}
+use Rattle.class_rules.specs.Lookups.{Resolve}
+use Rattle.class_rules.specs.Rows.{Sub}
 use Rattle.lists.specs.Lists.{Adds, Has, HasMore}
 use Rattle.lists.proofs.Places.{slice_get-below, Has-push}
 use Rattle.link_rules.specs.Linked.{LinkedProgram}

@@ -1,5 +1,5 @@
 -- What a query demands of a program that is left, where its node stands and where its method has lost its statements.
-use Rattle.std.proofs.Common.{◌≡◌, ℕ, List, [], ◌∷◌, Some, length, slice_get, refl, sym, ap, ◌∙◌, inl, inr, arith}
+use Rattle.std.proofs.Common.{◌≡◌, ℕ, List, [], ◌∷◌, Some, length, slice_get, refl, sym, ap, ◌∙◌, subst, inl, inr, arith}
 use Rattle.lists.proofs.Places.{slice_get-there}
 use Rattle.demand_set.specs.Demands.{DemandParts, IsDemandOf}
 use Rattle.demand_set.specs.Walks.{HasAtMost}
@@ -33,11 +33,8 @@ module _ (q : LinkedProgram) (n : Node) where
   no_node m there none is =
       let same : is.method ≡ m = let a = is.there in cc (a, there) in
       let code : is.method.code ≡ [] = ap (λ (x : LinkedMethod). x.code) same ∙ none in
-      nothing is.method.code n.place.index is.code code is.here
-    where
-      nothing : (cs : List Code) (i : ℕ) (c : Code) → cs ≡ [] → slice_get cs i ≡ Some c → ⊥
-      nothing [] i c e here = cc
-      nothing (d ∷ ds) i c e here = cc
+      let here = subst (λ (cs : List Code). slice_get cs n.place.index ≡ Some is.code) code is.here in
+      cc
 
   -- where there are statements, the node stands
   pub still_node : StandsOrIsLost q n → (m : LinkedMethod) → slice_get q.methods n.place.method ≡ Some m → (m.code ≡ [] → ⊥) → IsNode q n

@@ -142,12 +142,8 @@ module _ (p q : LinkedProgram) (kept : List Kept) (n : IsNarrowed p kept q) wher
         | inl goes ↦
             let c = code_before kept number old.0.code has.at.method.code goes.code index has.code has.at.here in
             record { code = c.0; at = record { method = old.0; there = old.1; here = c.1 }; is_so = was c.0 has.code c.2 has.is_so }
-        | inr lost ↦ absurd (let none = lost.code in let here = has.at.here in nothing has.at.method.code index has.code none here)
+        | inr lost ↦ absurd (let here = subst (λ (cs : List Code). slice_get cs index ≡ Some has.code) lost.code has.at.here in cc)
       ]
-    where
-      nothing : (cs : List Code) (i : ℕ) (c : Code) → cs ≡ [] → slice_get cs i ≡ Some c → ⊥
-      nothing [] i c e here = cc
-      nothing (d ∷ ds) i c e here = cc
 
   -- so is a site
   pub site_was : (s : Site) → IsSite q s → IsSite p s

@@ -1,7 +1,7 @@
 -- Which targets the sites of an answer lead to.
 use Rattle.std.specs.Prelude.{◌≡◌, ℕ, ◌⊎◌, List, Option, Some, None, slice_get}
-use Rattle.class_tree.specs.Lookups.{Resolve}
-use Rattle.class_tree.specs.Rows.{Sub}
+use Rattle.class_rules.specs.Lookups.{Resolve}
+use Rattle.class_rules.specs.Rows.{Sub}
 use Rattle.lists.specs.Lists.{Has, HasMore}
 use Rattle.link_rules.specs.Linked.{LinkedProgram}
 use Rattle.link_sites.specs.declared.site.Site.{Site}

@@ -13,6 +13,7 @@ ghost use Rattle.spds_rules.specs.Answers.{AreAnswered};
 ghost use Rattle.lists.specs.Lists.{HasMore};
 ghost use Rattle.spds_rules.specs.Nodes.{IsNode};
 
+use super::answered::sites_over;
 use super::pairs::lacking;
 use super::rounds::{left_of, rounds_of};
 use demand_set::{Demand, DemandError, Reach};
@@ -21,7 +22,7 @@ use link_program::Linked;
 use link_sites::Site;
 use lists::NoMemory;
 use program_demand::demand;
-use query_core::{Hands, answer_sites};
+use query_core::Hands;
 use spds_rules::Node;
 use spds_solve::Gate;
 use std::marker::Sync;
@@ -56,9 +57,7 @@ fn found_over<R: Threads + Sync, G: Gate>(
     ensures sites { IfOk result (λ found. AreAnswered linked.now (query_of node) node found.sites) }
     ensures size { IfOk result (λ found. found.demanded ≡ length demand.now.nodes) }
 {
-    let number = demand.number_of(node).unwrap();
-    let solved = hands.solve(linked, demand)?;
-    let sites = answer_sites(hands.alloc, demand, &solved, number)?;
+    let sites = sites_over(hands, linked, demand, node)?;
     Ok(Found {
         sites: List::from_vec(sites),
         demanded: demand.nodes().len() as u32,

@@ -22,8 +22,8 @@ use std::alloc::AllocError;
 use std::marker::Sync;
 use std::thread::Threads;
 
-// The sites that the query of the node answers, over its demand.
-fn sites_over<R: Threads + Sync, G: Gate>(
+/// The sites that the query of the node answers, over its demand.
+pub fn sites_over<R: Threads + Sync, G: Gate>(
     hands: &Hands<'_, R, G>,
     linked: &Linked,
     demand: &Demand,
@@ -34,9 +34,8 @@ fn sites_over<R: Threads + Sync, G: Gate>(
     requires few { length demand.now.nodes < 2 ^ 32 }
     ensures { IfOk result (λ sites. AreAnswered linked.now (query_of node) node sites.items) }
 {
-    let number = demand.number_of(node).unwrap();
     let solved = hands.solve(linked, demand)?;
-    answer_sites(hands.alloc, demand, &solved, number)
+    answer_sites(hands.alloc, demand, &solved, node)
 }
 
 // The sites that the query of the node answers, or nothing where it demands more nodes than the budget allows.

@@ -1,6 +1,6 @@
 -- What the steps of a well linked program may do: what is made has an instantiable class, and what is called is found by look-up.
 use Rattle.std.proofs.Common.{◌≡◌, ◌≢◌, ℕ, Bool, true, false, Option, Some, None, List, [], ◌∷◌, ◌++◌, ◌+◌, map, is_some, slice_get, refl, subst, inl, inr, All}
-use Rattle.class_tree.specs.Rows.{Sub}
+use Rattle.class_rules.specs.Rows.{Sub}
 use Rattle.jim_ast.specs.declared.syntax.Mode.{Mode}
 use Rattle.jim_ast.specs.declared.syntax.Mode.TheVariants.{Special, Virtual, Interface, Static}
 use Rattle.link_rules.specs.declared.code.Arg.{Arg}

@@ -1,8 +1,8 @@
 -- Each run enters targets of its calls.
 use Rattle.std.proofs.Common.{◌≡◌, ℕ, List, [], ◌∷◌, ◌++◌, Option, Some, None, All, length, slice_get, refl, sym, subst, inl, inr, arith}
-use Rattle.class_tree.proofs.LawFacts.{path_one}
-use Rattle.class_tree.specs.Lookups.{OnPath, Resolve, ambiguous, by_default, nowhere, on_path}
-use Rattle.class_tree.specs.Rows.{Sub}
+use Rattle.class_rules.proofs.LawFacts.{path_one}
+use Rattle.class_rules.specs.Lookups.{OnPath, Resolve, ambiguous, by_default, nowhere, on_path}
+use Rattle.class_rules.specs.Rows.{Sub}
 use Rattle.jim_ast.specs.declared.syntax.Expr.TheVariants as expr
 use Rattle.jim_ast.specs.declared.syntax.Imm.{Imm}
 use Rattle.jim_ast.specs.declared.syntax.Invoke.TheVariants.{Plain}

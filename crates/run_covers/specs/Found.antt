@@ -1,7 +1,7 @@
 -- Which methods a run finds.
 use Rattle.std.specs.Prelude.{◌≡◌, ℕ, List, Some, slice_get}
-use Rattle.class_tree.specs.Lookups.{Resolve}
-use Rattle.class_tree.specs.Rows.{Sub}
+use Rattle.class_rules.specs.Lookups.{Resolve}
+use Rattle.class_rules.specs.Rows.{Sub}
 use Rattle.jim_ast.specs.declared.syntax.Mode.{Mode}
 use Rattle.jim_ast.specs.declared.syntax.Mode.TheVariants.{Special, Virtual, Interface, Static}
 use Rattle.jim_ast.specs.declared.syntax.Program.{Program}

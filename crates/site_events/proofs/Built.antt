@@ -27,7 +27,7 @@ use Rattle.track_systems.specs.Laws.{IsAmongSixteen}
 use Rattle.track_systems.specs.Values.{IsWeight}
 use Rattle.track_systems.specs.Weights.{Anywhere, IsInside, May, Sends, Within}
 use Rattle.track_systems.specs.Weights as weights
-use Rattle.track_systems.proofs.Meaning.{meaning}
+use Rattle.weight_laws.proofs.Meaning.{meaning}
 use Rattle.weight_laws.specs.declared.rel.Rel.{Rel}
 use Rattle.weight_laws.specs.Rel.{Relates, rel_domain}
 use Rattle.weight_laws.specs.RelLaws.{rel_lawful}

@@ -11,7 +11,7 @@ use Rattle.lists.proofs.Places.{slice_get-set_other, slice_get-set_same, slice_g
 use Rattle.track_rules.specs.declared.row.ProtocolRow.{ProtocolRow}
 use Rattle.track_rules.specs.Protocols.{HasRow, ProtocolParts}
 use Rattle.track_systems.specs.Values.{IsWeight}
-use Rattle.track_systems.proofs.Meaning.{meaning}
+use Rattle.weight_laws.proofs.Meaning.{meaning}
 use Rattle.weight_laws.specs.declared.rel.Rel.{Rel}
 use Rattle.weight_laws.specs.Rel.{Relates, rel_domain}
 use Rattle.weight_laws.specs.RelLaws.{pow_bit, rel_lawful}

@@ -5,7 +5,7 @@ use Rattle.lists.proofs.Places.{Has-push}
 use Rattle.link_rules.specs.Linked.{LinkedProgram}
 use Rattle.link_rules.specs.WellLinked.{HasTarget}
 use Rattle.link_sites.specs.declared.place.Place.{Place}
-use Rattle.track_systems.proofs.Meaning.{meaning}
+use Rattle.weight_laws.proofs.Meaning.{meaning}
 use Rattle.weight_laws.specs.declared.rel.Rel.{Rel}
 use Rattle.weight_laws.specs.Rel.{Relates, rel_domain}
 use Rattle.site_events.specs.declared.inner.Inner.{Inner}

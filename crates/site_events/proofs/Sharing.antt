@@ -1,7 +1,7 @@
 -- Which classes may have objects of another class too.
 use Rattle.std.proofs.Common.{◌≡◌, ℕ, zero, suc, ◌+◌, ◌<◌, ◌≤◌, ◌↔◌, List, [], ◌∷◌, ◌++◌, Option, None, Some, Bool, IsTrue, length, replicate, slice_get, slice_set, inl, inr, sym, subst, arith}
 use Rattle.std.proofs.lemmas.Bool.{cases_eq, cases_lt}
-use Rattle.class_tree.specs.Rows.{Sub}
+use Rattle.class_rules.specs.Rows.{Sub}
 use Rattle.lists.specs.Lists.{Has}
 use Rattle.lists.proofs.Places.{slice_get-below, slice_get-set_other, slice_get-set_same, Has-push}
 use Rattle.link_rules.specs.Linked.{LinkedProgram}

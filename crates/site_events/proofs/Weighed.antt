@@ -1,7 +1,7 @@
 -- Weights that are joined, as the relations that they are.
 use Rattle.std.proofs.Common.{◌≡◌, ◌↔◌, ◌⊎◌, inl, inr, ℕ, ◌<◌}
 use Rattle.track_systems.specs.Values.{IsWeight}
-use Rattle.track_systems.proofs.Meaning.{meaning}
+use Rattle.weight_laws.proofs.Meaning.{meaning}
 use Rattle.weight_laws.specs.declared.rel.Rel.{Rel}
 use Rattle.weight_laws.specs.Rel.{rel_domain}
 use Rattle.weight_laws.specs.RelLaws.{rel_lawful}

@@ -1,6 +1,6 @@
 -- The event statements of a program, and the list of them.
 use Rattle.std.specs.Prelude.{◌≡◌, ◌↔◌, ℕ, Bool, List, Option, Some, AllPairs, IsTrue, length, slice_get}
-use Rattle.class_tree.specs.Rows.{Sub}
+use Rattle.class_rules.specs.Rows.{Sub}
 use Rattle.lists.specs.Lists.{Has, AreExactly}
 use Rattle.jim_ast.specs.declared.syntax.Mode.{Mode}
 use Rattle.link_rules.specs.declared.code.Arg.{Arg}

@@ -1,6 +1,6 @@
 -- Lists of triples that are found one after another, each over those before it.
 use Rattle.std.proofs.Common.{◌≡◌, ℕ, zero, suc, ◌<◌, List, [], ◌∷◌, ◌++◌, Some, slice_get, take, arith}
-use Rattle.class_order.proofs.Listed.{slice_get-take_push}
+use Rattle.lists.proofs.Elements.{slice_get-take_push}
 use Rattle.lists.proofs.Places.{slice_get-append_left}
 use Rattle.link_rules.specs.Linked.{LinkedProgram}
 use Rattle.link_sites.specs.declared.site.Site.{Site}

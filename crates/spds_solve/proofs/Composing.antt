@@ -2,7 +2,7 @@
 use Rattle.std.proofs.Common.{◌≡◌, ℕ, ◌+◌, ◌<◌, ◌≤◌, List, [], ◌∷◌, ◌++◌, length, take, Some, slice_get, sym, ap, ◌∙◌, subst, ◌⊎◌, inl, inr, append_assoc, length-append, arith}
 use Rattle.std.proofs.lemmas.Bool.{cases_eq, cases_order}
 use Rattle.std.proofs.lemmas.List.{append-nil}
-use Rattle.class_order.proofs.Listed.{slice_get-append_below}
+use Rattle.lists.proofs.Elements.{slice_get-append_below}
 use Rattle.lists.specs.Lists.{Has}
 use Rattle.lists.proofs.Places.{slice_get-append_left, slice_get-below, slice_get-pushed, Has-push}
 use Rattle.link_sites.specs.declared.place.Place.{Place}

@@ -1,10 +1,10 @@
 -- What the machine's table asks is decided.
 use Rattle.std.proofs.Common.{◌≡◌, ℕ, zero, suc, ◌+◌, ◌<◌, ◌≤◌, ◌⊎◌, Option, Some, None, Bool, true, false, List, [], ◌∷◌, length, slice_get, refl, subst, inl, inr, arith}
 use Rattle.std.proofs.lemmas.Bool.{cases_eq, cases_lt}
-use Rattle.class_tree.proofs.Decided.{IsDecided, anywhere_decided, both_decided, resolve_decided, same_decided, sub_decided, there_decided}
-use Rattle.class_tree.specs.Lookups.{Resolve}
+use Rattle.class_rules.proofs.Decided.{IsDecided, anywhere_decided, both_decided, resolve_decided, same_decided, sub_decided, there_decided}
+use Rattle.class_rules.specs.Lookups.{Resolve}
 use Rattle.lists.specs.Lists.{IsLeast}
-use Rattle.class_tree.specs.Rows.{Sub}
+use Rattle.class_rules.specs.Rows.{Sub}
 use Rattle.lists.proofs.Places.{slice_get-below}
 use Rattle.link_rules.specs.Accessed.{field_class}
 use Rattle.link_rules.specs.declared.code.Catch.{Catch}

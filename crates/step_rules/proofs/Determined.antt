@@ -2,7 +2,7 @@
 use Rattle.std.proofs.Common.{◌≡◌, ℕ, ◌+◌, ◌<◌, ◌⊎◌, List, [], ◌∷◌, ◌++◌, Option, Some, None, Bool, true, false, length, map, slice_get, refl, sym, ap, ◌∙◌, subst, arith, inl, inr}
 use Rattle.std.proofs.lemmas.Bool.{cases_order}
 use Rattle.std.proofs.lemmas.Option.{get_or_from_slice_get}
-use Rattle.class_tree.proofs.Selected.{selection_one}
+use Rattle.class_rules.proofs.Selected.{selection_one}
 use Rattle.lists.specs.Lists.{IsLeast, AreIncreasing}
 use Rattle.lists.proofs.Places.{slice_get-below}
 use Rattle.lists.proofs.Joined.{increasing_one}

@@ -1,6 +1,6 @@
 -- Each state of a run that goes on has a step.
 use Rattle.std.proofs.Common.{◌≡◌, ℕ, zero, suc, ◌+◌, ◌<◌, ◌⊎◌, List, [], ◌∷◌, ◌++◌, Option, Some, None, Bool, true, false, length, map, slice_get, refl, ap, ◌∙◌, subst, arith, inl, inr}
-use Rattle.class_tree.proofs.Decided.{IsDecided, same_decided, sub_decided}
+use Rattle.class_rules.proofs.Decided.{IsDecided, same_decided, sub_decided}
 use Rattle.lists.proofs.Places.{slice_get-there}
 use Rattle.jim_ast.specs.declared.syntax.Mode.{Mode}
 use Rattle.jim_ast.specs.declared.syntax.Mode.TheVariants.{Special, Virtual, Interface, Static}

@@ -1,8 +1,8 @@
 -- What a step may do, by the statement at which it is made. The list has as many entries as the step has choices.
 use Rattle.std.specs.Prelude.{◌≡◌, ℕ, ◌+◌, ◌<◌, ◌⊎◌, ◌++◌, List, [], ◌∷◌, Option, Some, None, Bool, true, false, length, map, slice_get}
-use Rattle.class_tree.specs.Lookups.{Resolve}
+use Rattle.class_rules.specs.Lookups.{Resolve}
 use Rattle.lists.specs.Lists.{IsLeast}
-use Rattle.class_tree.specs.Rows.{Sub}
+use Rattle.class_rules.specs.Rows.{Sub}
 use Rattle.jim_ast.specs.declared.syntax.Mode.{Mode}
 use Rattle.jim_ast.specs.declared.syntax.Mode.TheVariants.{Special, Virtual, Interface, Static}
 use Rattle.link_rules.specs.declared.code.Arg.{Arg}

@@ -1,8 +1,8 @@
 -- Whether a step is an event, and whether a row allows it.
 use Rattle.std.proofs.Common.{◌≡◌, ℕ, ◌<◌, Bool, true, false, true≢false, List, [], ◌∷◌, Option, Some, None, slice_get, refl, sym, ap, ◌∙◌, subst, inl, inr, arith}
 use Rattle.std.proofs.lemmas.Bool.{cases_eq, cases_order}
-use Rattle.class_tree.specs.Rows.{Sub}
-use Rattle.class_tree.proofs.Decided.{IsDecided, anywhere_decided, both_decided, not_decided, same_decided, sub_decided, there_decided}
+use Rattle.class_rules.specs.Rows.{Sub}
+use Rattle.class_rules.proofs.Decided.{IsDecided, anywhere_decided, both_decided, not_decided, same_decided, sub_decided, there_decided}
 use Rattle.link_rules.specs.declared.code.Code.{Code}
 use Rattle.link_rules.specs.declared.code.Code.TheVariants.{Call, NewArray, NewMulti}
 use Rattle.link_rules.specs.Linked.{LinkedClass, LinkedKey, LinkedMethod, LinkedProgram}

@@ -1,6 +1,6 @@
 -- Events: the calls by which the objects of a protocol change their states (Strom and Yemini 1986).
 use Rattle.std.specs.Prelude.{◌≡◌, ℕ, None, Some, slice_get}
-use Rattle.class_tree.specs.Rows.{Sub}
+use Rattle.class_rules.specs.Rows.{Sub}
 use Rattle.link_rules.specs.declared.code.Code.{Code}
 use Rattle.link_rules.specs.declared.code.Code.TheVariants.{This, Param, Caught, Copy, Cast, New, NewArray, NewMulti, Numeric, Length, Load, Store, LoadCell, StoreCell, LoadStatic, StoreStatic, Call, If, Goto, Switch, Return, Throw, Monitor, Skip}
 use Rattle.link_rules.specs.Linked.{LinkedKey, LinkedProgram}

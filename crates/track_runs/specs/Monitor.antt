@@ -1,6 +1,6 @@
 -- The monitor of a run: it keeps the state of each object, and changes it by the events on the object.
 use Rattle.std.specs.Prelude.{◌≡◌, ℕ, zero, suc, ◌-◌, ◌++◌, List, Some, length, replicate, slice_get, slice_set}
-use Rattle.class_tree.specs.Rows.{Sub}
+use Rattle.class_rules.specs.Rows.{Sub}
 use Rattle.link_rules.specs.Linked.{LinkedProgram}
 use Rattle.link_sites.specs.Sites.{IsArraySite}
 use Rattle.step_rules.specs.declared.parts.Value.TheVariants.{Object}

@@ -1,7 +1,7 @@
 -- The call at which a frame stands.
 use Rattle.std.proofs.Common.{◌≡◌, ℕ, Some, false, slice_get, ap, ◌∙◌, subst, inl, inr}
 use Rattle.step_rules.proofs.Determined.{code_one}
-use Rattle.class_tree.proofs.Decided.{IsDecided}
+use Rattle.class_rules.proofs.Decided.{IsDecided}
 use Rattle.link_rules.specs.declared.code.Code.{Code}
 use Rattle.link_rules.specs.declared.code.Code.TheVariants as code
 use Rattle.link_rules.specs.Linked.{LinkedMethod, LinkedProgram}

@@ -34,7 +34,7 @@ use Rattle.track_systems.specs.Track.{Tracks}
 use Rattle.track_systems.specs.Track as track
 use Rattle.track_systems.specs.Weights.{Across, Changes, InFlight, Sends}
 use Rattle.track_systems.specs.Weights as weights
-use Rattle.class_tree.proofs.Decided.{IsDecided}
+use Rattle.class_rules.proofs.Decided.{IsDecided}
 use Rattle.step_rules.specs.Shapes.{IsCall}
 use Rattle.track_sound.proofs.Calls.{call_at, call_decided, code_of, no_call_at, receiver_is}
 use Rattle.track_sound.proofs.Held.{AreHeld, AreSent, Extends, IsHeld, kind_of, kinds_of}

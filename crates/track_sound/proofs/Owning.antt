@@ -1,6 +1,6 @@
 -- What the call of a step does to the states of objects: the event, if it is one on the object, and else nothing.
 use Rattle.std.proofs.Common.{◌≡◌, ℕ, Some, List, [], slice_get, refl, sym, ap, ◌∙◌, subst, inl, inr}
-use Rattle.class_tree.proofs.Decided.{some_decided}
+use Rattle.class_rules.proofs.Decided.{some_decided}
 use Rattle.link_rules.specs.declared.code.Code.TheVariants as code
 use Rattle.link_rules.specs.Linked.{LinkedProgram}
 use Rattle.link_sites.specs.declared.place.Place.{Place}

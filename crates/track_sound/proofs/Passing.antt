@@ -1,7 +1,7 @@
 -- Whether a call passes a variable, and whether all of its formals are settled.
 use Rattle.std.proofs.Common.{◌≡◌, ℕ, ◌⊎◌, Bool, true, false, true≢false, Some, slice_get, refl, sym, ap, ◌∙◌, subst, inl, inr}
 use Rattle.std.proofs.lemmas.Bool.{cases_eq}
-use Rattle.class_tree.proofs.Decided.{IsDecided, anywhere_decided, both_decided, same_decided, some_decided, there_decided}
+use Rattle.class_rules.proofs.Decided.{IsDecided, anywhere_decided, both_decided, same_decided, some_decided, there_decided}
 use Rattle.link_rules.specs.declared.code.Arg.{Arg}
 use Rattle.link_rules.specs.declared.code.Arg.TheVariants as arg
 use Rattle.link_rules.specs.Linked.{LinkedMethod, LinkedProgram}

@@ -20,7 +20,7 @@ use Rattle.track_systems.specs.Findings.{HasNoFinding}
 use Rattle.track_systems.specs.Track.{Tracks}
 use Rattle.track_systems.specs.Weights.{Anywhere, Sends}
 use Rattle.track_systems.proofs.Leading.{tracks_few, values_leading}
-use Rattle.track_systems.proofs.Meaning.{meaning}
+use Rattle.weight_laws.proofs.Meaning.{meaning}
 use Rattle.track_sound.specs.Recalled.{recalled}
 use Rattle.track_sound.specs.Sound.{AreAllSent, HasAllSent, HasValuesAbove, HasWeightsAbove, IsAbove, IsAboveRuns, IsSafeWithoutFindings, LinksAreTrackSound}
 use Rattle.track_sound.proofs.Held.{AreHeld, IsWatched, kind_of, kinds_of}

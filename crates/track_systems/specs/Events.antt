@@ -1,6 +1,6 @@
 -- Event statements, and what is asked of a program under a protocol.
 use Rattle.std.specs.Prelude.{◌≡◌, ◌↔◌, ℕ, Option, None, Some, false}
-use Rattle.class_tree.specs.Rows.{Sub}
+use Rattle.class_rules.specs.Rows.{Sub}
 use Rattle.lists.specs.Lists.{Has}
 use Rattle.link_rules.specs.declared.code.Code.{Code}
 use Rattle.link_rules.specs.declared.code.Code.TheVariants.{Call}

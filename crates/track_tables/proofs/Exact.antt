@@ -23,7 +23,7 @@ use Rattle.track_systems.specs.Laws.{IsAmongSixteen}
 use Rattle.track_systems.specs.Track.{Tracks}
 use Rattle.track_systems.specs.Track as track
 use Rattle.track_systems.proofs.Leading.{tracks_few}
-use Rattle.track_systems.proofs.Meaning.{meaning}
+use Rattle.weight_laws.proofs.Meaning.{meaning}
 use Rattle.track_tables.specs.Systems.{Begins, IsBeginning, IsCrossStep, IsEdgeStep, IsTrackSystem, LeadsAlong}
 use Rattle.track_tables.specs.Systems as systems
 use Rattle.track_tables.proofs.Sums.{sum_leads}

@@ -7,8 +7,11 @@ use Rattle.call_side.specs.Trails.{AreKept}
 use Rattle.lists.specs.Lists.{Adds, Has}
 use Rattle.lists.proofs.Places.{slice_get-append_left, slice_get-below, slice_get-there, Has-push}
 use Rattle.post_star.specs.Measures.{to_of}
+use Rattle.track_tables.specs.declared.growth.Due.{Due}
+use Rattle.track_tables.specs.declared.growth.Due.TheVariants as due
 use Rattle.track_tables.specs.declared.growth.Growth.{Growth}
-use Rattle.track_tables.specs.Making.{IsGrown, IsOpenFor, IsPast}
+use Rattle.track_tables.specs.declared.returns.Return.{Return}
+use Rattle.track_tables.specs.Making.{IsDue, IsGrown, IsOpenFor, IsPast}
 use Rattle.weight_laws.specs.declared.rel.Rel.{Rel}
 
 -- what is kept at its place is still there
@@ -89,6 +92,12 @@ past nodes number none = elim (cases_lt number (length nodes)) [
 -- a node that is one of the first is one still
 pub past_kept : (old new : List ℕ) (at number : ℕ) → AreKept old new → IsPast old at number → IsPast new at number
 past_kept old new at number kept is = (is.0, is.1, kept is.0 number is.2)
+
+-- so is an edge that is due
+pub due_kept : (old new : Growth) (which : Due) (r : Return) → IsGrown old new → IsDue old which r → IsDue new which r
+due_kept old new due.Each r grown is = tt
+due_kept old new due.Open r grown is = kept_has old.marks.keys new.marks.keys r.mark grown.marks is
+due_kept old new (due.Past at) r grown is = past_kept old.reached.keys new.reached.keys at r.edge.from grown.reached is
 
 pub past_has : (nodes : List ℕ) (at number : ℕ) → IsPast nodes at number → Has nodes number
 past_has nodes at number is = (is.0, is.2)

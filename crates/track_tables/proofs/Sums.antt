@@ -1,7 +1,7 @@
 -- Sums of relations, state by state.
 use Rattle.std.proofs.Common.{◌↔◌, ℕ, ◌<◌, subst, inl, inr}
 use Rattle.post_star.specs.Derivations.{Combines, IsSumOf, both, none, one}
-use Rattle.track_systems.proofs.Meaning.{meaning}
+use Rattle.weight_laws.proofs.Meaning.{meaning}
 use Rattle.weight_laws.specs.declared.rel.Rel.{Rel}
 use Rattle.weight_laws.specs.Rel.{Relates, rel_domain}
 

@@ -17,7 +17,7 @@ use Rattle.call_side.proofs.Lists.{Has-take_more}
 use Rattle.track_rules.specs.Protocols.{ProtocolParts}
 use Rattle.track_systems.specs.Track.{IsLoaded}
 use Rattle.track_systems.specs.Values.{IsWeight}
-use Rattle.track_systems.proofs.Meaning.{meaning}
+use Rattle.weight_laws.proofs.Meaning.{meaning}
 use Rattle.track_tables.specs.Making.{AreLoaded, HasStepBy, IsRuleBy, IsRuleOf, IsTaken}
 use Rattle.track_tables.specs.Systems.{LeadsAlong}
 use Rattle.weight_laws.specs.contracts.rel.RelPartialEq.TheImpl as rels

@@ -31,6 +31,8 @@ use Rattle.call_side.specs.Gathered.{AreGathered}
 use Rattle.track_rules.specs.Protocols.{ProtocolParts}
 use Rattle.track_systems.specs.Track.{IsLoaded}
 use Rattle.track_systems.specs.Values.{IsWeight}
+use Rattle.track_tables.specs.declared.growth.Due.{Due}
+use Rattle.track_tables.specs.declared.growth.Due.TheVariants as due
 use Rattle.track_tables.specs.declared.growth.Growth.{Growth}
 use Rattle.track_tables.specs.declared.parts.TrackParts.{TrackParts}
 use Rattle.track_tables.specs.declared.returns.Return.{Return as AReturn}
@@ -84,6 +86,12 @@ pub record IsStartAt (p : LinkedProgram) (nodes : List Node) (number : ℕ) (wei
 -- the node is one of the first in the list, so many of them
 abbrev pub IsPast : List ℕ → ℕ → ℕ → Type 0
 IsPast nodes at node = (i : ℕ) × (i < at) × (slice_get nodes i ≡ Some node)
+
+-- the edge back from a call is due, by the marks that are open or by the nodes that were reached
+abbrev pub IsDue : Growth → Due → AReturn → Type 0
+IsDue g due.Each r = Unit {0}
+IsDue g due.Open r = Has g.marks.keys r.mark
+IsDue g (due.Past at) r = IsPast g.reached.keys at r.edge.from
 
 -- the mark that the rule puts on, if it does one, is open
 abbrev pub IsOpenFor : List ℕ → Rule Rel → Type 0

@@ -6,10 +6,10 @@ ghost use Rattle.site_events.specs.Sites.{AreEventsOf};
 ghost use Rattle.spds_rules.specs.Demand.{Asked};
 ghost use Rattle.track_rules.specs.Protocols.{ProtocolParts};
 ghost use Rattle.track_tables.specs.declared.returns.Return.{Return as AReturn};
-ghost use Rattle.track_tables.specs.Making.{AreOf, IsBackAmong, IsGrown, IsPast, IsTaken};
+ghost use Rattle.track_tables.specs.Making.{AreOf, IsBackAmong, IsDue, IsGrown, IsPast, IsTaken};
 
 use super::given::SolvedDemand;
-use super::growth::Growth;
+use super::growth::{Due, Growth};
 use super::returns::Return;
 use super::rules::add_edge;
 use lists::NoMemory;
@@ -35,63 +35,23 @@ fn add_due(
     Ok(())
 }
 
-/// Puts the rules of edges back from calls last.
-fn add_all(
+/// Puts the rules of those edges back from calls last that are due.
+fn add_back(
     given: &SolvedDemand<'_>,
     events: &SiteEvents,
     returns: &[Return],
+    due: Due,
     growth: &mut Growth,
 ) -> Result<(), NoMemory>
     ensures grown { OnOk result (IsGrown growth.old growth.new) }
     ensures each { OnOk result ((k : ProtocolParts) (q : Asked) (a : Site) → AreEventsOf given.now.linked.now k q a events.now
         → AreOf given.now.linked.now k q a given.now.demand.now.nodes given.now.parts.now.calls (IsBackAmong returns.now) growth.old.work.rules growth.new.work.rules) }
     ensures taken { OnOk result ((k : ProtocolParts) (q : Asked) (a : Site) → AreEventsOf given.now.linked.now k q a events.now → (r : AReturn) → Has returns.now r
+        → IsDue growth.old due r
         → IsTaken given.now.linked.now k q a given.now.demand.now.nodes given.now.parts.now.calls r.edge growth.new.work.rules) }
 {
     for back in returns {
-        add_due(given, events, *back, true, growth)?;
-    }
-    Ok(())
-}
-
-/// The same of those over marks that are open.
-fn add_open(
-    given: &SolvedDemand<'_>,
-    events: &SiteEvents,
-    returns: &[Return],
-    growth: &mut Growth,
-) -> Result<(), NoMemory>
-    ensures grown { OnOk result (IsGrown growth.old growth.new) }
-    ensures each { OnOk result ((k : ProtocolParts) (q : Asked) (a : Site) → AreEventsOf given.now.linked.now k q a events.now
-        → AreOf given.now.linked.now k q a given.now.demand.now.nodes given.now.parts.now.calls (IsBackAmong returns.now) growth.old.work.rules growth.new.work.rules) }
-    ensures taken { OnOk result ((k : ProtocolParts) (q : Asked) (a : Site) → AreEventsOf given.now.linked.now k q a events.now → (r : AReturn) → Has returns.now r
-        → Has growth.old.marks.keys r.mark
-        → IsTaken given.now.linked.now k q a given.now.demand.now.nodes given.now.parts.now.calls r.edge growth.new.work.rules) }
-{
-    for back in returns {
-        let is_due = growth.is_open(back.mark);
-        add_due(given, events, *back, is_due, growth)?;
-    }
-    Ok(())
-}
-
-/// The same of those from the first nodes that were reached, so many of them.
-fn add_past(
-    given: &SolvedDemand<'_>,
-    events: &SiteEvents,
-    returns: &[Return],
-    at: usize,
-    growth: &mut Growth,
-) -> Result<(), NoMemory>
-    ensures grown { OnOk result (IsGrown growth.old growth.new) }
-    ensures each { OnOk result ((k : ProtocolParts) (q : Asked) (a : Site) → AreEventsOf given.now.linked.now k q a events.now
-        → AreOf given.now.linked.now k q a given.now.demand.now.nodes given.now.parts.now.calls (IsBackAmong returns.now) growth.old.work.rules growth.new.work.rules) }
-    ensures taken { OnOk result ((k : ProtocolParts) (q : Asked) (a : Site) → AreEventsOf given.now.linked.now k q a events.now → (r : AReturn) → Has returns.now r
-        → IsPast growth.old.reached.keys at r.edge.from
-        → IsTaken given.now.linked.now k q a given.now.demand.now.nodes given.now.parts.now.calls r.edge growth.new.work.rules) }
-{
-    for back in returns {
-        let is_due = growth.is_past(at, back.edge.from);
+        let is_due = growth.has_due(due, *back);
         add_due(given, events, *back, is_due, growth)?;
     }
     Ok(())
@@ -113,12 +73,8 @@ fn add_by_mark(
 {
     let mut at = 0;
     while let Some(mark) = growth.mark_at(at) {
-        add_all(
-            given,
-            events,
-            given.parts.returns().crossing(node, mark),
-            growth,
-        )?;
+        let returns = given.parts.returns().crossing(node, mark);
+        add_back(given, events, returns, Due::Each, growth)?;
         at += 1;
     }
     Ok(())
@@ -140,7 +96,7 @@ pub fn go_back(
 {
     let returns = given.parts.returns().from_node(node);
     if returns.len() <= growth.marks.len() {
-        add_open(given, events, returns, growth)
+        add_back(given, events, returns, Due::Open, growth)
     } else {
         add_by_mark(given, events, node, growth)
     }
@@ -163,7 +119,8 @@ pub fn come_back(
 {
     let mut number = seen;
     while let Some(mark) = growth.mark_at(number) {
-        add_past(given, events, given.parts.returns().over(mark), at, growth)?;
+        let returns = given.parts.returns().over(mark);
+        add_back(given, events, returns, Due::Past(at), growth)?;
         number += 1;
     }
     Ok(())

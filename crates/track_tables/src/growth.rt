@@ -1,11 +1,23 @@
 //! A system of rules and starts that grows.
 ghost use Rattle.std.specs.Prelude.{◌≡◌, ◌<◌, ◌^◌, length, slice_get, IsTrue};
 ghost use Rattle.lists.specs.Lists.{Has};
-ghost use Rattle.track_tables.specs.Making.{IsPast};
+ghost use Rattle.track_tables.specs.Making.{IsDue, IsPast};
 
+use super::returns::Return;
 use lists::Numbered;
 use post_star::Work;
 use weight_laws::Rel;
+
+/// Which edges back from calls are due.
+#[derive(Clone, Copy)]
+pub enum Due {
+    /// Each of them.
+    Each,
+    /// Those over marks that are open.
+    Open,
+    /// Those from the first nodes that were reached, so many of them.
+    Past(usize),
+}
 
 /// A system that grows, the nodes that it reaches, those at which it begins and those that its rules lead to, and the marks that may be on top there.
 #[derive(Drop)]
@@ -48,5 +60,16 @@ impl Growth {
         ensures { Has self.now.marks.keys mark → IsTrue result }
     {
         self.marks.find(mark).is_some()
+    }
+
+    /// Whether the edge back from a call is due.
+    pub fn has_due(&self, due: Due, back: Return) -> bool
+        ensures { IsDue self.now due back → IsTrue result }
+    {
+        match due {
+            Due::Each => true,
+            Due::Open => self.is_open(back.mark),
+            Due::Past(at) => self.is_past(at, back.edge.from),
+        }
     }
 }

@@ -1,7 +1,8 @@
 //! Sub-classing and look-ups, over rows of which the answers were found by hand.
 ghost use Rattle.std.specs.Prelude.{◌≡◌, ◌^◌, ◌<◌, length, All, IfOk};
 
-use class_tree::{BodyKind, ClassRow, Defaults, FieldRow, MethodRow, Tree, TreeError, build};
+use class_rules::{BodyKind, ClassRow, FieldRow, MethodRow};
+use class_tree::{Defaults, Tree, TreeError, build};
 use std::alloc::Global;
 use std::test::Fail;
 

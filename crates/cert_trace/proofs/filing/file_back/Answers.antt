@@ -13,7 +13,7 @@ loop-edge-init c = λ e has. let h = has.1 in cc
 pub loop-edge-preserved : goal.loop-edge-preserved
 loop-edge-preserved c =
     each_next (IsBackFiled c.add.new.self) c.args.edges.now c.loop-edge.edge-index _ (slice_get-get_or _ _ _ c.loop-edge-test.true)
-    (λ e has. (c.in_ok-add.ensures.has e.to e.from).1 (inl (c.loop-edge.invariant e has))) ((c.in_ok-add.ensures.has _ _).1 (inr (refl, refl)))
+    (λ e has. (c.in_ok-add.ensures.has e.to e).1 (inl (c.loop-edge.invariant e has))) ((c.in_ok-add.ensures.has _ _).1 (inr (refl, refl)))
 
 pub returns : goal.returns
 returns c =

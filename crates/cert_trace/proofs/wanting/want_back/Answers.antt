@@ -1,7 +1,7 @@
 use Rattle.std.proofs.Common.{◌≡◌, ◌∙◌, List, subst, sym}
 use Rattle.lists.specs.Lists.{Has}
 use Rattle.link_sites.specs.declared.site.Site.{Site}
-use Rattle.spds_rules.specs.declared.node.Node.{Node}
+use Rattle.spds_rules.specs.declared.edge.Edge.{Edge}
 use Rattle.spds_rules.specs.declared.store.StoreAt.{StoreAt}
 use Rattle.cert_work.specs.Wants.{IsWanted}
 use Rattle.cert_trace.specs.Settled.{IsStoreFiled}
@@ -10,15 +10,15 @@ use Rattle.cert_trace.proofs.wanting.want_back.Goals as goal
 
 pub returns-in_default-clause-back : goal.returns-in_default-clause-back
 returns-in_default-clause-back c = record {
-  back = λ n has. c.in_ok-want_nodes.ensures.all n (subst (λ (xs : List Node). Has xs n) (sym c.at.ensures) has);
+  back = λ e has. c.in_ok-want_sources.ensures.all e (subst (λ (xs : List Edge). Has xs e) (sym c.at.ensures) has);
   stored = λ base s starts filed. absurd (c.in_default.not-Some base (c.site_of.ensures ∙ starts));
 }
 
 pub returns-clause-back : goal.returns-clause-back
 returns-clause-back c = record {
-  back = λ n has.
-      wanted_more _ _ c.in_ok-want_stores.ensures.wider c.args.spot.site n
-      (c.in_ok-want_nodes.ensures.all n (subst (λ (xs : List Node). Has xs n) (sym c.at.ensures) has));
+  back = λ e has.
+      wanted_more _ _ c.in_ok-want_stores.ensures.wider c.args.spot.site e.from
+      (c.in_ok-want_sources.ensures.all e (subst (λ (xs : List Edge). Has xs e) (sym c.at.ensures) has));
   stored = λ base s starts filed.
       let is = sym c.in-Some.is ∙ c.site_of.ensures ∙ starts in
       let same : c.in-Some.base ≡ base = cc in

@@ -3,7 +3,7 @@ use Rattle.std.specs.List.{Contains}
 use Rattle.std.proofs.lemmas.List.{take_all}
 use Rattle.std.proofs.lemmas.Option.{slice_get-get_or}
 use Rattle.class_order.specs.declared.finish.Stage.TheVariants.{New, Done}
-use Rattle.class_order.proofs.Listed.{Contains-take_more}
+use Rattle.lists.proofs.Elements.{Contains-take_more}
 use Rattle.class_order.proofs.finish.are_done.Goals as goal
 use Rattle.class_order.proofs.finish.are_done.Goals.{in-Done, in_default}
 

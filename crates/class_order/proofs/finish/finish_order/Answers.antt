@@ -4,7 +4,7 @@ use Rattle.std.proofs.lemmas.List.{take_all}
 use Rattle.std.proofs.lemmas.Option.{get_or_from_slice_get}
 use Rattle.class_order.specs.declared.finish.Stage.{Stage}
 use Rattle.class_order.specs.declared.finish.Stage.TheVariants.{New}
-use Rattle.class_order.proofs.Listed.{Contains-take_more}
+use Rattle.lists.proofs.Elements.{Contains-take_more}
 use Rattle.class_order.proofs.Searches.{bent, none_open, straight_map, unbent}
 use Rattle.class_order.proofs.finish.finish_order.Goals as goal
 use Rattle.class_order.proofs.finish.finish_order.Goals.{in-New, in_default, then-matches+in_ok-search+then-not-branch, else-matches, else-matches-via-then-matches+in_ok-search+else-not-branch, else-matches-via-else-matches}

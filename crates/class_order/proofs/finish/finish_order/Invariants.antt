@@ -1,6 +1,6 @@
 use Rattle.std.proofs.Common.{◌≡◌, ℕ, [], take, Contains, MatchBool, slice_get, Some}
 use Rattle.class_order.specs.declared.finish.Stage.TheVariants.{New}
-use Rattle.class_order.specs.Paths.{ProperPath}
+use Rattle.class_rules.specs.Paths.{ProperPath}
 use Rattle.class_order.specs.Tables.{IsSearch, IsStraight, Under}
 use Rattle.class_order.proofs.finish.finish_order.Given as goal
 

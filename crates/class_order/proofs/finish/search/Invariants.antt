@@ -1,5 +1,5 @@
 use Rattle.std.proofs.Common.{ℕ, ◌+◌, ◌*◌, length, MatchBool}
-use Rattle.class_order.specs.Paths.{ProperPath}
+use Rattle.class_rules.specs.Paths.{ProperPath}
 use Rattle.class_order.specs.Tables.{HasBegun, IsSearch, IsStraight, Under}
 use Rattle.class_order.proofs.Searches.{new_count}
 use Rattle.class_order.proofs.finish.search.Given as goal

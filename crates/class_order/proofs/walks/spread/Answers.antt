@@ -1,6 +1,6 @@
 use Rattle.std.proofs.Common.{◌≡◌, ◌<◌, ◌≤◌, ◌⊎◌, Some, ℕ, slice_get, length, sym, ◌∙◌, inl, inr, arith}
 use Rattle.std.proofs.lemmas.Option.{slice_get_within, slice_get-get_or}
-use Rattle.class_order.proofs.Listed.{Contains-at}
+use Rattle.lists.proofs.Elements.{Contains-at}
 use Rattle.class_order.proofs.Visited.{searched_start, searched_more, searched_all, searched_bound, visits_longer, within_more}
 use Rattle.class_order.proofs.walks.spread.Goals as goal
 

@@ -1,6 +1,6 @@
 use Rattle.std.proofs.Common.{ℕ, ◌<◌, length, ◌∙◌}
 use Rattle.std.proofs.lemmas.List.Elements.{All-contains}
-use Rattle.class_tree.specs.Rows.{HasInterface}
+use Rattle.class_rules.specs.Rows.{HasInterface}
 use Rattle.class_order.specs.Tables.{Under}
 use Rattle.class_tree.proofs.Building.{finishing_fewer, reach_map}
 use Rattle.class_tree.proofs.near.near_spans.Goals as goal

@@ -1,6 +1,6 @@
 use Rattle.std.proofs.Common.{ℕ, ◌<◌, ◌↔◌, ◌∙◌, length-set, get_or, subst}
 use Rattle.std.proofs.lemmas.List.{take_all}
-use Rattle.class_tree.specs.Rows.{HasInterface}
+use Rattle.class_rules.specs.Rows.{HasInterface}
 use Rattle.class_order.specs.Tables.{Under}
 use Rattle.class_tree.proofs.StepLists.{implementers_more}
 use Rattle.class_tree.proofs.steps.implementers.Goals as goal

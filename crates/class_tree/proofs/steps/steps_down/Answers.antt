@@ -1,7 +1,7 @@
 use Rattle.std.proofs.Common.{◌<◌, ◌≤◌, ◌⊎◌, length, ◌∙◌, arith, length-set, inl, inr, ℕ, refl, get_or}
 use Rattle.std.proofs.lemmas.List.{take_all}
-use Rattle.class_order.proofs.Listed.{Contains-nil}
-use Rattle.class_tree.proofs.Parents.{names_at}
+use Rattle.lists.proofs.Elements.{Contains-nil}
+use Rattle.class_rules.proofs.Parents.{names_at}
 use Rattle.class_tree.proofs.StepLists.{steps_more}
 use Rattle.class_tree.proofs.steps.steps_down.Goals as goal
 

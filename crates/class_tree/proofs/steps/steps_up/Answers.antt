@@ -1,5 +1,5 @@
 use Rattle.std.proofs.Common.{◌∙◌, arith, length-set, inl, inr}
-use Rattle.class_tree.proofs.Parents.{parent-below}
+use Rattle.class_rules.proofs.Parents.{parent-below}
 use Rattle.class_tree.proofs.StepLists.{up_interfaces, up_more, up_none}
 use Rattle.class_tree.proofs.steps.steps_up.Goals as goal
 use Rattle.class_tree.proofs.steps.steps_up.Goals.{in-Some+in_ok-push, in_default}

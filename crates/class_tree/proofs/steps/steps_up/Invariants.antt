@@ -1,5 +1,5 @@
 use Rattle.std.proofs.Common.{◌≡◌, ℕ, ◌<◌, ◌⊎◌, ◌↔◌, length}
-use Rattle.class_tree.specs.Rows.{HasInterface, HasParent}
+use Rattle.class_rules.specs.Rows.{HasInterface, HasParent}
 use Rattle.class_order.specs.Tables.{Under}
 use Rattle.class_tree.proofs.steps.steps_up.Given as goal
 

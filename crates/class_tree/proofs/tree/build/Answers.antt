@@ -1,6 +1,6 @@
 use Rattle.std.proofs.Common.{◌≡◌, arith, subst}
 use Rattle.lists.specs.Lists.{IsLeast}
-use Rattle.class_tree.specs.Rows.{IsOwnAncestor}
+use Rattle.class_rules.specs.Rows.{IsOwnAncestor}
 use Rattle.class_tree.proofs.Building.{step-below, least_map}
 use Rattle.class_order.proofs.Reached.{proper_map}
 use Rattle.class_order.specs.Tables.{IsOver, Under}

@@ -1,5 +1,5 @@
 use Rattle.std.proofs.Common.{◌≡◌, ◌∙◌, ◌<◌, ℕ, false, None, arith, get_or, length, sym, ap, subst}
-use Rattle.class_tree.specs.declared.rows.ClassRow.{ClassRow}
+use Rattle.class_rules.specs.declared.rows.ClassRow.{ClassRow}
 use Rattle.class_order.specs.Groups.{group}
 use Rattle.class_tree.specs.Turns.{AreHere, HaveTurned, IsBefore, numbered, row_over}
 use Rattle.class_tree.proofs.Walking.{before_parent, falls_left, if_some, left_here, named_by, none_of, not_true, numbered_before, parent_named, some_by, steps_left, tell_kept}

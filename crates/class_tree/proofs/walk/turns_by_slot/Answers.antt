@@ -1,11 +1,11 @@
 use Rattle.std.proofs.Common.{◌≡◌, ◌∙◌, ◌+◌, ◌-◌, false, Some, None, IfSome, List, arith, get_or, length, sym, ap, subst}
 use Rattle.std.proofs.lemmas.List.Elements.{Contains-get_or}
 use Rattle.std.proofs.lemmas.Option.{slice_get-get_or}
-use Rattle.class_tree.specs.declared.rows.ClassRow.{ClassRow}
+use Rattle.class_rules.specs.declared.rows.ClassRow.{ClassRow}
 use Rattle.class_tree.specs.declared.turns.Turn.{Turn}
 use Rattle.class_order.specs.Groups.{group}
 use Rattle.class_tree.specs.Turns.{AreHere, HaveOneRow, HaveTurned, IsBefore, TellBefore}
-use Rattle.class_order.proofs.Listed.{same_read}
+use Rattle.lists.proofs.Elements.{same_read}
 use Rattle.class_tree.proofs.Walking.{entered_here, named_by, parent_named, some_by, tell_kept, tell_more}
 use Rattle.class_tree.proofs.walk.turns_by_slot.Goals as goal
 use Rattle.class_tree.proofs.walk.turns_by_slot.Goals.{then-not-branch+in_ok-take_up, else-not-branch}

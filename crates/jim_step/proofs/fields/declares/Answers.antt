@@ -1,5 +1,5 @@
 use Rattle.std.proofs.Common.{◌∙◌, arith, ap, length, sym}
-use Rattle.class_tree.specs.Rows.{Rows}
+use Rattle.class_rules.specs.Rows.{Rows}
 use Rattle.link_program.proofs.Declared.{class_within}
 use Rattle.jim_step.proofs.fields.declares.Goals as goal
 

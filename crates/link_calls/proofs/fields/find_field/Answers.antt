@@ -1,5 +1,5 @@
 use Rattle.std.proofs.Common.{subst}
-use Rattle.class_tree.specs.Lookups.{FieldOf}
+use Rattle.class_rules.specs.Lookups.{FieldOf}
 use Rattle.link_calls.proofs.Below.{found_below}
 use Rattle.link_calls.proofs.fields.find_field.Goals as goal
 

@@ -1,5 +1,5 @@
 use Rattle.std.proofs.Common.{Some, None, true, false, refl, subst}
-use Rattle.class_tree.specs.Lookups.{ambiguous}
+use Rattle.class_rules.specs.Lookups.{ambiguous}
 use Rattle.link_calls.specs.Selected.{IsSelection}
 use Rattle.link_calls.proofs.Selecting.{found_by_name, several_finds_none}
 use Rattle.link_calls.proofs.finding.by_name.Goals as goal

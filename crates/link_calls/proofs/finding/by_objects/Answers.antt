@@ -2,7 +2,7 @@ use Rattle.std.proofs.Common.{◌≡◌, ◌<◌, ℕ, Some, get_or, refl, lengt
 use Rattle.std.specs.List.{Contains}
 use Rattle.std.proofs.lemmas.List.Elements.{Contains-get_or}
 use Rattle.std.proofs.lemmas.Option.{slice_get-get_or}
-use Rattle.class_tree.specs.Lookups.{IsDefault}
+use Rattle.class_rules.specs.Lookups.{IsDefault}
 use Rattle.class_tree.proofs.Lowest.{held_by}
 use Rattle.lists.specs.Lists.{Adds}
 use Rattle.lists.proofs.Keys.{Adds-insert_key}

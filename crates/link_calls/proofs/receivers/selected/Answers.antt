@@ -1,4 +1,4 @@
-use Rattle.class_tree.specs.Lookups.{on_path, OnPath}
+use Rattle.class_rules.specs.Lookups.{on_path, OnPath}
 use Rattle.std.proofs.Common.{subst}
 use Rattle.link_calls.proofs.receivers.selected.Goals as goal
 

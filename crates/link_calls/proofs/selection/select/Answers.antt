@@ -1,4 +1,4 @@
-use Rattle.class_tree.specs.Lookups.{on_path}
+use Rattle.class_rules.specs.Lookups.{on_path}
 use Rattle.class_tree.proofs.Lowest.{selected_one, two_ambiguous}
 use Rattle.link_calls.proofs.Selecting.{selects_nothing}
 use Rattle.link_calls.proofs.selection.select.Goals as goal

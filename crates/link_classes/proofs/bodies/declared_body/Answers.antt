@@ -1,7 +1,7 @@
 use Rattle.std.proofs.Common.{◌≡◌, ◌<◌, Some, None, length, slice_get, sym, ap, subst, ◌∙◌, true, false, true≢false, arith}
 use Rattle.std.specs.Option.{is_some}
-use Rattle.class_tree.specs.Lookups.{own_body}
-use Rattle.class_tree.specs.Rows.{Rows}
+use Rattle.class_rules.specs.Lookups.{own_body}
+use Rattle.class_rules.specs.Rows.{Rows}
 use Rattle.link_rules.specs.Classes.{methods_of}
 use Rattle.link_classes.specs.declared.seen.MethodIn.{MethodIn}
 use Rattle.link_classes.specs.Seen.{seen_method}

@@ -1,9 +1,9 @@
 use Rattle.std.proofs.Common.{◌≡◌, ℕ, Err, IfErr, Ok, refl}
 use Rattle.std.specs.declared.result.Result.{Result}
-use Rattle.class_tree.specs.declared.rows.TreeError.{TreeError}
-use Rattle.class_tree.specs.declared.rows.TreeError.TheVariants as error
+use Rattle.class_tree.specs.declared.errors.TreeError.{TreeError}
+use Rattle.class_tree.specs.declared.errors.TreeError.TheVariants as error
 use Rattle.lists.specs.Lists.{IsLeast}
-use Rattle.class_tree.specs.Rows.{IsOwnAncestor, NamesUnknown, Rows}
+use Rattle.class_rules.specs.Rows.{IsOwnAncestor, NamesUnknown, Rows}
 use Rattle.link_classes.specs.RowTables.{Tells}
 use Rattle.link_classes.proofs.checks.tree_of.Goals as goal
 

@@ -1,5 +1,5 @@
 use Rattle.std.proofs.Common.{sym, subst}
-use Rattle.class_tree.specs.Rows.{Rows}
+use Rattle.class_rules.specs.Rows.{Rows}
 use Rattle.link_rules.specs.World.{AreRows}
 use Rattle.link_classes.specs.Held.{world_of}
 use Rattle.link_classes.specs.RowTables.{IsSound}

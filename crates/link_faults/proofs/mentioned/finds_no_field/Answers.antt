@@ -1,5 +1,5 @@
 use Rattle.std.proofs.Common.{ℕ, List, subst, sym}
-use Rattle.class_tree.specs.Lookups.{FieldOf}
+use Rattle.class_rules.specs.Lookups.{FieldOf}
 use Rattle.link_rules.specs.Classes.{fields_of}
 use Rattle.link_rules.specs.Keys.{IsFieldKeyNumber, accessed_key}
 use Rattle.link_classes.specs.Classes.{texts_at}

@@ -1,7 +1,7 @@
 use Rattle.std.proofs.Common.{◌≡◌, ◌<◌, ◌≤◌, ℕ, None, get_or, length, slice_get, ap, arith}
 use Rattle.std.proofs.lemmas.Option.{slice_get_within}
 use Rattle.class_tree.specs.declared.turns.Turn.{Turn}
-use Rattle.class_order.proofs.Listed.{same_read}
+use Rattle.lists.proofs.Elements.{same_read}
 use Rattle.object_ranges.proofs.Laid.{parts_none, turned_first, turned_here, turned_next}
 use Rattle.object_ranges.proofs.parts.parts_of.Goals as goal
 

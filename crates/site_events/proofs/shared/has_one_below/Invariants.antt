@@ -1,5 +1,5 @@
 use Rattle.std.proofs.Common.{◌≡◌, ℕ, ◌<◌, Some, slice_get}
-use Rattle.class_tree.specs.Rows.{Sub}
+use Rattle.class_rules.specs.Rows.{Sub}
 use Rattle.site_events.proofs.shared.has_one_below.Given as goal
 
 abbrev pub invariant-loop-one : goal.invariant-loop-one

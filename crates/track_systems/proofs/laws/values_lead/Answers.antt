@@ -1,5 +1,5 @@
 use Rattle.track_systems.proofs.Leading.{any_values_leading, values_leading}
-use Rattle.track_systems.proofs.Meaning.{meaning}
+use Rattle.weight_laws.proofs.Meaning.{meaning}
 use Rattle.track_systems.proofs.laws.values_lead.Goals as goal
 
 pub returns-clause-under : goal.returns-clause-under

@@ -19,16 +19,16 @@ loop-mark-preserved c =
     let nodes = c.args.given.now.demand.now.nodes in
     let parts = c.args.given.now.parts.now in
     let was = c.loop-mark.invariant in
-    let now = c.in_ok-add_past.ensures in
+    let now = c.in_ok-add_back.ensures in
     let first = c.args.growth.now in
     let old = c.loop-mark.growth in
-    let new = c.add_past.new.growth in
-    let among = rw c.returns.ensures at c.over.ensures in
+    let new = c.add_back.new.growth in
+    let among = rw c.returns.ensures at c.over-returns.ensures in
     let there : slice_get old.marks.keys c.loop-mark.number ≡ Some c.in-Some.mark = sym c.in-Some.ensures.value in
     record {
       grown = grown_more first old new was.grown now.grown;
       each = λ k q a events. of_more p k q a nodes parts.calls (IsBackAmong parts.returns) first.work.rules old.work.rules new.work.rules (was.each k q a events)
-          (of_wider p k q a nodes parts.calls (IsBackAmong c.over.result.now) (IsBackAmong parts.returns) old.work.rules new.work.rules
+          (of_wider p k q a nodes parts.calls (IsBackAmong c.over-returns.result.now) (IsBackAmong parts.returns) old.work.rules new.work.rules
           (λ e r. (r.0, ((among r.0).0 r.1).0, r.2)) (now.each k q a events));
       come = λ k q a events. come_more p k q a nodes parts first old new c.args.at c.args.seen c.loop-mark.number c.in-Some.mark was.grown now.grown there
           (λ r has over from. now.taken k q a events r ((among r).1 (has, over)) from) (was.come k q a events);

@@ -1,5 +1,5 @@
 use Rattle.std.proofs.Common.{arith, true≢false, sym, ◌∙◌}
-use Rattle.track_systems.proofs.Meaning.{meaning}
+use Rattle.weight_laws.proofs.Meaning.{meaning}
 use Rattle.track_tables.proofs.states.first_weight.Goals as goal
 
 pub returns-then-is_made_at : goal.returns-then-is_made_at

@@ -1,6 +1,6 @@
 use Rattle.std.proofs.Common.{◌≡◌, ℕ, take}
 use Rattle.class_tree.specs.Holders.{IsInterface}
-use Rattle.class_tree.specs.Lookups.{own_row}
+use Rattle.class_rules.specs.Lookups.{own_row}
 use Rattle.class_tree.specs.FirstRows.{row_at}
 use Rattle.class_tree.proofs.first_rows.FirstRows.of_interfaces.Given as goal
 

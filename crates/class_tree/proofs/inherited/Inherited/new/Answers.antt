@@ -3,17 +3,17 @@ use Rattle.std.specs.List.{All, Contains}
 use Rattle.std.proofs.lemmas.List.Elements.{All-contains, All-map}
 use Rattle.class_tree.specs.declared.first_rows.Member.{Member}
 use Rattle.class_tree.specs.declared.paths.Paths.{Paths}
-use Rattle.class_tree.specs.declared.rows.ClassRow.{ClassRow}
-use Rattle.class_tree.specs.declared.rows.FieldRow.{FieldRow}
+use Rattle.class_rules.specs.declared.rows.ClassRow.{ClassRow}
+use Rattle.class_rules.specs.declared.rows.FieldRow.{FieldRow}
 use Rattle.class_tree.specs.FirstRows.{row_at}
 use Rattle.class_tree.specs.Inherited.{member_of_pair}
 use Rattle.class_tree.specs.KeySpans.{member_of_field, member_of_method}
-use Rattle.class_tree.specs.Lookups.{own_body, own_field}
-use Rattle.class_tree.specs.Rows.{HasInterface}
+use Rattle.class_rules.specs.Lookups.{own_body, own_field}
+use Rattle.class_rules.specs.Rows.{HasInterface}
 use Rattle.class_tree.specs.Turns.{AreRowsOf, TellPaths}
 use Rattle.std.proofs.lemmas.Option.{slice_get-get_or}
 use Rattle.class_tree.proofs.Building.{Contains-mapped}
-use Rattle.class_order.proofs.Listed.{Contains-at}
+use Rattle.lists.proofs.Elements.{Contains-at}
 use Rattle.class_tree.proofs.Slots.{body_rows, field_rows}
 use Rattle.class_tree.proofs.inherited.Inherited.new.Goals as goal
 

@@ -1,8 +1,8 @@
 use Rattle.std.proofs.Common.{◌∙◌, arith}
-use Rattle.class_tree.specs.Rows.{HasParent}
+use Rattle.class_rules.specs.Rows.{HasParent}
 use Rattle.class_order.specs.Tables.{Under}
 use Rattle.class_order.proofs.Reached.{proper_map}
-use Rattle.class_tree.proofs.Parents.{parent-below}
+use Rattle.class_rules.proofs.Parents.{parent-below}
 use Rattle.class_order.proofs.Searches.{finishing_by}
 use Rattle.class_tree.proofs.numbering.Numbering.new.Goals as goal
 

@@ -1,5 +1,5 @@
 use Rattle.std.proofs.Common.{arith}
-use Rattle.class_tree.specs.Lookups.{Declared}
+use Rattle.class_rules.specs.Lookups.{Declared}
 use Rattle.class_tree.proofs.TreeFacts.{tells, place_read}
 use Rattle.class_tree.proofs.tree.Tree.declared.Goals as goal
 

@@ -1,8 +1,8 @@
 use Rattle.std.proofs.Common.{◌≡◌, ◌<◌, Some, length, arith, refl, sym, subst, ◌∙◌}
-use Rattle.class_tree.specs.Lookups.{own_row}
-use Rattle.class_tree.specs.Rows.{Rows}
+use Rattle.class_rules.specs.Lookups.{own_row}
+use Rattle.class_rules.specs.Rows.{Rows}
 use Rattle.class_tree.proofs.Lowest.{body_read, default_given, held_within, row_within}
-use Rattle.class_tree.proofs.Selected.{owned_row}
+use Rattle.class_rules.proofs.Selected.{owned_row}
 use Rattle.class_tree.proofs.tree.Tree.default_from.Goals as goal
 
 pub index-requires : goal.index-requires

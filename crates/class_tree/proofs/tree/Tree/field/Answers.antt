@@ -1,7 +1,7 @@
 use Rattle.std.proofs.Common.{◌≡◌, ℕ, Option, None, Contains, arith, ap, sym, subst, true≢false, ◌∙◌}
 use Rattle.std.specs.Cmp.{unsigned_Decides}
 use Rattle.std.proofs.lemmas.Map.Made.{is_member-Decides}
-use Rattle.class_tree.specs.Lookups.{FieldHere, FieldOf, own_field}
+use Rattle.class_rules.specs.Lookups.{FieldHere, FieldOf, own_field}
 use Rattle.class_tree.proofs.Slots.{upwards_map}
 use Rattle.class_tree.specs.Turns.{turned, turns_of}
 use Rattle.class_tree.proofs.TreeFacts.{field_alone, place_read}

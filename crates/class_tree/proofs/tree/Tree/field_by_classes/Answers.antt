@@ -1,6 +1,6 @@
 use Rattle.std.proofs.Common.{Some, None, inl}
-use Rattle.class_tree.specs.Lookups.{found, further, ended}
-use Rattle.class_tree.specs.Rows.{HasParent, HasNoParent}
+use Rattle.class_rules.specs.Lookups.{found, further, ended}
+use Rattle.class_rules.specs.Rows.{HasParent, HasNoParent}
 use Rattle.class_tree.proofs.TreeFacts.{row_parent, row_no_parent, step-above}
 use Rattle.class_tree.proofs.tree.Tree.field_by_classes.Goals as goal
 

@@ -1,5 +1,5 @@
 use Rattle.std.proofs.Common.{ℕ, ◌<◌, Option, length, get_or}
-use Rattle.class_tree.specs.Lookups.{FieldOf}
+use Rattle.class_rules.specs.Lookups.{FieldOf}
 use Rattle.class_tree.proofs.tree.Tree.field_by_classes.Given as goal
 
 abbrev pub invariant-loop-row : goal.invariant-loop-row

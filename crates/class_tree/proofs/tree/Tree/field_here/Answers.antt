@@ -2,9 +2,9 @@ use Rattle.std.proofs.Common.{None, get_or, subst, inl, inr, ◌∙◌}
 use Rattle.std.specs.List.{Contains, All}
 use Rattle.std.proofs.lemmas.List.Elements.{Contains-get_or}
 use Rattle.class_tree.specs.Indexed.{HasFieldNear, IsFirstNear}
-use Rattle.class_tree.specs.Lookups.{FieldHere}
-use Rattle.class_order.proofs.Listed.{Contains-at}
-use Rattle.class_tree.proofs.Parents.{interface_named}
+use Rattle.class_rules.specs.Lookups.{FieldHere}
+use Rattle.lists.proofs.Elements.{Contains-at}
+use Rattle.class_rules.proofs.Parents.{interface_named}
 use Rattle.class_tree.proofs.TreeFacts.{field_in_class, field_nowhere, field_from_interface, not_near, step-above}
 use Rattle.class_tree.proofs.tree.Tree.field_here.Goals as goal
 

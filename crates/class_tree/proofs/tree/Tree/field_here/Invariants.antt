@@ -1,6 +1,6 @@
 use Rattle.std.proofs.Common.{◌≡◌, ℕ, ◌<◌, ◌⊎◌, Some, length, get_or}
 use Rattle.class_tree.specs.Indexed.{HasFieldNear}
-use Rattle.class_tree.specs.Lookups.{FieldHere}
+use Rattle.class_rules.specs.Lookups.{FieldHere}
 use Rattle.class_tree.proofs.tree.Tree.field_here.Given as goal
 
 abbrev pub invariant-loop-row : goal.invariant-loop-row

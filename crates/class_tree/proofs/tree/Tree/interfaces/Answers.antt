@@ -1,7 +1,7 @@
 use Rattle.std.proofs.Common.{get_or, subst, inr, ◌∙◌}
 use Rattle.std.specs.List.{Contains}
 use Rattle.std.proofs.lemmas.List.Elements.{Contains-get_or}
-use Rattle.class_tree.proofs.Parents.{interface_named}
+use Rattle.class_rules.proofs.Parents.{interface_named}
 use Rattle.class_tree.proofs.TreeFacts.{step-above}
 use Rattle.class_tree.proofs.tree.Tree.interfaces.Goals as goal
 

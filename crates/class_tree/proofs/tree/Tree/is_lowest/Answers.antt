@@ -1,5 +1,5 @@
 use Rattle.std.proofs.Common.{◌≡◌, refl, sym, arith, true≢false}
-use Rattle.class_tree.specs.Rows.{Sub}
+use Rattle.class_rules.specs.Rows.{Sub}
 use Rattle.class_tree.proofs.Lowest.{each_more, held_by, held_within, is_lowest_of, reached_at, holder_from}
 use Rattle.class_tree.proofs.tree.Tree.is_lowest.Goals as goal
 use Rattle.class_tree.proofs.tree.Tree.is_lowest.Goals.{else-other-interface-via-then-other-interface+then-sub+else-sub-2, else-other-interface-via-then-other-interface+else-sub, else-other-interface-via-else-other-interface}

@@ -1,5 +1,5 @@
 use Rattle.std.proofs.Common.{◌≡◌, ℕ, ◌<◌, Some, slice_get}
-use Rattle.class_tree.specs.Rows.{Sub}
+use Rattle.class_rules.specs.Rows.{Sub}
 use Rattle.class_tree.proofs.tree.Tree.is_lowest.Given as goal
 
 abbrev pub invariant-loop-other : goal.invariant-loop-other

@@ -1,5 +1,5 @@
 use Rattle.std.proofs.Common.{None, arith, ap, sym, subst, ◌∙◌}
-use Rattle.class_tree.specs.Lookups.{OnPath}
+use Rattle.class_rules.specs.Lookups.{OnPath}
 use Rattle.class_tree.specs.Turns.{turned, turns_of}
 use Rattle.class_tree.proofs.TreeFacts.{place_read}
 use Rattle.class_tree.proofs.tree.Tree.on_path.Goals as goal

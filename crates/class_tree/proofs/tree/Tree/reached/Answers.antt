@@ -1,6 +1,6 @@
 use Rattle.std.proofs.Common.{arith, sym, true≢false}
 use Rattle.std.proofs.lemmas.List.{take_rest}
-use Rattle.class_tree.specs.Rows.{Sub}
+use Rattle.class_rules.specs.Rows.{Sub}
 use Rattle.class_tree.proofs.Lowest.{each_more, held_within, listed, listed_held, reached_from}
 use Rattle.class_tree.proofs.tree.Tree.reached.Goals as goal
 

@@ -1,4 +1,4 @@
-use Rattle.class_tree.specs.Lookups.{on_path}
+use Rattle.class_rules.specs.Lookups.{on_path}
 use Rattle.class_tree.proofs.Lowest.{selected_none, selected_one}
 use Rattle.class_tree.proofs.tree.Tree.resolve.Goals as goal
 

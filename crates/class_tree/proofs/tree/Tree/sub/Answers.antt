@@ -1,5 +1,5 @@
 use Rattle.std.proofs.Common.{arith}
-use Rattle.class_tree.specs.Rows.{Step}
+use Rattle.class_rules.specs.Rows.{Step}
 use Rattle.class_tree.proofs.TreeFacts.{tells_path, place_read}
 use Rattle.class_tree.proofs.tree.Tree.sub.Goals as goal
 

@@ -1,6 +1,6 @@
 use Rattle.std.proofs.Common.{◌+◌, ◌-◌, None, ap, get_or, subst, ◌∙◌, arith}
 use Rattle.object_ranges.specs.Marks.{IsLeastOf, StandsIn, earlier}
-use Rattle.class_order.proofs.Listed.{same_read}
+use Rattle.lists.proofs.Elements.{same_read}
 use Rattle.object_ranges.proofs.Heaped.{least_further, least_nowhere, least_placed}
 use Rattle.object_ranges.proofs.Leasts.{earlier_none}
 use Rattle.object_ranges.proofs.minima.Minima.least.Goals as goal

@@ -7,7 +7,7 @@ use Rattle.link_rules.specs.Linked.{LinkedProgram}
 use Rattle.site_events.specs.Callers.{AreMethodNumbers}
 use Rattle.site_events.specs.Loud.{IsLoud}
 use Rattle.site_events.proofs.Entering.{loud_calls_enter}
-use Rattle.track_systems.proofs.Meaning.{meaning}
+use Rattle.weight_laws.proofs.Meaning.{meaning}
 use Rattle.weight_laws.specs.declared.rel.Rel.{Rel}
 use Rattle.weight_laws.specs.Rel.{Relates}
 use Rattle.site_events.specs.declared.statement.Statement.{Statement}

@@ -1,0 +1,5 @@
+pub mod Parents
+pub mod OrderFacts
+pub mod LawFacts
+pub mod Selected
+pub mod Decided

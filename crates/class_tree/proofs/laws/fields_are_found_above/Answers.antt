@@ -1,8 +1,0 @@
-use Rattle.class_tree.proofs.LawFacts.{look_up_finds, look_up_one}
-use Rattle.class_tree.proofs.laws.fields_are_found_above.Goals as goal
-
-pub returns-clause-found : goal.returns-clause-found
-returns-clause-found c = look_up_finds
-
-pub returns-clause-one : goal.returns-clause-one
-returns-clause-one c = look_up_one
