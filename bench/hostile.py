@@ -3,8 +3,8 @@
 usage: bench/hostile.sh [--small] [--limit SECONDS] [SHAPE..]     the named shapes, or all
 
 Each shape is a text of at most so many bytes, 1, 4 and 16 MiB, of which the program is asked for a run of one step or for the objects of a local. Of each size
-the seconds and the memory are told, and the exponent of the growth from 1 to 16 MiB, or to the last size that ended: 1 is linear, 2 quadratic. A call that takes
-longer than the limit, 60 seconds where none is given, is ended, and larger sizes of its shape are left out. It judges nothing.
+the seconds of a processor and the memory are told, and the exponent of the growth between the last two sizes that ended: 1 is linear, 2 quadratic. A call that
+takes longer than the limit, 60 seconds by the clock where none is given, is ended, and larger sizes of its shape are left out. It judges nothing.
 
 The shapes in `one_hash` have texts that the hasher of the kit's maps, whose seed is fixed, folds to one number.
 """
@@ -15,7 +15,6 @@ import random
 import resource
 import subprocess
 import sys
-import time
 
 TOP = os.path.join(os.path.dirname(os.path.abspath(__file__)), '..')
 FULL = 16 * 1024 * 1024
@@ -223,6 +222,12 @@ def fields_of_an_interface(count):
     return accesses(count, f'interface I {{ {static_fields(count)} }}\n' + made, last)
 
 
+def fields_behind_interfaces(count):
+    """Accesses that name a class and fields of the first of a chain of interfaces, of which the class names the last."""
+    made = f'interface I0 {{ {static_fields(count)} }}\n' + ''.join(f'interface I{i} implements I{i - 1} {{ }}\n' for i in range(1, count))
+    return accesses(count, made + f'class C implements I{count - 1} {{ }}\n', 'C')
+
+
 def calls_on_a_chain(count):
     """Calls that name each class of a chain, of which the first has the method."""
     made, last = chain(count, ' { void m() { return; } }')
@@ -261,12 +266,18 @@ def side_by_side(count):
     return main_of('A x;', 'x = new A0; virtualinvoke x.<A: void m()>();\n', made + 'abstract class A { abstract void m(); }\n')
 
 
-def hidden(count):
+def hidden(count, of_each='', more=''):
     """A call on an object of a class with many below it, which reach many interfaces with the method, each hidden by one without a body."""
     made = ''.join(f'interface D{i} {{ void m() {{ return; }} }}\ninterface H{i} implements D{i} {{ void m(); }}\n' for i in range(count))
     every = ', '.join(f'H{i}' for i in range(count))
-    made += f'abstract class A implements {every} {{ abstract void m(); }}\n' + ''.join(f'class C{i} extends A {{ }}\n' for i in range(count))
+    made += f'abstract class A implements {every} {{ abstract void m(); }}\n'
+    made += ''.join(more.format(i) + f'class C{i} extends A{of_each.format(i)} {{ }}\n' for i in range(count))
     return main_of('A x;', 'x = new C0; virtualinvoke x.<A: void m()>();\n', made)
+
+
+def hidden_from_each(count):
+    """The same, where each class below reaches an interface of its own, too."""
+    return hidden(count, ' implements X{}', 'interface X{} {{ void m(); }}\n')
 
 
 def open_ended(head, piece):
@@ -299,6 +310,7 @@ SHAPES = {
     'fields above': (repeated(200_000)(fields_above), RUN),
     'fields over interfaces': (repeated(175_000)(fields_above_interfaces), RUN),
     'fields of an interface': (repeated(200_000)(fields_of_an_interface), RUN),
+    'fields behind interfaces': (repeated(160_000)(fields_behind_interfaces), RUN),
     'calls on a chain': (repeated(200_000)(calls_on_a_chain), RUN),
     'keys on a chain': (repeated(140_000)(keys_on_a_chain), RUN),
     'keys of an interface': (repeated(110_000)(keys_of_an_interface), RUN),
@@ -306,6 +318,7 @@ SHAPES = {
     'under a chain': (repeated(200_000)(every_second_of_a_chain), RUN),
     'interfaces side by side': (repeated(160_000)(side_by_side), RUN),
     'hidden interfaces': (repeated(100_000)(hidden), RUN),
+    'hidden from each': (repeated(80_000)(hidden_from_each), RUN),
     'open comment': (open_ended('/*', '* '), RUN),
     'open line': (open_ended('//', 'x'), RUN),
     'open text': (open_ended('"', '\\"'), RUN),
@@ -318,9 +331,15 @@ def limited():
     resource.setrlimit(resource.RLIMIT_AS, (12 << 30, 12 << 30))
 
 
+def spent():
+    """Seconds of a processor that the calls so far have taken."""
+    used = resource.getrusage(resource.RUSAGE_CHILDREN)
+    return used.ru_utime + used.ru_stime
+
+
 def measured(program, words, data, limit):
-    """What is replied first, seconds, and bytes of memory; no seconds where the limit is passed."""
-    began = time.monotonic()
+    """What is replied first, seconds of a processor, and bytes of memory; no seconds where the limit is passed."""
+    before = spent()
     with subprocess.Popen([program, *words], stdin=subprocess.PIPE, stdout=subprocess.PIPE, stderr=subprocess.DEVNULL, preexec_fn=limited) as child:
         try:
             reply, _ = child.communicate(data, timeout=limit)
@@ -328,7 +347,7 @@ def measured(program, words, data, limit):
             child.kill()
             child.communicate()
             return 'ended', None, 0
-    took = time.monotonic() - began
+    took = spent() - before
     line = reply.decode(errors='replace').split('\n')[0] or f'status {child.returncode}'
     return line[:40], took, resource.getrusage(resource.RUSAGE_CHILDREN).ru_maxrss * 1024
 

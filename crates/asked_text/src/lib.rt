@@ -11,4 +11,4 @@ pub use asking::{
     status_of, words, words_of,
 };
 pub use faults::{Command, reads_that_fail, writes_that_fail};
-pub use worked::{AS_COMPILED, SHARED, WORKED};
+pub use worked::{SHARED, WORKED};

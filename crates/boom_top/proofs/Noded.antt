@@ -11,10 +11,10 @@ use Rattle.demand_set.proofs.Standing.{node_site}
 use Rattle.spds_rules.specs.Systems.{Meets}
 use Rattle.cert_rules.specs.declared.line.Line.{Line}
 use Rattle.cert_rules.specs.Certified.{IsCertified}
-use Rattle.cert_rules.specs.Given.{about}
+use Rattle.spds_rules.specs.Demand.{about, asked}
 use Rattle.cert_laws.proofs.Sound.{certified_answered}
 use Rattle.explain_text.proofs.Asked.{sites_stand}
-use Rattle.query_core.specs.Answers.{AreSharedBy, IsAnswerTo, asked}
+use Rattle.query_core.specs.Answers.{AreSharedBy, IsAnswerTo}
 
 -- the sites of an answer are sites of the program
 pub answer_sites : (p : LinkedProgram) → IsInForm p → (n : Node) (sites : List Site) (demanded : ℕ) → IsAnswerTo p n sites demanded → All (IsSite p) sites

@@ -3,10 +3,9 @@ use Rattle.std.proofs.Common.{ℕ, ◌≤◌, List, sym, subst}
 use Rattle.link_rules.specs.Linked.{LinkedProgram}
 use Rattle.link_sites.specs.declared.site.Site.{Site}
 use Rattle.spds_rules.specs.declared.node.Node.{Node}
-use Rattle.spds_rules.specs.Demand.{Demand}
+use Rattle.spds_rules.specs.Demand.{Demand, about}
 use Rattle.lists.specs.Lists.{Counts}
 use Rattle.cert_rules.specs.Certified.{IsCertified}
-use Rattle.cert_rules.specs.Given.{about}
 use Rattle.cert_query.specs.Replays.{IsAccepted}
 use Rattle.query_core.specs.Answers.{IsAnswerTo}
 use Rattle.report_text.specs.Answers.{IsQueryNode}

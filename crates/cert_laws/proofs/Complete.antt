@@ -8,7 +8,7 @@ use Rattle.spds_rules.specs.declared.edge.EdgeKind.TheVariants as edge
 use Rattle.spds_rules.specs.declared.node.Node.{Node}
 use Rattle.spds_rules.specs.declared.store.StoreAt.{StoreAt}
 use Rattle.spds_rules.specs.Answers.{IsAnswered}
-use Rattle.spds_rules.specs.Demand.{EdgeIn, StartIn}
+use Rattle.spds_rules.specs.Demand.{EdgeIn, StartIn, about}
 use Rattle.spds_rules.specs.Systems.{InCalls, InFields, IsString, MayStore, Meets, MetAfter}
 use Rattle.spds_laws.proofs.Crossings.{keep_stays, return_leads}
 use Rattle.spds_laws.proofs.Strings.{string_called}
@@ -21,7 +21,7 @@ use Rattle.cert_rules.specs.declared.line.Line.{Line}
 use Rattle.cert_rules.specs.declared.line.Line.TheVariants as line
 use Rattle.cert_rules.specs.declared.line.Side.{Side}
 use Rattle.cert_rules.specs.declared.line.Side.TheVariants.{Field, Call}
-use Rattle.cert_rules.specs.Given.{Cites, Facts, Gives, Keeps, Reads, ReadsOn, about}
+use Rattle.cert_rules.specs.Given.{Cites, Facts, Gives, Keeps, Reads, ReadsOn}
 use Rattle.cert_laws.specs.Shown.{IsShown}
 use Rattle.cert_laws.proofs.Givens.{given_more}
 use Rattle.cert_laws.proofs.Writing.{IsThere, Keeps_cited, Writes, cites_push, nothing_written, there_lasts, write_as, write_both, write_line, write_none}

@@ -10,7 +10,8 @@ use Rattle.cert_rules.specs.declared.fact.Fact.{Fact}
 use Rattle.cert_rules.specs.declared.line.Line.{Line}
 use Rattle.cert_rules.specs.declared.line.Line.TheVariants.{Claim}
 use Rattle.cert_rules.specs.Certified.{AreGiven, EndsWith}
-use Rattle.cert_rules.specs.Given.{Cites, Facts, Gives, IsHeld, about}
+use Rattle.spds_rules.specs.Demand.{about}
+use Rattle.cert_rules.specs.Given.{Cites, Facts, Gives, IsHeld}
 
 module _ {X : Type 0} where
   -- and within the front

@@ -22,7 +22,8 @@ use Rattle.cert_rules.specs.declared.line.Line.{Line}
 use Rattle.cert_rules.specs.declared.line.Line.TheVariants as line
 use Rattle.cert_rules.specs.declared.line.Side.TheVariants.{Field, Call}
 use Rattle.cert_rules.specs.Certified.{AreGiven, IsCertified}
-use Rattle.cert_rules.specs.Given.{Cites, Facts, Gives, Reads, ReadsOn, about}
+use Rattle.spds_rules.specs.Demand.{about}
+use Rattle.cert_rules.specs.Given.{Cites, Facts, Gives, Reads, ReadsOn}
 use Rattle.cert_laws.proofs.Givens.{cites_one, claim_held, taken_below}
 use Rattle.cert_laws.proofs.Means.{Means, MeansAt, Reaches, called_below, kept, popped, reaches_at, reaches_link, returned_base, some_string, stored_below}
 

@@ -4,7 +4,7 @@ ghost use Rattle.link_rules.specs.WellLinked.{IsWellLinked};
 ghost use Rattle.link_sites.specs.declared.site.Site.{Site as AnySite};
 ghost use Rattle.spds_rules.specs.declared.node.Node.{Node as AnyNode};
 ghost use Rattle.spds_rules.specs.Answers.{IsAnswered};
-ghost use Rattle.cert_rules.specs.Given.{about};
+ghost use Rattle.spds_rules.specs.Demand.{about};
 ghost use Rattle.cert_laws.specs.Shown.{IsShown};
 
 use link_program::Linked;

@@ -16,7 +16,8 @@ use Rattle.cert_rules.specs.declared.line.Line.TheVariants as line
 use Rattle.cert_rules.specs.declared.line.Side.{Side}
 use Rattle.cert_rules.specs.declared.line.Side.TheVariants.{Field, Call}
 use Rattle.cert_rules.specs.Certified.{AreGiven}
-use Rattle.cert_rules.specs.Given.{Cites, Facts, Gives, IsPut, Leads, Reads, ReadsOn, about}
+use Rattle.spds_rules.specs.Demand.{about}
+use Rattle.cert_rules.specs.Given.{Cites, Facts, Gives, IsPut, Leads, Reads, ReadsOn}
 use Rattle.cert_rules.specs.Lengths.{CanClaim}
 use Rattle.cert_laws.proofs.Givens.{taken_below}
 use Rattle.cert_make.specs.Needs.{CiteBack, CitesLine, renumbered}

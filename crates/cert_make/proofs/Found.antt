@@ -2,66 +2,42 @@
 use Rattle.std.proofs.Common.{◌≡◌, ◌↔◌, ℕ, zero, suc, ◌+◌, ◌<◌, ◌≤◌, List, [], ◌∷◌, ◌++◌, Some, Result, Ok, Err, OnOk, length, slice_get, take, sym, ap, subst, ◌∙◌, inl, inr, arith}
 use Rattle.std.proofs.lemmas.Bool.{cases_order}
 use Rattle.std.proofs.lemmas.List.{take_all}
+use Rattle.lists.specs.Grown.{IsGrownBy}
 use Rattle.lists.specs.Lists.{Adds, Has}
-use Rattle.lists.proofs.Places.{slice_get-append_left, slice_get-below, slice_get-push, slice_get-pushed, slice_get-there, take-next}
+use Rattle.lists.proofs.Grown.{grown_none, grown_one, grown_same, grown_then}
+use Rattle.lists.proofs.Places.{slice_get-append_left, slice_get-below, slice_get-push, slice_get-there, take-next}
 use Rattle.cert_rules.specs.declared.line.Line.{Line}
 use Rattle.cert_make.specs.Needs.{CiteBack, CitesLine, IsNeeded, numbers_of}
-use Rattle.cert_make.specs.Numbers.{HasGained}
 use Rattle.cert_make.proofs.Anew.{has_or, has_right}
 
 -- no number more
-pub grown_none : (old : List ℕ) → HasGained [] old old
-grown_none old = record { same = λ i n there. there; each = λ n has. inl has; all = λ n has. let e = has.1 in cc }
+pub none_more : (old : List ℕ) → IsGrownBy (Has []) old old
+none_more old = grown_none (Has []) old (λ n has. let e = has.1 in cc)
 
 -- one more
-added : (now : List ℕ) (number : ℕ) (new : List ℕ) → Adds now number new → HasGained (number ∷ []) now new
-added now number new (inl old) = record {
-  same = λ i n there. ap (λ (xs : List ℕ). slice_get xs i) old.1 ∙ there;
-  each = λ n has. inl (subst (λ (xs : List ℕ). Has xs n) old.1 has);
-  all = λ n has. subst (λ (xs : List ℕ). Has xs n) (sym old.1) (only n has);
-}
+one_more : (now : List ℕ) (number : ℕ) (new : List ℕ) → Adds now number new → IsGrownBy (Has (number ∷ [])) now new
+one_more now number new adds = grown_same (λ n. n ≡ number) (Has (number ∷ [])) now new (grown_one number now new adds) (λ n is. (zero, ap Some (sym is))) only
   where
-    only : (n : ℕ) → Has (number ∷ []) n → Has now n
-    only n (zero, there) = let is : number ≡ n = cc in subst (Has now) is old.0
-    only n (suc i, there) = cc
-added now number new (inr fresh) = record {
-  same = λ i n there. ap (λ (xs : List ℕ). slice_get xs i) fresh.1 ∙ slice_get-append_left now (number ∷ []) i n there;
-  each = λ n has. elim (slice_get-pushed now number has.0 n (ap (λ (xs : List ℕ). slice_get xs has.0) (sym fresh.1) ∙ has.1)) [
-    | inl before ↦ inl (has.0, before)
-    | inr last ↦ inr (zero, ap Some (sym last.1))
-  ];
-  all = λ n has. subst (λ (xs : List ℕ). Has xs n) (sym fresh.1) (only n has);
-}
-  where
-    only : (n : ℕ) → Has (number ∷ []) n → Has (now ++ number ∷ []) n
-    only n (zero, there) = (length now, slice_get-push now number ∙ there)
+    only : (n : ℕ) → Has (number ∷ []) n → n ≡ number
+    only n (zero, there) = cc
     only n (suc i, there) = cc
 
 -- by some, and then by others
-pub grown_both : (first second old now new : List ℕ) → HasGained first old now → HasGained second now new → HasGained (first ++ second) old new
-grown_both first second old now new f s = record {
-  same = λ i n there. s.same i n (f.same i n there);
-  each = λ n has. elim (s.each n has) [
-    | inl before ↦ elim (f.each n before) [ inl a ↦ inl a | inr b ↦ inr (b.0, slice_get-append_left first second b.0 n b.1) ]
-    | inr more ↦ inr (has_right first second n more)
-  ];
-  all = λ n has. elim (has_or first second has.0 n has.1) [
-    | inl a ↦ (let h = f.all n a in (h.0, s.same h.0 n h.1))
-    | inr b ↦ s.all n b
-  ];
-}
+pub grown_both : (first second old now new : List ℕ) → IsGrownBy (Has first) old now → IsGrownBy (Has second) now new → IsGrownBy (Has (first ++ second)) old new
+grown_both first second old now new f s = grown_then (Has first) (Has second) (Has (first ++ second)) old now new f s
+    (λ n has. (has.0, slice_get-append_left first second has.0 n has.1)) (λ n has. has_right first second n has) (λ n has. has_or first second has.0 n has.1)
 
-pub grown_on_both : {A E : Type 0} (r : Result A E) (first second old now new : List ℕ) → HasGained first old now → OnOk r (HasGained second now new) → OnOk r (HasGained (first ++ second) old new)
+pub grown_on_both : {A E : Type 0} (r : Result A E) (first second old now new : List ℕ) → IsGrownBy (Has first) old now → OnOk r (IsGrownBy (Has second) now new) → OnOk r (IsGrownBy (Has (first ++ second)) old new)
 grown_on_both (Ok a) first second old now new f s = grown_both first second old now new f s
 grown_on_both (Err e) first second old now new f s = s
 
-pub grown_next : (numbers : List ℕ) (i number : ℕ) (old now new : List ℕ) → slice_get numbers i ≡ Some number → HasGained (take i numbers) old now → Adds now number new
-    → HasGained (take (i + 1) numbers) old new
+pub grown_next : (numbers : List ℕ) (i number : ℕ) (old now new : List ℕ) → slice_get numbers i ≡ Some number → IsGrownBy (Has (take i numbers)) old now → Adds now number new
+    → IsGrownBy (Has (take (i + 1) numbers)) old new
 grown_next numbers i number old now new there grown adds =
-    subst (λ (xs : List ℕ). HasGained xs old new) (sym (take-next numbers i number there)) (grown_both (take i numbers) (number ∷ []) old now new grown (added now number new adds))
+    subst (λ (xs : List ℕ). IsGrownBy (Has xs) old new) (sym (take-next numbers i number there)) (grown_both (take i numbers) (number ∷ []) old now new grown (one_more now number new adds))
 
-pub grown_all : (numbers : List ℕ) (i : ℕ) (old new : List ℕ) → length numbers ≤ i → HasGained (take i numbers) old new → HasGained numbers old new
-grown_all numbers i old new end grown = subst (λ (xs : List ℕ). HasGained xs old new) (take_all i numbers end) grown
+pub grown_all : (numbers : List ℕ) (i : ℕ) (old new : List ℕ) → length numbers ≤ i → IsGrownBy (Has (take i numbers)) old new → IsGrownBy (Has numbers) old new
+grown_all numbers i old new end grown = subst (λ (xs : List ℕ). IsGrownBy (Has xs) old new) (take_all i numbers end) grown
 
 module _ (lines : List Line) (claim : Line) where
   -- what is found so far is needed, and has what the claim cites, and what the lines with so many of the numbers cite
@@ -85,7 +61,7 @@ module _ (lines : List Line) (claim : Line) where
         let b = line_back i l number there cites in
         (b.0, omega (arith, b.1, slice_get-below lines i l there))
 
-  pub found_first : (none new : List ℕ) → none ≡ [] → HasGained (numbers_of claim) none new → IsFound 0 new
+  pub found_first : (none new : List ℕ) → none ≡ [] → IsGrownBy (Has (numbers_of claim)) none new → IsFound 0 new
   found_first none new empty grown = record {
     within = omega arith;
     each = λ number has. elim (grown.each number has) [
@@ -97,7 +73,7 @@ module _ (lines : List Line) (claim : Line) where
   }
 
   -- one more line is looked at
-  pub found_more : (at k : ℕ) (l : Line) (old new : List ℕ) → slice_get old at ≡ Some (suc k) → slice_get lines k ≡ Some l → IsFound at old → HasGained (numbers_of l) old new → IsFound (at + 1) new
+  pub found_more : (at k : ℕ) (l : Line) (old new : List ℕ) → slice_get old at ≡ Some (suc k) → slice_get lines k ≡ Some l → IsFound at old → IsGrownBy (Has (numbers_of l)) old new → IsFound (at + 1) new
   found_more at k l old new here line_there found grown = record {
     within = omega (arith, slice_get-below new at (suc k) (grown.same at (suc k) here));
     each = λ number has. elim (grown.each number has) [

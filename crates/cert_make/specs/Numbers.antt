@@ -1,6 +1,5 @@
 -- Ascending numbers of lines, and the place of a number among them.
-use Rattle.std.specs.Prelude.{◌≡◌, ◌⊎◌, ℕ, suc, ◌+◌, ◌<◌, ◌^◌, AllPairs, List, [], ◌∷◌, Some, cond, leb, length, slice_get}
-use Rattle.lists.specs.Lists.{Has}
+use Rattle.std.specs.Prelude.{◌≡◌, ℕ, suc, ◌+◌, ◌<◌, ◌^◌, AllPairs, List, [], ◌∷◌, Some, cond, leb, length, slice_get}
 use Rattle.cert_rules.specs.declared.line.Line.{Line}
 use Rattle.cert_make.specs.Needs.{renumbered}
 
@@ -13,12 +12,6 @@ pub record AreNumbers (numbers : List ℕ) : Type 0 where
 abbrev pub up_to : List ℕ → ℕ → ℕ
 up_to [] number = 0
 up_to (n ∷ numbers) number = cond (leb n number) 1 0 + up_to numbers number
-
--- a list has grown by those of the numbers that weren't there: what stood there stands there still, and they are all there
-pub record HasGained (numbers old new : List ℕ) : Type 0 where
-  pub same : (i n : ℕ) → slice_get old i ≡ Some n → slice_get new i ≡ Some n
-  pub each : (n : ℕ) → Has new n → Has old n ⊎ Has numbers n
-  pub all : (n : ℕ) → Has numbers n → Has new n
 
 -- for each of the numbers the line with it, which cites by its places among them
 pub record AreAnew (numbers : List ℕ) (lines found : List Line) : Type 0 where

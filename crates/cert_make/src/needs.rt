@@ -1,8 +1,9 @@
 //! Which lines a claim needs.
 ghost use Rattle.std.specs.Prelude.{◌≡◌, ◌++◌, ◌∷◌, ◌↔◌, ◌<◌, ◌^◌, ℕ, [], IfOk, OnOk, length};
+ghost use Rattle.lists.specs.Grown.{IsGrownBy};
 ghost use Rattle.lists.specs.Lists.{Has};
 ghost use Rattle.cert_make.specs.Needs.{CiteBack, IsNeeded, numbers_of};
-ghost use Rattle.cert_make.specs.Numbers.{AreNumbers, HasGained, up_to};
+ghost use Rattle.cert_make.specs.Numbers.{AreNumbers, up_to};
 
 use cert_rules::Line;
 use lists::{NoMemory, Numbered};
@@ -47,7 +48,7 @@ impl Needed {
 
 // Adds those of the numbers that aren't there.
 fn add_all(found: &mut Numbered<u32>, numbers: &[u32]) -> Result<(), NoMemory>
-    ensures { OnOk result (HasGained numbers.now found.old.keys found.new.keys) }
+    ensures { OnOk result (IsGrownBy (Has numbers.now) found.old.keys found.new.keys) }
 {
     for number in numbers {
         found.add(*number)?;
@@ -57,7 +58,7 @@ fn add_all(found: &mut Numbered<u32>, numbers: &[u32]) -> Result<(), NoMemory>
 
 // Adds those that a line cites.
 fn add_cited(found: &mut Numbered<u32>, line: &Line) -> Result<(), NoMemory>
-    ensures { OnOk result (HasGained (numbers_of line.now) found.old.keys found.new.keys) }
+    ensures { OnOk result (IsGrownBy (Has (numbers_of line.now)) found.old.keys found.new.keys) }
 {
     match line {
         Line::Start { .. } => Ok(()),

@@ -3,11 +3,10 @@ use Rattle.std.specs.Prelude.{◌≡◌, ℕ, ◌≤◌, ◌⊎◌}
 use Rattle.link_rules.specs.Linked.{LinkedProgram}
 use Rattle.link_sites.specs.declared.site.Site.{Site}
 use Rattle.spds_rules.specs.declared.node.Node.{Node}
-use Rattle.spds_rules.specs.Demand.{Demand}
+use Rattle.spds_rules.specs.Demand.{Demand, about}
 use Rattle.lists.specs.Lists.{Counts, HasMore}
 use Rattle.cert_rules.specs.declared.certificate.Certificate.{Certificate}
 use Rattle.cert_rules.specs.Certified.{IsCertified, IsRejected}
-use Rattle.cert_rules.specs.Given.{about}
 use Rattle.report_text.specs.Answers.{IsQueryNode}
 
 -- its target is a node that a query may name, and demands so many nodes, no more than the budget allows

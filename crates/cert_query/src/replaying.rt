@@ -2,7 +2,7 @@
 ghost use Rattle.std.specs.Prelude.{◌≡◌, ◌↔◌, ◌+◌, ◌<◌, ◌^◌, ◌≤◌, ℕ, Err, IfOk, IsTrue, length};
 ghost use Rattle.cert_rules.specs.declared.certificate.Certificate.{Certificate as AnyCertificate};
 ghost use Rattle.cert_rules.specs.Certified.{IsCertified, IsRejected};
-ghost use Rattle.cert_rules.specs.Given.{about};
+ghost use Rattle.spds_rules.specs.Demand.{about};
 ghost use Rattle.cert_rules.specs.Spelled.{IsFirstBadLine, SpellsCertificate};
 ghost use Rattle.demand_set.specs.Demands.{IsDemandOf};
 ghost use Rattle.report_text.specs.Answers.{IsQueryNode};

@@ -11,7 +11,8 @@ use Rattle.cert_rules.specs.declared.fact.Fact.TheVariants.{At, Link, Shared, Me
 use Rattle.cert_rules.specs.declared.line.Line.{Line}
 use Rattle.cert_rules.specs.declared.line.Line.TheVariants as line
 use Rattle.cert_rules.specs.declared.line.Side.TheVariants.{Field, Call}
-use Rattle.cert_rules.specs.Given.{Cites, Facts, Gives, IsHeld, about}
+use Rattle.spds_rules.specs.Demand.{about}
+use Rattle.cert_rules.specs.Given.{Cites, Facts, Gives, IsHeld}
 use Rattle.cert_replay.specs.declared.cited.Held.{Held}
 use Rattle.cert_replay.specs.Cited.{IsHeldBy}
 use Rattle.cert_text.proofs.NodeWords.{none_iff, some_iff, some_one}

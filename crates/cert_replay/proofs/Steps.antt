@@ -2,8 +2,8 @@
 use Rattle.std.proofs.Common.{◌≡◌, ◌↔◌, ◌⊎◌, ℕ, ◌+◌, ◌≤◌, List, [], ◌∷◌, ◌++◌, Some, false, length, map, slice_get, take, refl, sym, ap, subst, ◌∙◌, inl, inr, arith}
 use Rattle.std.proofs.lemmas.List.{take_all}
 use Rattle.lists.specs.Lists.{Adds, Has, IsApart}
-use Rattle.lists.proofs.Places.{Has-push, slice_get-append_left, slice_get-push, slice_get-pushed, take-next}
-use Rattle.lists.proofs.Joined.{slice_get-taken}
+use Rattle.lists.proofs.Places.{Has-push, take-next}
+use Rattle.lists.proofs.Joined.{Has-adds, slice_get-taken}
 use Rattle.link_laws.proofs.Lists.{at_map, map_at}
 use Rattle.spds_rules.specs.declared.edge.Edge.{Edge}
 use Rattle.spds_rules.specs.declared.edge.EdgeKind.TheVariants.{Flow}
@@ -26,17 +26,6 @@ no_edge = record { from = no_node; to = no_node; kind = Flow }
 
 abbrev pub no_store : StoreAt
 no_store = record { place = record { method = 0; index = 0; raised = false }; field = 0; base = no_node; arg = no_node }
-
-module _ {X : Type 0} where
-  -- what a list has, to which an element was added
-  pub has_added : (old new : List X) (x : X) → Adds old x new → (y : X) → Has new y ↔ (Has old y ⊎ (y ≡ x))
-  has_added old new x adds y = elim adds [
-    | inl there ↦ (
-      λ h. inl (subst (λ l. Has l y) there.1 h),
-      λ h. rw there.1 (elim h [ inl is ↦ is | inr same ↦ rw same there.0 ]),
-    )
-    | inr last ↦ subst (λ l. Has l y ↔ (Has old y ⊎ (y ≡ x))) (sym last.1) (Has-push old x y)
-  ]
 
 -- one edge more
 pub steps_next : (edges : List Edge) (i : ℕ) (edge : Edge) → slice_get edges i ≡ Some edge → (s : Step) → HasStep (take (i + 1) edges) s ↔ (HasStep (take i edges) s ⊎ IsStepAlong edge s)
@@ -91,7 +80,7 @@ stored_next stores i s old new apart there e adds = elim adds [
 pub step_added : (edge : Edge) (way : Way) (old new : List Step) → Goes way edge.kind → Adds old (record { joined = record { from = edge.from; to = edge.to }; way = way }) new
     → (s : Step) → Has new s ↔ (Has old s ⊎ IsStepOf edge way s)
 step_added edge way old new goes adds s =
-    let has = has_added old new (record { joined = record { from = edge.from; to = edge.to }; way = way }) adds s in (
+    let has = Has-adds old new (record { joined = record { from = edge.from; to = edge.to }; way = way }) adds s in (
       λ h. elim (has.0 h) [ inl there ↦ inl there | inr same ↦ inr (goes, same) ],
       λ h. has.1 (elim h [ inl there ↦ inl there | inr is ↦ inr is.1 ]),
     )

@@ -8,7 +8,7 @@ use Rattle.spds_rules.specs.declared.edge.EdgeKind.{EdgeKind}
 use Rattle.spds_rules.specs.declared.edge.EdgeKind.TheVariants as edge
 use Rattle.spds_rules.specs.declared.node.Node.{Node}
 use Rattle.spds_rules.specs.declared.store.StoreAt.{StoreAt}
-use Rattle.spds_rules.specs.Demand.{EdgeIn, StartIn, StoreIn}
+use Rattle.spds_rules.specs.Demand.{EdgeIn, StartIn, StoreIn, about}
 use Rattle.cert_rules.specs.declared.fact.Entry.{Entry}
 use Rattle.cert_rules.specs.declared.fact.Entry.TheVariants as entry
 use Rattle.cert_rules.specs.declared.fact.Entry.TheVariants.{Base}
@@ -17,7 +17,7 @@ use Rattle.cert_rules.specs.declared.fact.Fact.TheVariants.{At, Link, Shared, Me
 use Rattle.cert_rules.specs.declared.line.Line.TheVariants as line
 use Rattle.cert_rules.specs.declared.line.Side.{Side}
 use Rattle.cert_rules.specs.declared.line.Side.TheVariants.{Field, Call}
-use Rattle.cert_rules.specs.Given.{Cites, Facts, Gives, Keeps, Reads, Takes, about}
+use Rattle.cert_rules.specs.Given.{Cites, Facts, Gives, Keeps, Reads, Takes}
 use Rattle.cert_replay.specs.declared.cited.Held.{Held}
 use Rattle.cert_replay.specs.declared.cited.Pair.{Pair}
 use Rattle.cert_replay.specs.declared.cited.Stored.{Stored}

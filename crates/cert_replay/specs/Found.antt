@@ -1,12 +1,12 @@
 -- What the rows of the table find.
 use Rattle.std.specs.Prelude.{ℕ, Option}
 use Rattle.spds_rules.specs.declared.node.Node.{Node}
-use Rattle.spds_rules.specs.Demand.{StartIn}
+use Rattle.spds_rules.specs.Demand.{StartIn, about}
 use Rattle.cert_rules.specs.declared.fact.Fact.TheVariants.{At, Met}
 use Rattle.cert_rules.specs.declared.fact.Fact.{Fact}
 use Rattle.cert_rules.specs.declared.line.Line.{Line}
 use Rattle.cert_rules.specs.declared.line.Side.{Side}
-use Rattle.cert_rules.specs.Given.{Cites, Facts, Gives, about}
+use Rattle.cert_rules.specs.Given.{Cites, Facts, Gives}
 use Rattle.cert_replay.specs.declared.rows.Inserted.{Inserted}
 use Rattle.cert_replay.specs.declared.view.View.{View}
 

@@ -2,7 +2,7 @@
 use Rattle.std.specs.Prelude.{◌≡◌, ◌↔◌, map}
 use Rattle.lists.specs.Lists.{Has}
 use Rattle.demand_set.specs.Demands.{DemandParts, IsDemandOf}
-use Rattle.cert_rules.specs.Given.{about}
+use Rattle.spds_rules.specs.Demand.{about}
 use Rattle.cert_replay.specs.declared.edges.Step.{Step}
 use Rattle.cert_replay.specs.declared.view.Tables.{Tables}
 use Rattle.cert_replay.specs.declared.view.View.{View}

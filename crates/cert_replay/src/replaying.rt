@@ -2,7 +2,8 @@
 ghost use Rattle.std.specs.Prelude.{◌≡◌, ◌↔◌, ◌+◌, ◌^◌, ◌<◌, ℕ, Err, Some, IfOk, MatchResult, length};
 ghost use Rattle.link_sites.specs.declared.site.Site.{Site as AnySite};
 ghost use Rattle.cert_rules.specs.Certified.{AreGiven, IsCertified, IsRejected};
-ghost use Rattle.cert_rules.specs.Given.{Facts, about};
+ghost use Rattle.spds_rules.specs.Demand.{about};
+ghost use Rattle.cert_rules.specs.Given.{Facts};
 ghost use Rattle.demand_set.specs.Demands.{IsDemandOf};
 ghost use Rattle.cert_replay.specs.Replays.{ClaimsSite, IsFirstUngiven, IsRefusal};
 ghost use Rattle.cert_replay.specs.Views.{IsView};

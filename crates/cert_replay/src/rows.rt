@@ -4,11 +4,11 @@ ghost use Rattle.link_sites.specs.declared.place.Place.{Place as AnyPlace};
 ghost use Rattle.link_sites.specs.Sites.{HasField};
 ghost use Rattle.spds_rules.specs.declared.edge.EdgeKind.{EdgeKind as AnyKind};
 ghost use Rattle.spds_rules.specs.declared.edge.EdgeKind.TheVariants.{Return};
-ghost use Rattle.spds_rules.specs.Demand.{EdgeIn};
+ghost use Rattle.spds_rules.specs.Demand.{EdgeIn, about};
 ghost use Rattle.cert_rules.specs.declared.fact.Entry.TheVariants.{Base};
 ghost use Rattle.cert_rules.specs.declared.fact.Fact.{Fact as AnyFact};
 ghost use Rattle.cert_rules.specs.declared.line.Line.TheVariants as line;
-ghost use Rattle.cert_rules.specs.Given.{IsHeld, Takes, about};
+ghost use Rattle.cert_rules.specs.Given.{IsHeld, Takes};
 ghost use Rattle.cert_replay.specs.Found.{AnyInserted, GivesIn, IsPutAs};
 ghost use Rattle.cert_replay.specs.Views.{IsView};
 

@@ -5,9 +5,9 @@ ghost use Rattle.link_sites.specs.declared.site.Site.{Site as AnySite};
 ghost use Rattle.spds_rules.specs.declared.edge.EdgeKind.{EdgeKind as AnyKind};
 ghost use Rattle.spds_rules.specs.declared.edge.EdgeKind.TheVariants.{Return};
 ghost use Rattle.spds_rules.specs.declared.store.StoreAt.{StoreAt as AnyStore};
-ghost use Rattle.spds_rules.specs.Demand.{EdgeIn, StartIn, StoreIn};
+ghost use Rattle.spds_rules.specs.Demand.{EdgeIn, StartIn, StoreIn, about};
 ghost use Rattle.link_sites.specs.declared.place.Place.{Place as AnyPlace};
-ghost use Rattle.cert_rules.specs.Given.{Keeps, about};
+ghost use Rattle.cert_rules.specs.Given.{Keeps};
 ghost use Rattle.cert_replay.specs.Joins.{Goes, joined_by};
 ghost use Rattle.cert_replay.specs.Views.{AreTables, IsView};
 

@@ -1,7 +1,7 @@
 //! What is worked off over a whole program, as far as objects are followed.
 ghost use Rattle.std.specs.Prelude.{IfOk};
 ghost use Rattle.demand_set.specs.Demands.{IsDemandOf};
-ghost use Rattle.cert_rules.specs.Given.{about};
+ghost use Rattle.spds_rules.specs.Demand.{about};
 ghost use Rattle.cert_work.specs.Roads.{IsView, StartOf};
 ghost use Rattle.cert_work.specs.Work.{AreFiled, IsWorkOf, TellsAt};
 

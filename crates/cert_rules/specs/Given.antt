@@ -7,9 +7,8 @@ use Rattle.link_sites.specs.Sites.{HasField}
 use Rattle.spds_rules.specs.declared.edge.EdgeKind.{EdgeKind}
 use Rattle.spds_rules.specs.declared.edge.EdgeKind.TheVariants as edge
 use Rattle.spds_rules.specs.declared.node.Node.{Node}
-use Rattle.spds_rules.specs.declared.reach.Reach.TheVariants.{Plain}
 use Rattle.spds_rules.specs.declared.store.StoreAt.{StoreAt}
-use Rattle.spds_rules.specs.Demand.{Asked, EdgeIn, StartIn, StoreIn}
+use Rattle.spds_rules.specs.Demand.{Asked, EdgeIn, StartIn, StoreIn, about}
 use Rattle.spds_rules.specs.Systems.{IsString, KeepsCalls, KeepsFields}
 use Rattle.cert_rules.specs.declared.fact.Entry.{Entry}
 use Rattle.cert_rules.specs.declared.fact.Entry.TheVariants as entry
@@ -20,10 +19,6 @@ use Rattle.cert_rules.specs.declared.line.Line.{Line}
 use Rattle.cert_rules.specs.declared.line.Line.TheVariants as line
 use Rattle.cert_rules.specs.declared.line.Side.{Side}
 use Rattle.cert_rules.specs.declared.line.Side.TheVariants.{Field, Call}
-
--- the query of one node, along the edges along which objects go
-abbrev pub about : Node → Asked
-about target = record { targets = target ∷ []; reach = Plain }
 
 -- what lines gave, each a fact, or nothing for a claim
 abbrev pub Facts : Type 0

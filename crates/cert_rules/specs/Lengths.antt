@@ -4,7 +4,7 @@ use Rattle.link_rules.specs.Linked.{LinkedProgram}
 use Rattle.link_sites.specs.declared.site.Site.{Site}
 use Rattle.spds_rules.specs.declared.node.Node.{Node}
 use Rattle.spds_rules.specs.declared.store.StoreAt.{StoreAt}
-use Rattle.spds_rules.specs.Demand.{Asked}
+use Rattle.spds_rules.specs.Demand.{Asked, about}
 use Rattle.spds_rules.specs.Systems.{Fields, InFields, Meets}
 use Rattle.cert_rules.specs.declared.fact.Entry.{Entry}
 use Rattle.cert_rules.specs.declared.fact.Entry.TheVariants.{Base}
@@ -13,7 +13,7 @@ use Rattle.cert_rules.specs.declared.line.Line.{Line}
 use Rattle.cert_rules.specs.declared.line.Line.TheVariants as line
 use Rattle.cert_rules.specs.declared.line.Side.TheVariants.{Field, Call}
 use Rattle.cert_rules.specs.Certified.{AreGiven, EndsWith}
-use Rattle.cert_rules.specs.Given.{Cites, Facts, about}
+use Rattle.cert_rules.specs.Given.{Cites, Facts}
 
 -- the rules of a derivation in the field system: one for each edge and for each store that it goes along. What justifies the meets isn't counted
 abbrev pub rules : {p : LinkedProgram} {q : Asked} {Meet : Site → Site → StoreAt → Type 0} {o : Site} {n : Node} {word : List ℕ} → InFields p q Meet o n word → ℕ

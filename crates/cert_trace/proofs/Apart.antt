@@ -15,7 +15,8 @@ use Rattle.cert_rules.specs.declared.line.Line.{Line}
 use Rattle.cert_rules.specs.declared.line.Line.TheVariants as line
 use Rattle.cert_rules.specs.declared.line.Side.{Side}
 use Rattle.cert_rules.specs.declared.line.Side.TheVariants.{Field, Call}
-use Rattle.cert_rules.specs.Given.{Cites, Facts, Gives, IsPut, Leads, Reads, ReadsOn, about}
+use Rattle.spds_rules.specs.Demand.{about}
+use Rattle.cert_rules.specs.Given.{Cites, Facts, Gives, IsPut, Leads, Reads, ReadsOn}
 use Rattle.cert_laws.proofs.OneFact.{gives_one}
 use Rattle.cert_laws.proofs.Sound.{some_same}
 use Rattle.cert_laws.proofs.Writing.{Keeps_cited}

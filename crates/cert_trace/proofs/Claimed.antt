@@ -10,7 +10,8 @@ use Rattle.cert_rules.specs.declared.fact.Entry.TheVariants.{Base}
 use Rattle.cert_rules.specs.declared.fact.Fact.TheVariants.{At}
 use Rattle.cert_rules.specs.declared.line.Side.TheVariants.{Field, Call}
 use Rattle.cert_rules.specs.Certified.{AreGiven}
-use Rattle.cert_rules.specs.Given.{Cites, about}
+use Rattle.spds_rules.specs.Demand.{about}
+use Rattle.cert_rules.specs.Given.{Cites}
 use Rattle.cert_rules.specs.Lengths.{CanClaim, IsShortest, cited_length, lengths_of}
 use Rattle.cert_lines.specs.Noted.{IsShortestOf, IsThere, Noted}
 use Rattle.cert_rules.specs.Told.{as_told}

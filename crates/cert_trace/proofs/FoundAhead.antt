@@ -1,10 +1,10 @@
 -- Where loads lie ahead is found from the loads back.
-use Rattle.std.proofs.Common.{◌≡◌, ◌⊎◌, inl, inr, ◌∙◌, ℕ, List, [], ◌∷◌, ◌++◌, Some, eqb, length, slice_get, false, true, sym, ap, refl, subst}
+use Rattle.std.proofs.Common.{◌≡◌, inl, inr, ◌∙◌, ℕ, List, false, true, sym, refl}
 use Rattle.std.proofs.lemmas.Bool.{false≢true}
-use Rattle.std.proofs.lemmas.List.{append-nil, append_assoc}
-use Rattle.lists.proofs.Places.{slice_get-append_left, slice_get-push}
-use Rattle.lists.specs.Groups.{Grouped, found_at}
-use Rattle.lists.specs.Lists.{Adds, Has}
+use Rattle.lists.proofs.Grown.{has_longer}
+use Rattle.lists.specs.Groups.{Grouped}
+use Rattle.lists.specs.Grown.{IsLonger}
+use Rattle.lists.specs.Lists.{Has}
 use Rattle.link_rules.specs.Linked.{LinkedProgram}
 use Rattle.spds_rules.specs.contracts.node.NodePartialEq.TheImpl as node
 use Rattle.spds_rules.specs.declared.edge.Edge.{Edge}
@@ -14,35 +14,17 @@ use Rattle.spds_rules.specs.declared.store.StoreAt.{StoreAt}
 use Rattle.spds_rules.specs.Systems.{Meets}
 use Rattle.spds_laws.proofs.Within.{meets_within}
 use Rattle.demand_set.specs.Demands.{DemandParts, IsDemandOf}
-use Rattle.cert_rules.specs.Given.{about}
+use Rattle.spds_rules.specs.Demand.{about}
 use Rattle.cert_lines.specs.declared.keys.FieldAt.{FieldAt}
 use Rattle.cert_work.specs.declared.wants.Ahead.{Ahead}
 use Rattle.cert_work.specs.Wants.{AreAhead}
-use Rattle.cert_trace.specs.Ahead.{IsAheadIn, IsArgFiled, IsBefore, IsFound, IsLonger, IsSearched}
+use Rattle.cert_trace.specs.Ahead.{IsAheadIn, IsArgFiled, IsBefore, IsFound, IsSearched}
 use Rattle.cert_trace.specs.Settled.{IsBackFiled}
-
-pub longer_none : (found : List FieldAt) → IsLonger found found
-longer_none found = ([], sym (append-nil found))
-
-pub longer_more : (a b c : List FieldAt) → IsLonger a b → IsLonger b c → IsLonger a c
-longer_more a b c first second =
-    (first.0 ++ second.0, second.1 ∙ ap (λ (xs : List FieldAt). xs ++ second.0) first.1 ∙ append_assoc a first.0 second.0)
-
-pub longer_one : (old : List FieldAt) (x : FieldAt) (new : List FieldAt) → Adds old x new → IsLonger old new
-longer_one old x new (inl is) = subst (IsLonger old) (sym is.1) (longer_none old)
-longer_one old x new (inr is) = (x ∷ [], is.1)
-
-pub adds_has : (old : List FieldAt) (x : FieldAt) (new : List FieldAt) → Adds old x new → Has new x
-adds_has old x new (inl is) = subst (λ (xs : List FieldAt). Has xs x) (sym is.1) is.0
-adds_has old x new (inr is) = subst (λ (xs : List FieldAt). Has xs x) (sym is.1) (length old, slice_get-push old x)
-
-pub found_more : (old new : List FieldAt) → IsLonger old new → (x : FieldAt) → Has old x → Has new x
-found_more old new longer x has = subst (λ (xs : List FieldAt). Has xs x) (sym longer.1) (has.0, slice_get-append_left old longer.0 has.0 x has.1)
 
 pub before_more : (old new : List FieldAt) → IsLonger old new → (args : Grouped ℕ Node) (f : ℕ) (e : Edge) → IsBefore old args f e → IsBefore new args f e
 before_more old new longer args f e is = record {
-  kept = λ k. found_more old new longer (record { field = f; node = e.from }) (is.kept k);
-  stored = λ g n loads has. found_more old new longer (record { field = f; node = n }) (is.stored g n loads has);
+  kept = λ k. has_longer old new longer (record { field = f; node = e.from }) (is.kept k);
+  stored = λ g n loads has. has_longer old new longer (record { field = f; node = n }) (is.stored g n loads has);
 }
 
 pub searched_more : (old new : List FieldAt) → IsLonger old new → (back : Grouped Node Edge) (args : Grouped ℕ Node) (at : FieldAt) → IsSearched old back args at

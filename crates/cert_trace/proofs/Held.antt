@@ -8,7 +8,7 @@ use Rattle.spds_rules.specs.declared.edge.EdgeKind.{EdgeKind}
 use Rattle.spds_rules.specs.declared.edge.EdgeKind.TheVariants as edge
 use Rattle.spds_rules.specs.declared.node.Node.{Node}
 use Rattle.spds_rules.specs.declared.store.StoreAt.{StoreAt}
-use Rattle.spds_rules.specs.Demand.{EdgeIn}
+use Rattle.spds_rules.specs.Demand.{EdgeIn, about}
 use Rattle.spds_rules.specs.Systems.{InCalls, InFields, IsString, KeepsCalls, KeepsFields}
 use Rattle.spds_laws.proofs.Crossings.{call_leads, keep_stays, return_leads}
 use Rattle.spds_laws.proofs.Strings.{string_called}
@@ -19,7 +19,7 @@ use Rattle.cert_rules.specs.declared.fact.Fact.{Fact}
 use Rattle.cert_rules.specs.declared.fact.Fact.TheVariants.{At, Link}
 use Rattle.cert_rules.specs.declared.line.Side.{Side}
 use Rattle.cert_rules.specs.declared.line.Side.TheVariants.{Field, Call}
-use Rattle.cert_rules.specs.Given.{Cites, ReadsOn, about}
+use Rattle.cert_rules.specs.Given.{Cites, ReadsOn}
 use Rattle.cert_rules.specs.Lengths.{rules}
 use Rattle.cert_laws.proofs.Givens.{cites_one}
 use Rattle.cert_lines.specs.Noted.{IsThere, Noted, length_at}

@@ -7,7 +7,7 @@ use Rattle.spds_rules.specs.declared.node.Node.{Node}
 use Rattle.spds_rules.specs.Answers.{IsAnswered}
 use Rattle.cert_rules.specs.declared.line.Line.{Line}
 use Rattle.cert_rules.specs.declared.line.Line.TheVariants as line
-use Rattle.cert_rules.specs.Given.{about}
+use Rattle.spds_rules.specs.Demand.{about}
 use Rattle.cert_rules.specs.Lengths.{CanClaim, HasLength, IsShortest, cited_length, lengths_of}
 use Rattle.cert_trace.specs.Traces.{IsTraceOf}
 use Rattle.cert_trace.specs.declared.evidence.Evidence.{Evidence}

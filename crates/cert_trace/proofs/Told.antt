@@ -13,7 +13,7 @@ use Rattle.cert_rules.specs.declared.line.Line.{Line}
 use Rattle.cert_rules.specs.declared.line.Line.TheVariants as line
 use Rattle.cert_rules.specs.declared.line.Side.TheVariants.{Field, Call}
 use Rattle.cert_rules.specs.Certified.{AreGiven}
-use Rattle.cert_rules.specs.Given.{about}
+use Rattle.spds_rules.specs.Demand.{about}
 use Rattle.cert_rules.specs.Lengths.{IsNoLonger, IsShortest, cited_length, length_by, lengths_of, rules}
 use Rattle.cert_laws.proofs.Givens.{given_more}
 use Rattle.cert_lines.specs.Noted.{IsShortestOf, IsThere, Noted, length_at}

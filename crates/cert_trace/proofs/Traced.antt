@@ -13,7 +13,7 @@ use Rattle.cert_rules.specs.declared.fact.Entry.TheVariants.{Base}
 use Rattle.cert_rules.specs.declared.fact.Fact.TheVariants.{At, Met as IsMet}
 use Rattle.cert_rules.specs.declared.line.Side.TheVariants.{Field}
 use Rattle.cert_rules.specs.Certified.{AreGiven}
-use Rattle.cert_rules.specs.Given.{about}
+use Rattle.spds_rules.specs.Demand.{about}
 use Rattle.cert_rules.specs.Lengths.{lengths_of}
 use Rattle.cert_lines.specs.Noted.{IsThere, Noted}
 use Rattle.cert_rules.specs.Told.{as_told}

@@ -7,7 +7,7 @@ use Rattle.link_sites.specs.declared.site.Site.{Site}
 use Rattle.link_sites.specs.Places.{before}
 use Rattle.spds_rules.specs.declared.edge.EdgeKind.TheVariants as edge
 use Rattle.spds_rules.specs.declared.node.Node.{Node}
-use Rattle.spds_rules.specs.Demand.{EdgeIn}
+use Rattle.spds_rules.specs.Demand.{EdgeIn, about}
 use Rattle.spds_rules.specs.Systems.{IsString}
 use Rattle.spds_laws.proofs.Crossings.{call_leads}
 use Rattle.cert_rules.specs.declared.fact.Entry.{Entry}
@@ -18,7 +18,7 @@ use Rattle.cert_rules.specs.declared.fact.Fact.TheVariants.{At, Link, Shared, Me
 use Rattle.cert_rules.specs.declared.line.Line.{Line}
 use Rattle.cert_rules.specs.declared.line.Line.TheVariants as line
 use Rattle.cert_rules.specs.declared.line.Side.TheVariants.{Field, Call}
-use Rattle.cert_rules.specs.Given.{Cites, Facts, Gives, Reads, ReadsOn, about}
+use Rattle.cert_rules.specs.Given.{Cites, Facts, Gives, Reads, ReadsOn}
 use Rattle.cert_laws.proofs.Sound.{some_same}
 use Rattle.cert_trace.specs.Fitting.{IsUnraised, IsWellRead}
 

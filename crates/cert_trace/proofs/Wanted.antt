@@ -13,7 +13,7 @@ use Rattle.spds_rules.specs.Answers.{IsAnswered}
 use Rattle.spds_rules.specs.Systems.{Meets}
 use Rattle.spds_laws.proofs.Within.{fields_site}
 use Rattle.demand_set.specs.Demands.{DemandParts, IsDemandOf}
-use Rattle.cert_rules.specs.Given.{about}
+use Rattle.spds_rules.specs.Demand.{about}
 use Rattle.cert_lines.specs.declared.keys.Origin.{Origin}
 use Rattle.cert_lines.specs.declared.keys.Spot.{Spot}
 use Rattle.cert_work.specs.declared.wants.Wants.{Wants}

@@ -1,5 +1,5 @@
 -- Where loads lie ahead, as it is searched over the lists of a demand.
-use Rattle.std.specs.Prelude.{◌≡◌, ◌++◌, ℕ, List, eqb}
+use Rattle.std.specs.Prelude.{◌≡◌, ℕ, List, eqb}
 use Rattle.lists.specs.Groups.{Grouped, found_at}
 use Rattle.lists.specs.Lists.{Has}
 use Rattle.spds_rules.specs.contracts.node.NodePartialEq.TheImpl as node
@@ -16,10 +16,6 @@ use Rattle.cert_work.specs.Wants.{IsAhead}
 -- the node was found to lie before loads of the field
 abbrev pub IsFound : List FieldAt → ℕ → Node → Type 0
 IsFound found f n = Has found (record { field = f; node = n })
-
--- others were found behind them
-abbrev pub IsLonger : List FieldAt → List FieldAt → Type 0
-IsLonger old new = (more : List FieldAt) × (new ≡ old ++ more)
 
 -- what the store takes is kept under its field
 abbrev pub IsArgFiled : Grouped ℕ Node → StoreAt → Type 0

@@ -5,11 +5,11 @@ use Rattle.link_sites.specs.declared.place.Place.{Place}
 use Rattle.link_sites.specs.declared.site.Site.{Site}
 use Rattle.spds_rules.specs.declared.node.Node.{Node}
 use Rattle.spds_rules.specs.declared.store.StoreAt.{StoreAt}
-use Rattle.spds_rules.specs.Demand.{StartIn}
+use Rattle.spds_rules.specs.Demand.{StartIn, about}
 use Rattle.cert_rules.specs.declared.fact.Entry.TheVariants.{Base}
 use Rattle.cert_rules.specs.declared.fact.Fact.TheVariants.{At, Met}
 use Rattle.cert_rules.specs.declared.line.Side.{Side}
-use Rattle.cert_rules.specs.Given.{Reads, about}
+use Rattle.cert_rules.specs.Given.{Reads}
 use Rattle.cert_lines.specs.Noted.{IsThere, Noted}
 use Rattle.cert_work.specs.declared.wants.Wants.{Wants}
 use Rattle.cert_work.specs.Rules.{AreWorked}

@@ -1,12 +1,11 @@
 -- What a meet rests on.
 use Rattle.std.specs.Prelude.{ℕ}
 use Rattle.link_sites.specs.Sites.{HasField}
-use Rattle.spds_rules.specs.Demand.{StoreIn}
+use Rattle.spds_rules.specs.Demand.{StoreIn, about}
 use Rattle.spds_rules.specs.Systems.{IsString}
 use Rattle.cert_rules.specs.declared.fact.Entry.TheVariants.{Base}
 use Rattle.cert_rules.specs.declared.fact.Fact.TheVariants.{At}
 use Rattle.cert_rules.specs.declared.line.Side.TheVariants.{Field}
-use Rattle.cert_rules.specs.Given.{about}
 use Rattle.cert_lines.specs.Noted.{IsThere, Noted}
 use Rattle.cert_work.specs.declared.roads.View.{View}
 use Rattle.cert_trace.specs.declared.meeting.Meeting.{Meeting}

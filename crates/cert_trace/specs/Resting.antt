@@ -2,7 +2,7 @@
 use Rattle.std.specs.Prelude.{◌≡◌, List, [], length}
 use Rattle.spds_rules.specs.Systems.{Meets}
 use Rattle.demand_set.specs.Demands.{DemandParts}
-use Rattle.cert_rules.specs.Given.{about}
+use Rattle.spds_rules.specs.Demand.{about}
 use Rattle.cert_lines.specs.Noted.{Noted}
 use Rattle.cert_work.specs.declared.roads.View.{View}
 use Rattle.cert_work.specs.declared.work.Work.{Work}

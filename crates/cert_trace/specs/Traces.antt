@@ -4,7 +4,7 @@ use Rattle.link_rules.specs.Linked.{LinkedProgram}
 use Rattle.spds_rules.specs.declared.node.Node.{Node}
 use Rattle.spds_rules.specs.Systems.{Meets}
 use Rattle.cert_rules.specs.Certified.{AreGiven}
-use Rattle.cert_rules.specs.Given.{about}
+use Rattle.spds_rules.specs.Demand.{about}
 use Rattle.cert_rules.specs.Lengths.{lengths_of}
 use Rattle.cert_rules.specs.Told.{as_told}
 use Rattle.cert_work.specs.declared.work.Work.{Work}

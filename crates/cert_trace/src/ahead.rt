@@ -1,13 +1,13 @@
 //! Loads lie ahead.
-ghost use Rattle.std.specs.Prelude.{◌≡◌, ℕ, IfOk, IsTrue, OnOk, eqb};
-ghost use Rattle.lists.specs.Groups.{found_at};
+ghost use Rattle.std.specs.Prelude.{◌≡◌, ℕ, IfOk, IsTrue, OnOk};
 ghost use Rattle.lists.specs.Lists.{Has};
 ghost use Rattle.spds_rules.specs.declared.edge.Edge.{Edge as AnyEdge};
 ghost use Rattle.spds_rules.specs.declared.edge.EdgeKind.TheVariants.{Load};
 ghost use Rattle.spds_rules.specs.declared.node.Node.{Node as AnyNode};
 ghost use Rattle.spds_rules.specs.declared.store.StoreAt.{StoreAt as AnyStore};
 ghost use Rattle.cert_lines.specs.declared.keys.FieldAt.{FieldAt as AnyFieldAt};
-ghost use Rattle.cert_trace.specs.Ahead.{IsAheadIn, IsArgFiled, IsBefore, IsFound, IsLonger, IsSearched};
+ghost use Rattle.lists.specs.Grown.{IsLonger};
+ghost use Rattle.cert_trace.specs.Ahead.{IsAheadIn, IsArgFiled, IsBefore, IsFound, IsSearched};
 ghost use Rattle.cert_trace.specs.Settled.{IsBackFiled};
 
 use cert_lines::FieldAt;

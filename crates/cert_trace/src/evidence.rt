@@ -6,7 +6,7 @@ ghost use Rattle.spds_rules.specs.declared.node.Node.{Node as AnyNode};
 ghost use Rattle.spds_rules.specs.Answers.{IsAnswered};
 ghost use Rattle.demand_set.specs.Demands.{IsDemandOf};
 ghost use Rattle.spds_solve.specs.Solved.{IsSolved};
-ghost use Rattle.cert_rules.specs.Given.{about};
+ghost use Rattle.spds_rules.specs.Demand.{about};
 ghost use Rattle.cert_rules.specs.Spelled.{FitsLine};
 ghost use Rattle.cert_trace.specs.Traces.{IsTraceOf};
 ghost use Rattle.cert_trace.specs.Explained.{IsExplained};

@@ -1,11 +1,11 @@
 //! Lines that show that an object may be stored into another.
 ghost use Rattle.std.specs.Prelude.{◌≡◌, ℕ, IfOk, OnOk, length};
 ghost use Rattle.link_sites.specs.Sites.{HasField};
-ghost use Rattle.spds_rules.specs.Demand.{StoreIn};
+ghost use Rattle.spds_rules.specs.Demand.{StoreIn, about};
 ghost use Rattle.cert_rules.specs.declared.fact.Entry.TheVariants.{Base};
 ghost use Rattle.cert_rules.specs.declared.fact.Fact.TheVariants.{At, Met as IsMet, Shared as IsShared};
 ghost use Rattle.cert_rules.specs.declared.line.Side.TheVariants.{Field as OfFields};
-ghost use Rattle.cert_rules.specs.Given.{Cites, Reads, about};
+ghost use Rattle.cert_rules.specs.Given.{Cites, Reads};
 ghost use Rattle.cert_lines.specs.Noted.{IsThere};
 ghost use Rattle.spds_rules.specs.Systems.{IsString};
 ghost use Rattle.cert_work.specs.Roads.{AreAddedIn};

@@ -8,7 +8,7 @@ ghost use Rattle.spds_rules.specs.Systems.{Meets};
 ghost use Rattle.demand_set.specs.Demands.{IsDemandOf};
 ghost use Rattle.cert_rules.specs.declared.fact.Fact.TheVariants.{Met as IsMet};
 ghost use Rattle.cert_rules.specs.Certified.{AreGiven};
-ghost use Rattle.cert_rules.specs.Given.{about};
+ghost use Rattle.spds_rules.specs.Demand.{about};
 ghost use Rattle.cert_rules.specs.Lengths.{lengths_of};
 ghost use Rattle.cert_rules.specs.Spelled.{FitsLine};
 ghost use Rattle.cert_lines.specs.Noted.{IsThere};

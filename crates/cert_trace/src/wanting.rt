@@ -7,7 +7,7 @@ ghost use Rattle.spds_rules.specs.declared.store.StoreAt.{StoreAt as AnyStore};
 ghost use Rattle.spds_rules.specs.Systems.{Meets};
 ghost use Rattle.demand_set.specs.Demands.{IsDemandOf};
 ghost use Rattle.spds_solve.specs.Solved.{IsSolved};
-ghost use Rattle.cert_rules.specs.Given.{about};
+ghost use Rattle.spds_rules.specs.Demand.{about};
 ghost use Rattle.cert_lines.specs.declared.keys.Spot.{Spot as AnySpot};
 ghost use Rattle.cert_work.specs.Wants.{AreWants, IsWanted, IsWider};
 ghost use Rattle.cert_trace.specs.Settled.{IsFollowedBack};

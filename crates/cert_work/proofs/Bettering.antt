@@ -7,13 +7,13 @@ use Rattle.spds_rules.specs.declared.edge.Edge.{Edge}
 use Rattle.spds_rules.specs.declared.edge.EdgeKind.{EdgeKind}
 use Rattle.spds_rules.specs.declared.edge.EdgeKind.TheVariants as edge
 use Rattle.spds_rules.specs.declared.node.Node.{Node}
-use Rattle.spds_rules.specs.Demand.{EdgeIn, StartIn}
+use Rattle.spds_rules.specs.Demand.{EdgeIn, StartIn, about}
 use Rattle.cert_rules.specs.declared.fact.Entry.{Entry}
 use Rattle.cert_rules.specs.declared.fact.Fact.{Fact}
 use Rattle.cert_rules.specs.declared.fact.Fact.TheVariants.{At}
 use Rattle.cert_rules.specs.declared.line.Side.{Side}
 use Rattle.cert_rules.specs.declared.line.Side.TheVariants.{Field, Call}
-use Rattle.cert_rules.specs.Given.{Cites, about}
+use Rattle.cert_rules.specs.Given.{Cites}
 use Rattle.cert_rules.specs.Lengths.{cited_length}
 use Rattle.cert_lines.specs.Noted.{GivesAt, IsBettered, IsThere, Noted, length_at}
 use Rattle.cert_work.specs.Added.{AreAdded}

@@ -4,10 +4,10 @@ use Rattle.link_rules.specs.Linked.{LinkedProgram}
 use Rattle.link_sites.specs.declared.site.Site.{Site}
 use Rattle.spds_rules.specs.declared.edge.Edge.{Edge}
 use Rattle.spds_rules.specs.declared.node.Node.{Node}
-use Rattle.spds_rules.specs.Demand.{EdgeIn, StartIn}
+use Rattle.spds_rules.specs.Demand.{EdgeIn, StartIn, about}
 use Rattle.cert_rules.specs.declared.fact.Fact.{Fact}
 use Rattle.cert_rules.specs.declared.fact.Fact.TheVariants.{At, Link, Met, Shared}
-use Rattle.cert_rules.specs.Given.{Cites, Facts, about}
+use Rattle.cert_rules.specs.Given.{Cites, Facts}
 use Rattle.cert_laws.proofs.Givens.{cites_one}
 use Rattle.cert_lines.specs.declared.keys.Spot.{Spot}
 use Rattle.cert_lines.specs.declared.keys.Word.{Word}

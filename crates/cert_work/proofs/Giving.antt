@@ -12,7 +12,8 @@ use Rattle.cert_rules.specs.declared.fact.Fact.TheVariants.{At, Link}
 use Rattle.cert_rules.specs.declared.line.Line.TheVariants as line
 use Rattle.cert_rules.specs.declared.line.Side.{Side}
 use Rattle.cert_rules.specs.declared.line.Side.TheVariants.{Field, Call}
-use Rattle.cert_rules.specs.Given.{Cites, Keeps, Leads, Takes, about}
+use Rattle.spds_rules.specs.Demand.{about}
+use Rattle.cert_rules.specs.Given.{Cites, Keeps, Leads, Takes}
 use Rattle.cert_lines.specs.Noted.{IsThere, Noted}
 use Rattle.cert_rules.specs.Told.{as_told}
 use Rattle.cert_work.specs.declared.held.Below.{Below}

@@ -5,12 +5,12 @@ use Rattle.link_rules.specs.Linked.{LinkedProgram}
 use Rattle.link_sites.specs.declared.site.Site.{Site}
 use Rattle.spds_rules.specs.declared.node.Node.{Node}
 use Rattle.spds_rules.specs.declared.store.StoreAt.{StoreAt}
-use Rattle.spds_rules.specs.Demand.{StoreIn}
+use Rattle.spds_rules.specs.Demand.{StoreIn, about}
 use Rattle.cert_rules.specs.declared.fact.Fact.{Fact}
 use Rattle.cert_rules.specs.declared.fact.Fact.TheVariants.{Met}
 use Rattle.cert_rules.specs.declared.line.Line.{Line}
 use Rattle.cert_rules.specs.declared.line.Line.TheVariants as line
-use Rattle.cert_rules.specs.Given.{Facts, Gives, about}
+use Rattle.cert_rules.specs.Given.{Facts, Gives}
 use Rattle.cert_lines.specs.declared.keys.Spot.{Spot}
 use Rattle.cert_lines.specs.Noted.{Noted}
 use Rattle.cert_work.specs.Added.{AreAdded}

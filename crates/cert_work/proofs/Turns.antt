@@ -7,12 +7,12 @@ use Rattle.lists.specs.Lists.{Has}
 use Rattle.spds_rules.specs.declared.edge.Edge.{Edge}
 use Rattle.spds_rules.specs.declared.node.Node.{Node}
 use Rattle.spds_rules.specs.declared.store.StoreAt.{StoreAt}
-use Rattle.spds_rules.specs.Demand.{EdgeIn, StartIn}
+use Rattle.spds_rules.specs.Demand.{EdgeIn, StartIn, about}
 use Rattle.cert_rules.specs.declared.fact.Entry.{Entry}
 use Rattle.cert_rules.specs.declared.fact.Fact.{Fact}
 use Rattle.cert_rules.specs.declared.fact.Fact.TheVariants.{At, Link, Met, Shared}
 use Rattle.cert_rules.specs.declared.line.Side.{Side}
-use Rattle.cert_rules.specs.Given.{Cites, Takes, about}
+use Rattle.cert_rules.specs.Given.{Cites, Takes}
 use Rattle.cert_laws.proofs.Givens.{cites_one}
 use Rattle.cert_lines.specs.contracts.keys.SpotPartialEq.TheImpl as spot
 use Rattle.cert_lines.specs.contracts.keys.WordPartialEq.TheImpl as word

@@ -7,14 +7,14 @@ use Rattle.spds_rules.specs.declared.edge.EdgeKind.{EdgeKind}
 use Rattle.spds_rules.specs.declared.edge.EdgeKind.TheVariants as edge
 use Rattle.spds_rules.specs.declared.node.Node.{Node}
 use Rattle.spds_rules.specs.declared.store.StoreAt.{StoreAt}
-use Rattle.spds_rules.specs.Demand.{EdgeIn, StartIn}
+use Rattle.spds_rules.specs.Demand.{EdgeIn, StartIn, about}
 use Rattle.cert_rules.specs.declared.fact.Entry.{Entry}
 use Rattle.cert_rules.specs.declared.fact.Entry.TheVariants as entry
 use Rattle.cert_rules.specs.declared.fact.Entry.TheVariants.{Base}
 use Rattle.cert_rules.specs.declared.fact.Fact.TheVariants.{At, Link, Met}
 use Rattle.cert_rules.specs.declared.line.Side.{Side}
 use Rattle.cert_rules.specs.declared.line.Side.TheVariants.{Field, Call}
-use Rattle.cert_rules.specs.Given.{Cites, Takes, about}
+use Rattle.cert_rules.specs.Given.{Cites, Takes}
 use Rattle.cert_rules.specs.Lengths.{cited_length}
 use Rattle.cert_lines.specs.Noted.{IsBettered, IsThere, Noted}
 use Rattle.cert_work.specs.declared.wants.Wants.{Wants}

@@ -9,9 +9,8 @@ use Rattle.spds_rules.specs.declared.edge.EdgeKind.TheVariants.{Load}
 use Rattle.spds_rules.specs.declared.node.Node.{Node}
 use Rattle.spds_rules.specs.declared.store.StoreAt.{StoreAt}
 use Rattle.spds_rules.specs.Answers.{IsAnswered}
-use Rattle.spds_rules.specs.Demand.{EdgeIn, StartIn}
+use Rattle.spds_rules.specs.Demand.{EdgeIn, StartIn, about}
 use Rattle.spds_rules.specs.Systems.{KeepsFields}
-use Rattle.cert_rules.specs.Given.{about}
 use Rattle.cert_rules.specs.declared.fact.Entry.{Entry}
 use Rattle.cert_rules.specs.declared.fact.Entry.TheVariants as entry
 use Rattle.cert_lines.specs.declared.keys.Spot.{Spot}

@@ -10,8 +10,8 @@ use Rattle.cert_rules.specs.declared.fact.Entry.{Entry}
 use Rattle.cert_rules.specs.declared.fact.Fact.TheVariants.{At, Link, Met}
 use Rattle.cert_rules.specs.declared.line.Side.{Side}
 use Rattle.spds_rules.specs.declared.edge.Edge.{Edge}
-use Rattle.spds_rules.specs.Demand.{EdgeIn, StoreIn}
-use Rattle.cert_rules.specs.Given.{Cites, Takes, about}
+use Rattle.spds_rules.specs.Demand.{EdgeIn, StoreIn, about}
+use Rattle.cert_rules.specs.Given.{Cites, Takes}
 use Rattle.cert_lines.specs.contracts.keys.SpotPartialEq.TheImpl as spot
 use Rattle.cert_lines.specs.contracts.keys.WordPartialEq.TheImpl as word
 use Rattle.cert_lines.specs.declared.keys.Spot.{Spot}

@@ -1,19 +1,16 @@
 //! The edges and the start nodes of a demand by look-ups.
 ghost use Rattle.std.specs.Prelude.{◌≡◌, ◌↔◌, ◌⊎◌, IfOk, IsTrue, OnOk};
-ghost use Rattle.lists.specs.Lists.{Has};
-ghost use Rattle.link_sites.specs.declared.site.Site.{Site as AnySite};
-ghost use Rattle.spds_rules.specs.declared.edge.Edge.{Edge as AnyEdge};
+ghost use Rattle.lists.specs.Grown.{IsLonger};
+ghost use Rattle.lists.specs.Lists.{Has, IsApart};
 ghost use Rattle.spds_rules.specs.declared.node.Node.{Node as AnyNode};
 ghost use Rattle.spds_rules.specs.declared.store.StoreAt.{StoreAt as AnyStore};
-ghost use Rattle.spds_rules.specs.Demand.{EdgeIn, StartIn};
-ghost use Rattle.cert_rules.specs.Given.{about};
+ghost use Rattle.spds_rules.specs.Demand.{StartIn, about};
 ghost use Rattle.spds_rules.specs.Nodes.{IsStart};
-ghost use Rattle.spds_rules.specs.contracts.node.NodePartialEq.TheImpl as of_node;
 ghost use Rattle.lists.specs.Groups.{found_at};
 ghost use Rattle.cert_lines.specs.contracts.keys.OriginPartialEq.TheImpl as of_origin;
 ghost use Rattle.cert_lines.specs.declared.keys.Origin.{Origin as AnyOrigin};
 ghost use Rattle.demand_set.specs.Demands.{IsDemandOf};
-ghost use Rattle.cert_work.specs.Roads.{AreEdgesAt, AreRoads, EndOf, IsEndOf, IsView, StartOf};
+ghost use Rattle.cert_work.specs.Roads.{AreEdgesAt, AreRoads, AreUnder, EndOf, IsEndOf, IsView, StartOf};
 ghost use Rattle.cert_work.specs.Wants.{IsWanted};
 
 use super::wants::Wants;
@@ -21,7 +18,7 @@ use cert_lines::Origin;
 use demand_set::Demand;
 use link_program::Linked;
 use link_sites::Site;
-use lists::{ByKey, NoMemory, Numbered};
+use lists::{ByKey, NoMemory, Numbered, Pair, Rows, rows_of};
 use spds_nodes::is_node;
 use spds_rules::{Edge, Node, StoreAt, site_of};
 use std::alloc::Global;
@@ -30,20 +27,40 @@ use std::alloc::Global;
 /// put them into.
 #[derive(Drop)]
 pub struct Roads {
-    pub(crate) edges: ByKey<Node, Edge>,
+    // So many ends stand first, and the other sources of edges behind them.
+    pub(crate) nodes: Numbered<Node>,
+    pub(crate) ends: u32,
+    // By the numbers of their sources.
+    pub(crate) edges: Rows<Edge>,
     pub(crate) starts: ByKey<Origin, Node>,
-    pub(crate) ends: Numbered<Node>,
 }
 
-// The edges by their sources.
-fn file_edges(alloc: Global, edges: &[Edge]) -> Result<ByKey<Node, Edge>, NoMemory>
-    ensures { IfOk result (λ files. (n : AnyNode) (e : AnyEdge) → Has (found_at of_node.eq-value.it files n) e ↔ ((e.from ≡ n) × Has edges.now e)) }
+/// What is demanded at a node: the edges from it, and whether it is an end.
+#[derive(Clone, Copy)]
+pub struct Stop<'a> {
+    pub edges: &'a [Edge],
+    pub is_end: bool,
+}
+
+// The edges under the numbers of their sources, of which those that have none get the next ones.
+fn number_edges(
+    alloc: Global,
+    nodes: &mut Numbered<Node>,
+    edges: &[Edge],
+) -> Result<Vec<Pair<Edge>>, NoMemory>
+    requires { IsApart nodes.old.keys }
+    ensures under { IfOk result (λ pairs. AreUnder nodes.new.keys edges.now pairs.items) }
+    ensures longer { OnOk result (IsLonger nodes.old.keys nodes.new.keys) }
 {
-    let mut files = ByKey::new(alloc);
+    let mut pairs = Vec::with_capacity(alloc, edges.len())?;
     for edge in edges {
-        files.add(edge.from, *edge)?;
+        let (number, _new) = nodes.add(edge.from)?;
+        pairs.push(Pair {
+            number,
+            item: *edge,
+        })?;
     }
-    Ok(files)
+    Ok(pairs)
 }
 
 // One node more, if it is a start node.
@@ -78,7 +95,8 @@ fn file_starts(
 
 // The ends of a store more.
 fn add_ends(ends: &mut Numbered<Node>, store: StoreAt) -> Result<(), NoMemory>
-    ensures { OnOk result ((n : AnyNode) → Has ends.new.keys n ↔ (Has ends.old.keys n ⊎ IsEndOf store n)) }
+    ensures has { OnOk result ((n : AnyNode) → Has ends.new.keys n ↔ (Has ends.old.keys n ⊎ IsEndOf store n)) }
+    ensures apart { IsApart ends.old.keys → OnOk result (IsApart ends.new.keys) }
 {
     ends.add(store.arg)?;
     ends.add(store.base)?;
@@ -87,7 +105,8 @@ fn add_ends(ends: &mut Numbered<Node>, store: StoreAt) -> Result<(), NoMemory>
 
 // The target, and the ends of stores.
 fn ends_of(alloc: Global, target: Node, stores: &[StoreAt]) -> Result<Numbered<Node>, NoMemory>
-    ensures { IfOk result (λ ends. (n : AnyNode) → Has ends.keys n ↔ ((n ≡ target) ⊎ ((s : AnyStore) × Has stores.now s × IsEndOf s n))) }
+    ensures has { IfOk result (λ ends. (n : AnyNode) → Has ends.keys n ↔ ((n ≡ target) ⊎ ((s : AnyStore) × Has stores.now s × IsEndOf s n))) }
+    ensures apart { IfOk result (λ ends. IsApart ends.keys) }
 {
     let mut ends = Numbered::new(alloc);
     ends.add(target)?;
@@ -108,21 +127,15 @@ impl Roads {
         requires { IsDemandOf linked.now (about target) demand.now }
         ensures { IfOk result (λ roads. AreRoads linked.now target roads) }
     {
+        let mut nodes = ends_of(alloc, target, demand.stores())?;
+        let ends = nodes.len() as u32;
+        let pairs = number_edges(alloc, &mut nodes, demand.edges())?;
         Ok(Roads {
-            edges: file_edges(alloc, demand.edges())?,
+            ends,
+            edges: rows_of(alloc, &pairs, nodes.len())?,
+            nodes,
             starts: file_starts(alloc, linked, demand.nodes())?,
-            ends: ends_of(alloc, target, demand.stores())?,
         })
-    }
-}
-
-// Whether it is one of the nodes.
-fn is_among(nodes: &Numbered<Node>, node: Node) -> bool
-    ensures { IsTrue result ↔ Has nodes.now.keys node }
-{
-    match nodes.find(node) {
-        Some(_number) => true,
-        None => false,
     }
 }
 
@@ -136,12 +149,32 @@ pub struct View<'a> {
 }
 
 impl<'a> View<'a> {
+    /// The demanded edges from the node, and whether it is the target, or one at which a demanded store takes an object from or puts it into: by one
+    /// look-up.
+    #[inline(always)]
+    pub(crate) fn stop(&self, node: Node) -> Stop<'_>
+        requires { IsView self.now }
+        ensures edges { AreEdgesAt self.now node result.edges.now }
+        ensures end { IsTrue result.is_end ↔ EndOf self.now node }
+    {
+        match self.roads.nodes.find(node) {
+            Some(number) => Stop {
+                edges: self.roads.edges.get(number),
+                is_end: number < self.roads.ends,
+            },
+            None => Stop {
+                edges: &[],
+                is_end: false,
+            },
+        }
+    }
+
     /// The demanded edges from the node.
     pub fn edges(&self, node: Node) -> &[Edge]
         requires { IsView self.now }
         ensures { AreEdgesAt self.now node result.now }
     {
-        self.roads.edges.at(node)
+        self.stop(node).edges
     }
 
     /// The demanded start nodes of the site.
@@ -150,14 +183,6 @@ impl<'a> View<'a> {
         ensures { (n : AnyNode) → Has result.now n ↔ StartIn self.now.linked.now (about self.now.target) site n }
     {
         self.roads.starts.at(Origin { site })
-    }
-
-    /// Whether the node is the target, or one at which a demanded store takes an object from or puts it into.
-    pub(crate) fn is_end(&self, node: Node) -> bool
-        requires { IsView self.now }
-        ensures { IsTrue result ↔ EndOf self.now node }
-    {
-        is_among(&self.roads.ends, node)
     }
 
     /// Whether objects of the one site are followed where those of the other start.

@@ -20,7 +20,7 @@ use super::along::along_all;
 use super::held::{Below, Held, Meeting, below_under, held_at};
 use super::pairs::{pop_links, pop_takers, put_mets, put_objects};
 use super::popping::is_taken;
-use super::roads::View;
+use super::roads::{Stop, View};
 use cert_lines::{Spot, Word, Written};
 use cert_rules::{Entry, Fact};
 use link_sites::Site;
@@ -220,11 +220,13 @@ fn work_at(
     ensures done { OnOk result (work.new.done ≡ work.old.done + 1) }
     ensures last { IfSome last.new (IsEverywhere view.now.wants.now) }
 {
-    let at_end = view.is_end(held.node);
+    let Stop {
+        edges,
+        is_end: at_end,
+    } = view.stop(held.node);
     if !view.wants.follows(last, held.site, &held.entry, held.node) {
         return work_past(view, work, held, at_end);
     }
-    let edges = view.edges(held.node);
     if is_taken(held, edges) {
         work_taker(view, work, held, edges, at_end)
     } else {

@@ -52,19 +52,6 @@ keys_more members keys i d h known = All-more (λ (m : Member). Contains (insert
     (All-weaker (λ (m : Member). Contains keys m.key) (λ (m : Member). Contains (insert_key eqb keys (get_or members i d).key) m.key) (λ m. key_kept keys (get_or members i d).key m.key) (take i members) known)
     (key_added keys (get_or members i d).key)
 
--- or only the keys of members in some classes
-pub keys_in_more : (classes : List ℕ) (members : List Member) (keys : List ℕ) (i : ℕ) (d : Member) → i < length members
-    → All (λ (m : Member). Contains classes m.class → Contains keys m.key) (take i members)
-    → All (λ (m : Member). Contains classes m.class → Contains (insert_key eqb keys (get_or members i d).key) m.key) (take (i + 1) members)
-keys_in_more classes members keys i d h known = All-more (λ (m : Member). Contains classes m.class → Contains (insert_key eqb keys (get_or members i d).key) m.key) members i d h
-    (All-weaker (λ (m : Member). Contains classes m.class → Contains keys m.key) (λ (m : Member). Contains classes m.class → Contains (insert_key eqb keys (get_or members i d).key) m.key)
-    (λ m has in_one. key_kept keys (get_or members i d).key m.key (has in_one)) (take i members) known)
-    (λ in_one. key_added keys (get_or members i d).key)
-
-pub keys_in_same : (classes : List ℕ) (members : List Member) (keys : List ℕ) (i : ℕ) (d : Member) → i < length members → (Contains classes (get_or members i d).class → ⊥)
-    → All (λ (m : Member). Contains classes m.class → Contains keys m.key) (take i members) → All (λ (m : Member). Contains classes m.class → Contains keys m.key) (take (i + 1) members)
-keys_in_same classes members keys i d h apart known = All-more (λ (m : Member). Contains classes m.class → Contains keys m.key) members i d h known (λ in_one. absurd (apart in_one))
-
 -- keys with one index are one key
 pub key_same : (keys : List ℕ) (k q i : ℕ) → position (λ x. k == x) keys ≡ Some i → position (λ x. q == x) keys ≡ Some i → k ≡ q
 key_same keys k q i e f =

@@ -8,3 +8,5 @@ pub mod Walking
 pub mod Slots
 pub mod Held
 pub mod Lowest
+pub mod Running
+pub mod FieldRuns

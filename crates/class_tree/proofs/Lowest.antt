@@ -10,7 +10,7 @@ use Rattle.class_rules.specs.Bodies.{has_body}
 use Rattle.class_rules.specs.declared.rows.MethodRow.{MethodRow}
 use Rattle.class_tree.specs.declared.tree.Defaults.{Defaults}
 use Rattle.class_tree.specs.declared.tree.Defaults.TheVariants.{Nothing, One, Several}
-use Rattle.class_tree.specs.Defaults.{AreDefaults, HasTwo, IsDefaultFrom}
+use Rattle.class_tree.specs.Defaults.{AreDefaults, HasDefault, HasTwo, IsDefaultFrom}
 use Rattle.class_tree.specs.Holders.{holders_of}
 use Rattle.class_tree.specs.Indexed.{AreReached, HoldsMethod}
 use Rattle.class_rules.specs.Lookups.{IsAmbiguous, IsDefault, IsHolder, IsLowestHolder, OnPath, Resolve, ambiguous, by_default, nowhere, own_row}
@@ -195,19 +195,33 @@ body_read rows shown row m d b e there is body =
     let same : d ≡ m = is ∙ ap (λ (r : Rows). get_or r.methods row d) e ∙ get_or_from_slice_get rows.methods row m d there in
     ap (λ (x : MethodRow). has_body x.body) (sym same) ∙ sym body
 
-module _ (rows : Rows) (class key interface row : ℕ) (own : own_row rows.methods interface key ≡ Some row) where
+module _ (rows : Rows) (key interface row : ℕ) (own : own_row rows.methods interface key ≡ Some row) where
   pub row_within : row < length rows.methods
   row_within = let m = owned_row rows interface key row own in slice_get_within rows.methods row m.0 m.1
 
-  -- with a body and lowest it is a default method
-  pub default_given : IsLowestHolder rows class key interface → (m : MethodRow) → slice_get rows.methods row ≡ Some m → has_body m.body ≡ true
-      → (r : ℕ) → (Some row ≡ Some r) ↔ IsDefaultFrom rows class key interface r
-  default_given lowest m there bodied r = (
+  -- with a body it is the interface's default method
+  pub default_had : (m : MethodRow) → slice_get rows.methods row ≡ Some m → has_body m.body ≡ true → (r : ℕ) → (Some row ≡ Some r) ↔ HasDefault rows interface key r
+  default_had m there bodied r = (
     λ e.
         let same : row ≡ r = cc in
-        subst (IsDefaultFrom rows class key interface) same (record { lowest = lowest; first = own; method = m; there = there; bodied = bodied }),
+        subst (HasDefault rows interface key) same (record { first = own; method = m; there = there; bodied = bodied }),
     λ d. sym own ∙ d.first,
   )
+
+-- without one it gives none
+pub none_given : (rows : Rows) (class key interface : ℕ) → ((row : ℕ) → (None ≡ Some row) ↔ HasDefault rows interface key row)
+    → (r : ℕ) → (None ≡ Some r) ↔ IsDefaultFrom rows class key interface r
+none_given rows class key interface none r = (λ e. absurd (cc (e)), λ d. (none r).1 (record { first = d.first; method = d.method; there = d.there; bodied = d.bodied }))
+
+-- and where no other is below the interface, one of those that the class reaches
+pub default_given : (rows : Rows) (class key interface row : ℕ) → HasDefault rows interface key row → IsLowestHolder rows class key interface
+    → (r : ℕ) → (Some row ≡ Some r) ↔ IsDefaultFrom rows class key interface r
+default_given rows class key interface row has lowest r = (
+  λ e.
+      let same : row ≡ r = cc in
+      subst (IsDefaultFrom rows class key interface) same (record { lowest = lowest; first = has.first; method = has.method; there = has.there; bodied = has.bodied }),
+  λ d. sym has.first ∙ d.first,
+)
 
 -- ---- what is selected
 

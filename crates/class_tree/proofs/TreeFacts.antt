@@ -22,7 +22,6 @@ use Rattle.lists.proofs.Elements.{same_read}
 use Rattle.class_rules.proofs.OrderFacts.{order_misses, order_exists, orders_exist, orders_append, orders_miss, first_found-append}
 use Rattle.class_order.proofs.Placed.{taken_at}
 use Rattle.class_rules.proofs.Parents.{parent_from, no_parent_from, interface_named, interface_listed}
-use Rattle.class_order.proofs.Reached.{path_last}
 
 -- ---- the parent in a row
 
@@ -97,14 +96,6 @@ module _ (rows : Rows) (ranks : List ℕ) (p : AreRanked rows ranks) where
   field_nowhere class key none =
       let o = order_exists (interfaces_of rows.implements) (λ c. get_or ranks c 0) falls class in
       (o.0, o.1, sym (order_misses (interfaces_of rows.implements) (λ b. own_field rows.fields b key) class o.0 o.1 (missing class key none)))
-
-  -- where no interface that a class names has it, a class and its interfaces have what the class itself has
-  pub field_alone : (class key : ℕ) (r : Option ℕ) → ((a b row : ℕ) → HasInterface rows.implements a b → own_field rows.fields b key ≡ Some row → ⊥) → r ≡ own_field rows.fields class key → FieldHere rows key class r
-  field_alone class key (Some row) none e = field_in_class class key row e
-  field_alone class key None none e = field_nowhere class key (λ near. elim (path_last near.reached) [
-    | inl same ↦ let own = ap (λ k. own_field rows.fields k key) same in let is = near.own in cc (e, own, is)
-    | inr last ↦ none last.0 near.owner near.row last.2 near.own
-  ])
 
   -- where neither the class nor its interfaces have it near, it hasn't
   pub not_near : (class key : ℕ) → None ≡ own_field rows.fields class key → All (λ i. HasFieldNear rows i key → ⊥) (interfaces_of rows.implements class) → HasFieldNear rows class key → ⊥

@@ -7,6 +7,13 @@ use Rattle.class_tree.specs.declared.tree.Defaults.TheVariants.{Nothing, One, Se
 use Rattle.class_rules.specs.Lookups.{IsLowestHolder, own_row}
 use Rattle.class_rules.specs.Rows.{Rows}
 
+-- the interface's first row of this key has a body
+pub record HasDefault (rows : Rows) (interface key row : ℕ) : Type 0 where
+  pub first : own_row rows.methods interface key ≡ Some row
+  pub method : MethodRow
+  pub there : slice_get rows.methods row ≡ Some method
+  pub bodied : has_body method.body ≡ true
+
 -- a default method that comes from this interface
 pub record IsDefaultFrom (rows : Rows) (class key interface row : ℕ) : Type 0 where
   pub lowest : IsLowestHolder rows class key interface

@@ -83,7 +83,7 @@ pub record IsIndexed (rows : Rows) (interfaces : List (List ℕ)) (ranks places 
   pub holders_len : length members.holders.interfaces ≡ length members.holders.keys.keys
   pub holders : (b k : ℕ) → Contains (holders_of members.holders k) b ↔ HoldsMethod rows b k
   pub fields : (c k : ℕ) → row_at members.own_fields c k ≡ own_field rows.fields c k
-  pub along : AreInherited rows places inherited
+  pub along : AreInherited rows.classes rows.methods places inherited
 
 -- the class is the first of those for which there is such a field
 pub record IsFirstNear (rows : Rows) (classes : List ℕ) (key class : ℕ) : Type 0 where

@@ -5,4 +5,5 @@ pub mod Indexed
 pub mod Inherited
 pub mod Defaults
 pub mod Turns
+pub mod Runs
 pub mod Layouts

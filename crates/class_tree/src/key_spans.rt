@@ -2,6 +2,7 @@ ghost use Rattle.std.specs.Prelude.{◌≡◌, ℕ, ◌<◌, ◌↔◌, length, 
 ghost use Rattle.class_order.specs.Groups.{group};
 ghost use Rattle.class_tree.specs.KeySpans.{AreClassesByKey, IsKeyed, spans_of};
 ghost use Rattle.class_order.specs.Spans.{AreApart, Holds};
+ghost use Rattle.class_tree.specs.Runs.{IsLastHeld};
 
 use super::first_rows::Member;
 use class_order::{Groups, Span, gathered, holds, united};
@@ -45,6 +46,19 @@ pub fn classes_by_key(
     Ok(classes)
 }
 
+// The last of the places from `from` up to `to`, `to` included, that lies in one of the spans.
+fn last_held(spans: &[Span], from: u32, to: u32) -> Option<u32>
+    requires { AreApart spans.now }
+    ensures { IsLastHeld spans.now from to result }
+{
+    let after = spans.partition_point(|span| span.start <= to);
+    if after == 0 {
+        return None;
+    }
+    let last = to.min(spans[after - 1].end - 1);
+    if from <= last { Some(last) } else { None }
+}
+
 impl KeySpans {
     /// The spans of each key of the members. `reach` has for each class the places of those from
     /// which it is reached.
@@ -72,6 +86,19 @@ impl KeySpans {
         match self.keys.get_index_of(&key) {
             Some(at) => holds(self.spans.get(at), place),
             None => false,
+        }
+    }
+
+    /// The last of the places from `from` up to `to`, `to` included, that lies in one of the spans of
+    /// a key.
+    pub fn last(&self, key: u32, from: u32, to: u32) -> Option<u32>
+        requires len { length self.now.spans ≡ length self.now.keys.keys }
+        requires apart { AreApart (spans_of self.now key) }
+        ensures { IsLastHeld (spans_of self.now key) from to result }
+    {
+        match self.keys.get_index_of(&key) {
+            Some(at) => last_held(self.spans.get(at), from, to),
+            None => None,
         }
     }
 }

@@ -13,11 +13,13 @@ mod near;
 mod numbering;
 mod own_rows;
 mod paths;
+mod runs;
 mod steps;
 mod tree;
 mod turns;
 mod unknown;
 mod walk;
+mod weights;
 
 pub use errors::TreeError;
 pub use layout::Layout;

@@ -4,6 +4,7 @@ ghost use Rattle.class_rules.specs.Rows.{HasParent};
 ghost use Rattle.class_tree.specs.Turns.{IsNumbering};
 
 use super::steps::{children, tops_first};
+use super::weights::heaviest_last;
 use class_order::{finish_order, places_of};
 use class_rules::ClassRow;
 use std::alloc::{AllocError, Global};
@@ -18,7 +19,8 @@ pub struct Numbering {
 }
 
 impl Numbering {
-    /// The numbers of these classes. Those with one parent stand as in `order`.
+    /// The numbers of these classes. The one with most classes below it of those with its parent
+    /// follows this one at once, and the others stand as in `order`.
     pub fn new(alloc: Global, classes: &[ClassRow], order: &[u32]) -> Result<Self, AllocError>
         requires few { length classes.now < 2 ^ 32 }
         requires known { (a b : ℕ) → HasParent classes.now a b → b < length classes.now }
@@ -27,7 +29,8 @@ impl Numbering {
         requires all { (c : ℕ) → c < length classes.now → Contains order.now c }
         ensures { IfOk result (IsNumbering classes.now) }
     {
-        let below = children(alloc, classes, order)?;
+        let listed = heaviest_last(alloc, classes, order)?;
+        let below = children(alloc, classes, listed.as_slice())?;
         let starts = tops_first(alloc, classes)?;
         let finish = finish_order(alloc, &below, starts.as_slice())?;
         let numbers = places_of(alloc, &below, finish.order.as_slice())?;

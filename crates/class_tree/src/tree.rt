@@ -1,5 +1,5 @@
-ghost use Rattle.std.specs.Prelude.{◌≡◌, ℕ, ◌^◌, ◌<◌, ◌↔◌, length, All, IsTrue, IfOk, IfNone, IfSome, Some, Err};
-ghost use Rattle.class_tree.specs.Defaults.{AreDefaults, IsDefaultFrom};
+ghost use Rattle.std.specs.Prelude.{◌≡◌, ℕ, ◌^◌, ◌<◌, ◌↔◌, length, All, Contains, IsTrue, IfOk, IfNone, IfSome, Some, Err};
+ghost use Rattle.class_tree.specs.Defaults.{AreDefaults, HasDefault, IsDefaultFrom};
 ghost use Rattle.class_tree.specs.Indexed.{AreReached, HasFieldNear, HoldsMethod, IsFirstNear};
 ghost use Rattle.class_tree.specs.Layouts.{LaysOut};
 ghost use Rattle.lists.specs.Lists.{IsLeast};
@@ -23,9 +23,10 @@ use std::marker::Model;
 
 /// The hierarchy of the classes of some rows. Contracts see it as these rows. Its look-ups take no
 /// memory. `sub` takes a search in a sorted list, `own_body` a hashed look-up, and
-/// `declared` and `on_path` one of both. So does `field`, but where an interface has a field with the
-/// key: then it takes hashed look-ups for each parent on the way. `resolve` and `ambiguous` go on from
-/// `on_path` to the interfaces that have a method with the key, where there are any.
+/// `declared` and `on_path` one of both. So does each run of parents that `field` goes by, of which
+/// there are at most as many as the logarithm of the number of classes; then it takes as much for each
+/// interface on the way to the field. `resolve` and `ambiguous` go on from `on_path` to the interfaces
+/// that have a method with the key, where there are any.
 #[derive(Drop)]
 pub struct Tree {
     rows: KeptRows,
@@ -128,9 +129,7 @@ fn indexed(
     let near = near_spans(alloc, implements, below, order, places)?;
     let in_ranks = ranks.as_slice();
     let members = Members::new(alloc, classes, methods, fields, &reach, &near, in_ranks)?;
-    let inherited = Inherited::new(
-        alloc, classes, implements, methods, fields, &members, &numbering,
-    )?;
+    let inherited = Inherited::new(alloc, classes, methods, &members.bodies, &numbering)?;
     let interfaces = interface_lists(alloc, classes.len(), implements)?;
     let rows = KeptRows::copy_of(alloc, classes, implements, methods, fields)?;
     Ok(Tree {
@@ -184,6 +183,14 @@ impl Tree {
         !self.members.holders.of(key).is_empty()
     }
 
+    /// The interfaces that have a method with this key, with a body or without. One may stand there
+    /// more than once.
+    pub fn holders(&self, key: u32) -> &[u32]
+        ensures { (interface : ℕ) → Contains result.now interface ↔ HoldsMethod self.now interface key }
+    {
+        self.members.holders.of(key)
+    }
+
     // The interfaces that have a method of this key, from the first on that the class reaches.
     fn reached(&self, class: u32, key: u32) -> &[u32]
         requires { class < length self.now.classes }
@@ -213,6 +220,20 @@ impl Tree {
         true
     }
 
+    /// The default method that an interface with a method of the key has itself: its first row of
+    /// the key, where this has a body.
+    pub fn own_default(&self, interface: u32, key: u32) -> Option<u32>
+        requires { HoldsMethod self.now interface key }
+        ensures { (row : ℕ) → (result ≡ Some row) ↔ HasDefault self.now interface key row }
+    {
+        let row = self.members.interface_rows.get(interface, key)?;
+        if self.rows.methods[row as usize].body.has_body() {
+            Some(row)
+        } else {
+            None
+        }
+    }
+
     // The row of the default method that comes from this interface, one of those reached.
     fn default_from(&self, class: u32, key: u32, reached: &[u32], interface: u32) -> Option<u32>
         requires class { class < length self.now.classes }
@@ -223,10 +244,8 @@ impl Tree {
         if !self.sub(class, interface) {
             return None;
         }
-        let row = self.members.interface_rows.get(interface, key)?;
-        if self.rows.methods[row as usize].body.has_body()
-            && self.is_lowest(class, key, reached, interface)
-        {
+        let row = self.own_default(interface, key)?;
+        if self.is_lowest(class, key, reached, interface) {
             Some(row)
         } else {
             None
@@ -339,7 +358,8 @@ impl Tree {
     // The field of the class, or else of its interfaces in order, each with its own.
     fn field_here(&self, class: u32, key: u32) -> Option<u32>
         requires { class < length self.now.classes }
-        ensures { FieldHere self.now key class result }
+        ensures here { FieldHere self.now key class result }
+        ensures near { IfNone result (HasFieldNear self.now class key → ⊥) }
     {
         let mut at = class;
         loop {
@@ -353,23 +373,6 @@ impl Tree {
         }
     }
 
-    // What `field` gives, class by class.
-    fn field_by_classes(&self, class: u32, key: u32) -> Option<u32>
-        requires { class < length self.now.classes }
-        ensures { FieldOf self.now class key result }
-    {
-        let mut at = class;
-        loop {
-            if let Some(row) = self.field_here(at, key) {
-                return Some(row);
-            }
-            match self.rows.classes[at as usize].parent {
-                Some(parent) => at = parent,
-                None => return None,
-            }
-        }
-    }
-
     /// The row of the field with this key that the class has or inherits: its own first row, or
     /// else that of its interfaces in order, each with its own interfaces, or else its parent's. A
     /// row is an index in the list of fields.
@@ -377,9 +380,19 @@ impl Tree {
         requires { class < length self.now.classes }
         ensures { FieldOf self.now class key result }
     {
-        if self.inherited.of_interfaces.contains(&key) {
-            return self.field_by_classes(class, key);
+        let runs = &self.inherited.runs;
+        let mut at = class;
+        loop {
+            let place = self.places[at as usize];
+            let start = runs.starts[place as usize];
+            if let Some(near) = self.members.near_fields.last(key, start, place) {
+                return self.field_here(runs.tenants[near as usize], key);
+            }
+            let first = runs.tenants[start as usize];
+            match self.rows.classes[first as usize].parent {
+                Some(parent) => at = parent,
+                None => return None,
+            }
         }
-        self.inherited.fields.find(self.places[class as usize], key)
     }
 }

@@ -10,7 +10,7 @@ use Rattle.spds_rules.specs.Answers.{AreAnswered, IsAnswered}
 use Rattle.spds_rules.specs.Systems.{Meets}
 use Rattle.spds_laws.proofs.Within.{fields_site}
 use Rattle.demand_set.proofs.Standing.{node_site}
-use Rattle.cert_rules.specs.Given.{about}
+use Rattle.spds_rules.specs.Demand.{about}
 use Rattle.query_core.specs.Answers.{IsOver}
 use Rattle.query_core.specs.Places.{IsPlaceOf}
 use Rattle.query_core.proofs.Determined.{answer_over}

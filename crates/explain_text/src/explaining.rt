@@ -4,7 +4,7 @@ ghost use Rattle.link_rules.specs.WellLinked.{IsWellLinked};
 ghost use Rattle.spds_rules.specs.declared.node.Node.{Node as ANode};
 ghost use Rattle.spds_rules.specs.Answers.{AreAnswered};
 ghost use Rattle.demand_set.specs.Demands.{IsDemandOf};
-ghost use Rattle.cert_rules.specs.Given.{about};
+ghost use Rattle.spds_rules.specs.Demand.{about};
 ghost use Rattle.cert_trace.specs.Evidence.{IsEvidence};
 ghost use Rattle.query_core.specs.declared.places.Which.{Which as AWhich};
 ghost use Rattle.query_core.specs.Answers.{IsAffordable, IsOver};

@@ -3,7 +3,7 @@ ghost use Rattle.std.specs.Prelude.{◌≡◌, ◌++◌, ◌∷◌, [], All, IfO
 ghost use Rattle.std.specs.Fmt.{decimal};
 ghost use Rattle.link_sites.specs.Sites.{IsSite};
 ghost use Rattle.spds_rules.specs.Answers.{IsAnswered};
-ghost use Rattle.cert_rules.specs.Given.{about};
+ghost use Rattle.spds_rules.specs.Demand.{about};
 ghost use Rattle.cert_rules.specs.Spelled.{FitsNode};
 ghost use Rattle.cert_trace.specs.Explained.{IsExplained};
 ghost use Rattle.cert_trace.specs.Evidence.{IsEvidence};

@@ -1,6 +1,7 @@
 //! A program, and a certificate, that end too early.
 use super::texts::{CALLS, CERTIFICATE};
-use asked_text::{AS_COMPILED, SMALL, is_reply_to, status_of};
+use asked_text::{SMALL, is_reply_to, status_of};
+use compiled_text::AS_COMPILED;
 use std::alloc::AllocError;
 use std::marker::Sync;
 use std::test::Fail;

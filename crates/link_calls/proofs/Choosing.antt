@@ -1,22 +1,23 @@
 -- What calls on objects run, choice by choice.
-use Rattle.std.proofs.Common.{◌≡◌, ℕ, ◌<◌, ◌≤◌, ◌+◌, ◌⊎◌, Bool, true, false, Option, Some, None, List, [], ◌∷◌, length, get_or, refl, sym, ap, subst, ◌∙◌, slice_get, inl, inr, arith, IsTrue}
+use Rattle.std.proofs.Common.{◌≡◌, ℕ, ◌<◌, ◌≤◌, ◌+◌, Bool, true, false, Some, None, List, [], length, sym, ap, subst, ◌∙◌, slice_get, inl, inr, arith, IsTrue}
 use Rattle.std.specs.Prelude.{Contains, ◌↔◌}
 use Rattle.std.proofs.lemmas.Option.{get_or_from_slice_get, slice_get-get_or, slice_get_within}
-use Rattle.class_rules.specs.Lookups.{IsDefault, OnPath, Resolve, ambiguous, by_default, nowhere, on_path}
+use Rattle.class_rules.specs.Lookups.{Resolve}
+use Rattle.class_rules.proofs.Selected.{selection_one}
 use Rattle.lists.specs.Lists.{Adds, Has}
 use Rattle.jim_ast.specs.declared.syntax.Mode.TheVariants.{Virtual}
 use Rattle.object_ranges.specs.declared.chosen.Choice.{Choice}
-use Rattle.object_ranges.specs.Chosen.{IsServed, Serves}
+use Rattle.object_ranges.specs.declared.selection.Selection.{Selection}
+use Rattle.object_ranges.specs.declared.selection.Selection.TheVariants.{Method, Nothing, Several}
+use Rattle.object_ranges.specs.Chosen.{IsServed, SelectsSome}
 use Rattle.link_rules.specs.Faults.{FindsSeveralAt}
 use Rattle.link_rules.specs.Targets.{AreTargetRows, Selects}
 use Rattle.link_rules.specs.World.{World}
 use Rattle.link_calls.specs.declared.finding.Found.{Found}
-use Rattle.link_calls.specs.declared.selection.Selection.{Selection}
-use Rattle.link_calls.specs.declared.selection.Selection.TheVariants.{Method, Nothing, Several}
 use Rattle.link_calls.specs.Known.{IsFound}
 use Rattle.link_calls.specs.Receivers.{AreChoices}
 use Rattle.link_calls.specs.Selected.{AreSelectedBy, IsSelected, IsSelection}
-use Rattle.link_calls.proofs.Selecting.{below_or_not, selected_from, selected_next, selected_none, selected_same, selected_several}
+use Rattle.link_calls.proofs.Selecting.{below_or_not, selected_from, selected_next, selected_none, selected_same, selected_several, several_finds_none, some_is_not_none}
 
 -- what is known when the selection of one more class was taken up
 abbrev pub Takes : Selection → List ℕ → Bool → List ℕ → Bool → Type 0
@@ -48,12 +49,12 @@ module _ (w : World) (class key : ℕ) where
       let said : several ≡ true = b.is_several.1 (receiver, lt, is.1) in
       subst (λ xs. AreSelectedBy w class key n xs now) (sym takes.0) (subst (AreSelectedBy w class key n rows) (said ∙ sym takes.1) b)
 
-  -- the classes between two select no other method, and none of them has several default methods
+  -- the classes between two select no other method, and where one of them has several default methods, so has one before
   selected_up_to : (n m : ℕ) (rows : List ℕ) (several : Bool) → n ≤ m
       → ((receiver row : ℕ) → n ≤ receiver → receiver < m → Selects w class key receiver row → Has rows row)
-      → ((receiver : ℕ) → n ≤ receiver → receiver < m → FindsSeveralAt w class key receiver → ⊥)
+      → ((receiver : ℕ) → n ≤ receiver → receiver < m → FindsSeveralAt w class key receiver → (before : ℕ) × (before < n) × FindsSeveralAt w class key before)
       → AreSelectedBy w class key n rows several → AreSelectedBy w class key m rows several
-  selected_up_to n m rows several le in_rows none s = record {
+  selected_up_to n m rows several le in_rows before s = record {
     each = λ row. (
       (λ h. let p = (s.each row).0 h in (p.0, omega (arith, p.1, le), p.2)),
       (λ p. elim (below_or_not p.0 n) [ inl earlier ↦ (s.each row).1 (p.0, earlier, p.2) | inr later ↦ in_rows p.0 row later p.1 p.2 ]),
@@ -62,7 +63,7 @@ module _ (w : World) (class key : ℕ) where
     ordered = s.ordered;
     is_several = (
       (λ e. let p = s.is_several.0 e in (p.0, omega (arith, p.1, le), p.2)),
-      (λ p. elim (below_or_not p.0 n) [ inl earlier ↦ s.is_several.1 (p.0, earlier, p.2) | inr later ↦ absurd (none p.0 later p.1 p.2) ]),
+      (λ p. elim (below_or_not p.0 n) [ inl earlier ↦ s.is_several.1 (p.0, earlier, p.2) | inr later ↦ s.is_several.1 (before p.0 later p.1 p.2) ]),
     );
   }
 
@@ -81,62 +82,48 @@ looked_at_none w class key choices = record {
   selected = selected_none w class key;
 }
 
-module _ (w : World) (class key : ℕ) (all : Bool) (choices : List Choice) (c : AreChoices w class key all choices)
-    (held : (IsTrue all → ⊥) → (receiver row : ℕ) → IsDefault w.rows receiver key row → ⊥) where
-  -- default methods are asked for where there are some
-  asked : (receiver row : ℕ) → IsDefault w.rows receiver key row → IsTrue all
-  asked receiver row is = by all refl
-    where
-      by : (b : Bool) → all ≡ b → IsTrue all
-      by true e = e
-      by false e = absurd (held (λ t. true_or_false (sym t ∙ e)) receiver row is)
-        where
-          true_or_false : true ≡ false → ⊥
-          true_or_false f = cc f
-
+module _ (w : World) (class key : ℕ) (choices : List Choice) (c : AreChoices w class key choices) where
   place_of : (choice : Choice) → Contains choices choice → (j : ℕ) × (slice_get choices j ≡ Some choice)
   place_of choice m = (m.0, slice_get-get_or choices m.0 choice m.1 ∙ ap Some m.2)
 
   there : (j : ℕ) (choice : Choice) → slice_get choices j ≡ Some choice → Contains choices choice
   there j choice e = (j, slice_get_within choices j choice e, get_or_from_slice_get choices j choice choice e)
 
-  up_to : (row : Option ℕ) (chosen receiver : ℕ) → Serves row chosen receiver → chosen ≤ receiver
-  up_to (Some row) chosen receiver s = s
-  up_to None chosen receiver s = omega (arith, s)
+  -- a choice's class at this one or before it selects the same, where that is something
+  same_served : (receiver : ℕ) (selection : Selection) → IsServed choices receiver selection
+      → (j : ℕ) × (choice : Choice) × (slice_get choices j ≡ Some choice) × (choice.class ≤ receiver) × IsSelection w.rows choice.class key selection
+  same_served receiver selection f =
+      let p = place_of f.choice f.there in
+      (p.0, f.choice, p.1, f.first, subst (IsSelection w.rows f.choice.class key) f.same (c.selected f.choice f.there))
 
   -- a method that a class selects is selected by a choice's class at it or before it
   pub row_served : (receiver row : ℕ) → Selects w class key receiver row
       → (j : ℕ) × (choice : Choice) × (slice_get choices j ≡ Some choice) × (choice.class ≤ receiver) × Selects w class key choice.class row
-  row_served receiver row s = by (Some row) refl s.finds
+  row_served receiver row s = let h = c.served receiver s.instantiable s.below in by h.selection h.selected h.served
     where
-      found : (o : Option ℕ) → IsServed choices receiver o → (j : ℕ) × (choice : Choice) × (slice_get choices j ≡ Some choice) × (choice.class ≤ receiver) × (choice.row ≡ o) × Contains choices choice × Serves o choice.class receiver
-      found o served = let p = place_of served.choice served.there in (p.0, served.choice, p.1, up_to o served.choice.class receiver served.serves, served.same, served.there, served.serves)
+      by : (selection : Selection) → IsSelection w.rows receiver key selection → (SelectsSome selection → IsServed choices receiver selection)
+          → (j : ℕ) × (choice : Choice) × (slice_get choices j ≡ Some choice) × (choice.class ≤ receiver) × Selects w class key choice.class row
+      by Nothing is served = absurd (some_is_not_none row (selection_one w.rows receiver key (Some row) None s.finds is.0))
+      by (Method found) is served =
+          let f = same_served receiver (Method found) (served (λ e. cc e)) in
+          let m = there f.0 f.1 f.2 in
+          let e = selection_one w.rows receiver key (Some found) (Some row) is s.finds in
+          (f.0, f.1, f.2, f.3, record { instantiable = c.instantiable f.1 m; below = c.below f.1 m; finds = subst (Resolve w.rows f.1.class key) e f.4 })
+      by Several is served = absurd (several_finds_none w.rows receiver key row is s.finds)
 
-      by : (o : Option ℕ) → o ≡ Some row → Resolve w.rows receiver key o → (j : ℕ) × (choice : Choice) × (slice_get choices j ≡ Some choice) × (choice.class ≤ receiver) × Selects w class key choice.class row
-      by o e (on_path {row = found_row} path) =
-          let f = found (Some row) (c.served receiver (Some row) s.instantiable s.below (subst (OnPath w.rows receiver key) e path) (λ n. cc n)) in (
-            f.0,
-            f.1,
-            f.2,
-            f.3,
-            record {
-              instantiable = c.instantiable f.1 f.5;
-              below = c.below f.1 f.5;
-              finds = on_path (subst (OnPath w.rows f.1.class key) f.4 (c.on_path f.1 f.5));
-            },
-          )
-      by o e (by_default {row = found_row} off is one) =
-          let f = found None (c.served receiver None s.instantiable s.below off (λ n. asked receiver found_row is)) in
-          (f.0, f.1, f.2, f.3, subst (λ k. Selects w class key k row) (sym f.6) s)
-      by o e (nowhere off none) = cc e
-      by o e (ambiguous several) = cc e
-
-  -- a class with several default methods is chosen
-  pub several_served : (receiver : ℕ) → FindsSeveralAt w class key receiver → (j : ℕ) × (choice : Choice) × (slice_get choices j ≡ Some choice) × (choice.class ≡ receiver)
-  several_served receiver s =
-      let served = c.served receiver None s.instantiable s.below s.several.off_path (λ n. asked receiver s.several.one s.several.is_one) in
-      let p = place_of served.choice served.there in
-      (p.0, served.choice, p.1, served.serves)
+  -- where a class has several default methods, so has a choice's class at it or before it
+  pub several_served : (receiver : ℕ) → FindsSeveralAt w class key receiver
+      → (j : ℕ) × (choice : Choice) × (slice_get choices j ≡ Some choice) × (choice.class ≤ receiver) × FindsSeveralAt w class key choice.class
+  several_served receiver s = let h = c.served receiver s.instantiable s.below in by h.selection h.selected h.served
+    where
+      by : (selection : Selection) → IsSelection w.rows receiver key selection → (SelectsSome selection → IsServed choices receiver selection)
+          → (j : ℕ) × (choice : Choice) × (slice_get choices j ≡ Some choice) × (choice.class ≤ receiver) × FindsSeveralAt w class key choice.class
+      by Nothing is served = absurd (is.1 s.several)
+      by (Method found) is served = absurd (several_finds_none w.rows receiver key found s.several is)
+      by Several is served =
+          let f = same_served receiver Several (served (λ e. cc e)) in
+          let m = there f.0 f.1 f.2 in
+          (f.0, f.1, f.2, f.3, record { instantiable = c.instantiable f.1 m; below = c.below f.1 m; several = f.4 })
 
   later : (i j : ℕ) (a b : Choice) → i ≤ j → slice_get choices i ≡ Some a → slice_get choices j ≡ Some b → a.class ≤ b.class
   later i j a b le first second =
@@ -153,17 +140,17 @@ module _ (w : World) (class key : ℕ) (all : Bool) (choices : List Choice) (c :
     ]
 
     selected_before : s.n ≤ choice.class → AreSelectedBy w class key choice.class rows several
-    selected_before le = selected_up_to w class key s.n choice.class rows several le in_rows none s.selected
+    selected_before le = selected_up_to w class key s.n choice.class rows several le in_rows before s.selected
       where
         in_rows : (receiver row : ℕ) → s.n ≤ receiver → receiver < choice.class → Selects w class key receiver row → Has rows row
         in_rows receiver row from lt selects =
             let f = row_served receiver row selects in
             (s.selected.each row).1 (f.1.class, earlier f.0 f.1 f.2 (omega (arith, f.3, lt)), f.4)
 
-        none : (receiver : ℕ) → s.n ≤ receiver → receiver < choice.class → FindsSeveralAt w class key receiver → ⊥
-        none receiver from lt finds =
+        before : (receiver : ℕ) → s.n ≤ receiver → receiver < choice.class → FindsSeveralAt w class key receiver → (first : ℕ) × (first < s.n) × FindsSeveralAt w class key first
+        before receiver from lt finds =
             let f = several_served receiver finds in
-            omega (arith, from, f.3, earlier f.0 f.1 f.2 (omega (arith, f.3, lt)))
+            (f.1.class, earlier f.0 f.1 f.2 (omega (arith, f.3, lt)), f.4)
 
     next_with : (n : ℕ) → choice.class < n → s.n ≤ n → n ≤ choice.class + 1 → (new : List ℕ) (now : Bool) → AreSelectedBy w class key n new now → AreLookedAt w class key choices (at + 1) new now
     next_with n in_n from up new now selected = record {
@@ -202,7 +189,7 @@ module _ (w : World) (class key : ℕ) (all : Bool) (choices : List Choice) (c :
     });
     is_several = subst (λ b. IsTrue b ↔ ((receiver : ℕ) × FindsSeveralAt w class key receiver)) (sym same) (
       (λ e. let p = s.selected.is_several.0 e in (p.0, p.2)),
-      (λ p. let f = several_served p.0 p.1 in s.selected.is_several.1 (p.0, (let lt = in_n f.0 f.1 f.2 in omega (arith, lt, f.3)), p.1)),
+      (λ p. let f = several_served p.0 p.1 in s.selected.is_several.1 (f.1.class, in_n f.0 f.1 f.2, f.4)),
     );
   }
     where

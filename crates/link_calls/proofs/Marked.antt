@@ -1,5 +1,5 @@
 -- The classes that may have objects, at their places, and what is chosen there.
-use Rattle.std.proofs.Common.{◌≡◌, ℕ, ◌+◌, ◌<◌, ◌≤◌, ◌⊎◌, Bool, Option, Some, None, List, length, get_or, set, replicate, slice_get, sym, ap, subst, ◌∙◌, inl, inr, arith, length-set}
+use Rattle.std.proofs.Common.{◌≡◌, ℕ, ◌+◌, ◌<◌, ◌≤◌, ◌⊎◌, Option, Some, None, List, length, get_or, set, replicate, slice_get, sym, ap, subst, ◌∙◌, inl, inr, arith, length-set}
 use Rattle.std.specs.List.{Contains}
 use Rattle.std.specs.List.Sorted.{IsNonDecreasingBy, IsPermutation}
 use Rattle.std.proofs.lemmas.Bool.{cases_eq}
@@ -9,20 +9,18 @@ use Rattle.std.proofs.lemmas.Option.{get_or_from_slice_get, slice_get_within}
 use Rattle.class_tree.specs.declared.layout.Layout.{Layout}
 use Rattle.class_order.specs.Groups.{group}
 use Rattle.class_tree.specs.Layouts.{LaysOut}
-use Rattle.class_rules.specs.Lookups.{OnPath}
 use Rattle.class_order.specs.Spans.{Holds}
 use Rattle.class_order.specs.Tables.{HavePlaces}
-use Rattle.class_tree.specs.Turns.{turned, turns_of}
-use Rattle.class_rules.proofs.LawFacts.{path_one}
 use Rattle.lists.proofs.Places.{slice_get-set_other, slice_get-set_same}
 use Rattle.lists.proofs.Places.{slice_get-below}
 use Rattle.object_ranges.specs.declared.chosen.Choice.{Choice}
-use Rattle.object_ranges.specs.Chosen.{AreChosen, IsServed}
+use Rattle.object_ranges.specs.declared.selection.Selection.{Selection}
+use Rattle.object_ranges.specs.Chosen.{AreChosen}
 use Rattle.object_ranges.specs.Marks.{Stands}
-use Rattle.object_ranges.proofs.Serving.{served_kept}
 use Rattle.link_rules.specs.Targets.{IsInstantiableAt}
 use Rattle.link_rules.specs.World.{World}
 use Rattle.link_calls.specs.Receivers.{AreChoices, AreMarks}
+use Rattle.link_calls.specs.Selected.{IsSelection}
 
 pub within_classes : (w : World) (class : ℕ) → IsInstantiableAt w class → class < length w.classes
 within_classes w class at = slice_get-below w.classes class at.class at.there
@@ -99,23 +97,16 @@ marked_all w places n marks len over s = record {
 -- ---- what is chosen
 
 module _ (w : World) (layout : Layout) (marks : List (Option ℕ)) (as_many : length w.rows.classes ≡ length w.classes) (laid : LaysOut w.rows layout) (m : AreMarks w layout.places.now marks)
-    (class key : ℕ) (known : class < length w.rows.classes) (all : Bool) (choices sorted : List Choice) (same : IsPermutation choices sorted)
-    (chosen : AreChosen marks (turns_of layout.methods.now key) all (group layout.reach.now class) choices) where
+    (class key : ℕ) (known : class < length w.rows.classes) (select : ℕ → Selection)
+    (selects : (c : ℕ) → c < length w.rows.classes → IsSelection w.rows c key (select (get_or layout.places.now c 0)))
+    (choices sorted : List Choice) (same : IsPermutation choices sorted) (chosen : AreChosen marks select (group layout.reach.now class) choices) where
   among : (choice : Choice) → Contains sorted choice → Contains choices choice
   among choice c = Contains-permutation sorted choices choice (IsPermutation-sym choices sorted same) c
-
-  row_at : ℕ → Option ℕ
-  row_at receiver = turned None (turns_of layout.methods.now key) (get_or layout.places.now receiver 0)
-
-  has_row : (receiver : ℕ) → receiver < length w.rows.classes → OnPath w.rows receiver key (row_at receiver)
-  unfolding row_at
-  has_row receiver h = laid.methods.exact receiver key h
 
   receiver_known : (receiver : ℕ) → IsInstantiableAt w receiver → receiver < length w.rows.classes
   receiver_known receiver is = omega (arith, within_classes w receiver is, as_many)
 
-  pub choices_of : IsNonDecreasingBy (λ (choice : Choice). choice.class) sorted → AreChoices w class key all sorted
-  unfolding row_at
+  pub choices_of : IsNonDecreasingBy (λ (choice : Choice). choice.class) sorted → AreChoices w class key sorted
   choices_of rising = record {
     sorted = rising;
     instantiable = λ choice c. (let p = chosen.right choice (among choice c) in (m.each p.0 choice.class p.2).0);
@@ -123,14 +114,19 @@ module _ (w : World) (layout : Layout) (marks : List (Option ℕ)) (as_many : le
         let p = chosen.right choice (among choice c) in
         let at = m.each p.0 choice.class p.2 in
         (laid.reached.exact choice.class class (receiver_known choice.class at.0) known).0 (subst (Holds (group layout.reach.now class)) (sym at.1) p.1);
-    on_path = λ choice c.
+    selected = λ choice c.
         let p = chosen.right choice (among choice c) in
         let at = m.each p.0 choice.class p.2 in
-        subst (OnPath w.rows choice.class key) (sym (p.3 ∙ ap (turned None (turns_of layout.methods.now key)) (sym at.1))) (has_row choice.class (receiver_known choice.class at.0));
-    served = λ receiver row is sub path asked.
+        subst (IsSelection w.rows choice.class key) (sym (p.3 ∙ ap select (sym at.1))) (selects choice.class (receiver_known choice.class at.0));
+    served = λ receiver is sub.
         let h = receiver_known receiver is in
-        let one : row_at receiver ≡ row = path_one w.rows receiver key (row_at receiver) row (has_row receiver h) path in
+        let place = get_or layout.places.now receiver 0 in
         let holds = (laid.reached.exact receiver class h known).1 sub in
-        subst (IsServed sorted receiver) one (served_kept choices sorted (λ choice c. Contains-permutation choices sorted choice same c) receiver (row_at receiver)
-        (chosen.served (get_or layout.places.now receiver 0) receiver holds (m.all receiver is) (λ none. asked (sym one ∙ none))));
+        record {
+          selection = select place;
+          selected = selects receiver h;
+          served = λ some.
+              let s = chosen.served place receiver holds (m.all receiver is) some in
+              record { choice = s.choice; there = Contains-permutation choices sorted s.choice same s.there; same = s.same; first = s.first };
+        };
   }

@@ -4,7 +4,12 @@ use Rattle.std.specs.Prelude.{AllPairs, ◌↔◌}
 use Rattle.std.proofs.Math.Nat.{eq-or-lt_of_le}
 use Rattle.std.proofs.lemmas.List.Quantifiers.{all_pairs_push}
 use Rattle.std.proofs.lemmas.Option.{slice_get-get_or}
-use Rattle.class_rules.specs.Lookups.{IsAmbiguous, IsDefault, OnPath, Resolve, ambiguous, nowhere}
+use Rattle.class_rules.specs.Lookups.{IsAmbiguous, IsDefault, OnPath, Resolve, ambiguous, nowhere, on_path}
+use Rattle.class_tree.specs.declared.tree.Defaults.{Defaults}
+use Rattle.class_tree.specs.declared.tree.Defaults.TheVariants.{Nothing as NoDefault, One as OneDefault, Several as SeveralDefaults}
+use Rattle.class_tree.specs.Defaults.{AreDefaults}
+use Rattle.class_tree.proofs.Lowest.{selected_one, two_ambiguous}
+use Rattle.object_ranges.specs.Selections.{selection_of}
 use Rattle.class_rules.specs.Rows.{Rows, Sub}
 use Rattle.class_rules.proofs.LawFacts.{path_one}
 use Rattle.class_rules.proofs.Selected.{selection_one}
@@ -16,8 +21,8 @@ use Rattle.link_rules.specs.Faults.{FindsSeveral, FindsSeveralAt}
 use Rattle.link_rules.specs.Targets.{AreTargetRows, ComesBefore, IsInstantiableAt, Selects}
 use Rattle.link_rules.specs.World.{World}
 use Rattle.link_calls.specs.declared.finding.Found.{Found}
-use Rattle.link_calls.specs.declared.selection.Selection.{Selection}
-use Rattle.link_calls.specs.declared.selection.Selection.TheVariants.{Method, Nothing, Several}
+use Rattle.object_ranges.specs.declared.selection.Selection.{Selection}
+use Rattle.object_ranges.specs.declared.selection.Selection.TheVariants.{Method, Nothing, Several}
 use Rattle.link_calls.specs.Known.{HasAtMost, IsFound}
 use Rattle.link_calls.specs.Selected.{AreSelectedBy, IsSelected, IsSelection, SelectsNone}
 
@@ -30,7 +35,7 @@ below_or_not (suc a) (suc b) = elim (below_or_not a b) [ inl below ↦ inl (omeg
 at_most : (n m : ℕ) → m < n + 1 → (m ≡ n) ⊎ (m < n)
 at_most n m below = let le : m ≤ n = omega (arith, below) in eq-or-lt_of_le le
 
-some_is_not_none : (row : ℕ) → Some row ≡ None → ⊥
+pub some_is_not_none : (row : ℕ) → Some row ≡ None → ⊥
 some_is_not_none row e = cc
 
 -- a class with several default methods finds none
@@ -40,6 +45,14 @@ several_finds_none rows class key row several finds = some_is_not_none row (sele
 -- nothing is along the parents, and there is no default method
 pub selects_nothing : (rows : Rows) (class key : ℕ) → OnPath rows class key None → ((row : ℕ) → IsDefault rows class key row → ⊥) → IsSelection rows class key Nothing
 selects_nothing rows class key off none = (nowhere off none, λ several. none several.one several.is_one)
+
+-- what is selected where the row that is found along the parents is known, and the default methods that are reached
+pub selection_told : (rows : Rows) (class key : ℕ) (row : Option ℕ) (defaults : Defaults) → OnPath rows class key row → AreDefaults (IsDefault rows class key) defaults
+    → IsSelection rows class key (selection_of row defaults)
+selection_told rows class key (Some row) defaults path are = on_path path
+selection_told rows class key None NoDefault off none = selects_nothing rows class key off none
+selection_told rows class key None (OneDefault row) off one = selected_one rows class key row off one
+selection_told rows class key None SeveralDefaults off two = two_ambiguous rows class key off two
 
 -- what the receiver selects is what is found from its class
 pub selected_from : (w : World) (class key receiver : ℕ) (s : Selection) → IsInstantiableAt w receiver → Sub w.rows receiver class → IsSelection w.rows receiver key s

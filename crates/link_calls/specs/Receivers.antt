@@ -1,20 +1,22 @@
 -- The classes that may have objects, by their places, and those that are looked at for a call.
-use Rattle.std.specs.Prelude.{◌≡◌, ℕ, Bool, IfSome, IsTrue, List, None, Option, length, nat_eq, slice_index, Contains}
+use Rattle.std.specs.Prelude.{◌≡◌, ◌<◌, ℕ, IfSome, List, Option, length, nat_eq, slice_index, Contains}
 use Rattle.std.specs.HashMap as hash
 use Rattle.std.specs.List.Sorted.{IsNonDecreasingBy}
+use Rattle.class_rules.specs.Rows.{Rows, Sub}
+use Rattle.class_order.specs.Groups.{group}
 use Rattle.class_tree.specs.Layouts.{LaysOut}
-use Rattle.class_rules.specs.Lookups.{OnPath}
-use Rattle.class_rules.specs.Rows.{Sub}
-use Rattle.class_tree.specs.Turns.{turns_of}
 use Rattle.object_ranges.specs.declared.chosen.Choice.{Choice}
 use Rattle.object_ranges.specs.declared.parts.Part.{Part}
-use Rattle.object_ranges.specs.Chosen.{IsServed}
+use Rattle.object_ranges.specs.declared.selection.Selection.{Selection}
+use Rattle.object_ranges.specs.Chosen.{AreLeasts, IsServed, SelectsSome}
 use Rattle.object_ranges.specs.Marks.{Stands}
 use Rattle.object_ranges.specs.Parts.{AreInOrder, TellParts}
 use Rattle.link_rules.specs.Targets.{IsInstantiableAt}
 use Rattle.link_rules.specs.World.{World}
 use Rattle.link_calls.specs.declared.receivers.Receivers.{Receivers}
+use Rattle.link_calls.specs.declared.targets.LeastTable.{LeastTable}
 use Rattle.link_calls.specs.declared.targets.PartTable.{PartTable}
+use Rattle.link_calls.specs.Selected.{IsSelection}
 
 -- the classes that may have objects stand at their places, and no others
 pub record AreMarks (w : World) (places : List ℕ) (marks : List (Option ℕ)) : Type 0 where
@@ -28,21 +30,35 @@ pub record AreReceivers (w : World) (r : Receivers) : Type 0 where
   pub laid : LaysOut w.rows r.layout
   pub marks : AreMarks w r.layout.places.now r.objects
 
--- the parts of the key
-pub record ArePartsOf (r : Receivers) (key : ℕ) (parts : List Part) : Type 0 where
+-- the parts of the key: they tell what is selected from the classes that may have objects
+pub record ArePartsOf (w : World) (r : Receivers) (key : ℕ) (parts : List Part) : Type 0 where
   pub in_order : AreInOrder parts
-  pub told : TellParts r.objects (turns_of r.layout.methods.now key) parts
+  pub select : ℕ → Selection
+  pub selects : (class : ℕ) → class < length w.rows.classes → IsSelection w.rows class key (select (slice_index r.layout.places.now class))
+  pub told : TellParts r.objects select parts
 
 -- the parts that are kept for the key
-abbrev pub AreKnownParts : Receivers → PartTable → Type 0
-AreKnownParts r table = (key : ℕ) → IfSome (hash.get nat_eq table.parts key) (λ parts. ArePartsOf r key parts.items)
+abbrev pub AreKnownParts : World → Receivers → PartTable → Type 0
+AreKnownParts w r table = (key : ℕ) → IfSome (hash.get nat_eq table.parts key) (λ parts. ArePartsOf w r key parts.items)
 
--- in the order of the classes, some of those that a call on an object may find there, which serve for the others: for all, or for those from which a
--- look-up along the parents gives a row
-pub record AreChoices (w : World) (class key : ℕ) (all : Bool) (choices : List Choice) : Type 0 where
+-- the least classes that may have objects, by the spans of the class
+abbrev pub AreLeastsOf : Receivers → ℕ → List (Option ℕ) → Type 0
+AreLeastsOf r class leasts = AreLeasts r.objects (group r.layout.reach.now class) leasts
+
+-- the least classes that are kept for the class
+abbrev pub AreKnownLeasts : Receivers → LeastTable → Type 0
+AreKnownLeasts r table = (class : ℕ) → IfSome (hash.get nat_eq table.leasts class) (λ leasts. AreLeastsOf r class leasts)
+
+-- what is selected from the class; and where it is something, so it is from that of a choice, which is no later
+pub record HasChoice (rows : Rows) (key : ℕ) (choices : List Choice) (class : ℕ) : Type 0 where
+  pub selection : Selection
+  pub selected : IsSelection rows class key selection
+  pub served : SelectsSome selection → IsServed choices class selection
+
+-- in the order of the classes, some of those that a call on an object may find there, which serve for all that select something
+pub record AreChoices (w : World) (class key : ℕ) (choices : List Choice) : Type 0 where
   pub sorted : IsNonDecreasingBy (λ choice. choice.class) choices
   pub instantiable : (choice : Choice) → Contains choices choice → IsInstantiableAt w choice.class
   pub below : (choice : Choice) → Contains choices choice → Sub w.rows choice.class class
-  pub on_path : (choice : Choice) → Contains choices choice → OnPath w.rows choice.class key choice.row
-  pub served : (receiver : ℕ) (row : Option ℕ) → IsInstantiableAt w receiver → Sub w.rows receiver class → OnPath w.rows receiver key row → (row ≡ None → IsTrue all)
-      → IsServed choices receiver row
+  pub selected : (choice : Choice) → Contains choices choice → IsSelection w.rows choice.class key choice.selection
+  pub served : (receiver : ℕ) → IsInstantiableAt w receiver → Sub w.rows receiver class → HasChoice w.rows key choices receiver

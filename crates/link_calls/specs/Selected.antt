@@ -6,8 +6,8 @@ use Rattle.lists.specs.Lists.{Has, IsApart}
 use Rattle.link_rules.specs.Faults.{FindsSeveralAt}
 use Rattle.link_rules.specs.Targets.{ComesBefore, Selects}
 use Rattle.link_rules.specs.World.{World}
-use Rattle.link_calls.specs.declared.selection.Selection.{Selection}
-use Rattle.link_calls.specs.declared.selection.Selection.TheVariants.{Method, Nothing, Several}
+use Rattle.object_ranges.specs.declared.selection.Selection.{Selection}
+use Rattle.object_ranges.specs.declared.selection.Selection.TheVariants.{Method, Nothing, Several}
 
 -- what selection from the class gives
 abbrev pub IsSelection : Rows → ℕ → ℕ → Selection → Type 0

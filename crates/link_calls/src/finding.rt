@@ -2,16 +2,17 @@
 ghost use Rattle.std.specs.Prelude.{◌≡◌, ◌<◌, ℕ, IfOk, length};
 ghost use Rattle.jim_ast.specs.declared.syntax.Mode.{Mode as AMode};
 ghost use Rattle.jim_ast.specs.declared.syntax.Mode.TheVariants.{Special, Static, Virtual};
+ghost use Rattle.object_ranges.specs.Parts.{AreInOrder};
 ghost use Rattle.link_rules.specs.World.{World as AWorld};
 ghost use Rattle.link_calls.specs.Known.{HasAtMost, IsFound};
-ghost use Rattle.link_calls.specs.Receivers.{ArePartsOf, AreReceivers};
+ghost use Rattle.link_calls.specs.Receivers.{AreLeastsOf, ArePartsOf, AreReceivers};
 
-use super::receivers::{Receivers, selected};
-use super::selection::{Selection, select};
+use super::receivers::Receivers;
+use super::selection::select;
 use indexmap::IndexSet;
 use link_classes::Classes;
 use lists::NoMemory;
-use object_ranges::Part;
+use object_ranges::{Minima, Part, Selection};
 use std::alloc::Global;
 
 /// The rows of the methods that a call may run, each once, in the order of the classes that select them first; and whether a class on which the
@@ -76,27 +77,25 @@ pub(crate) fn by_name(
     }
 }
 
-// What a call on an object runs: what the objects below the class select. It takes time with the number of the classes to be looked at: where no interface
-// has a method of the key, these are at most some two for each row that is found and for each span of places of the classes below.
+// What a call on an object runs: what the objects below the class select. It takes a search for each part of the key that selects something, or for each
+// span of places below the class where these are fewer; and then time with the choices, one for each of these parts in which an object below may stand.
 pub(crate) fn by_objects(
     alloc: Global,
-    classes: &Classes,
     receivers: &Receivers,
     parts: &[Part],
+    leasts: &Minima,
     class: u32,
-    key: u32,
 ) -> Result<Found, NoMemory>
-    requires class { class < length classes.now.world.classes }
-    requires receivers { AreReceivers classes.now.world receivers.now }
-    requires parts { ArePartsOf receivers.now key parts.now }
-    ensures { IfOk result (IsFound classes.now.world Virtual class key) }
+    requires class { (w : AWorld) × AreReceivers w receivers.now × (class < length w.rows.classes) }
+    requires parts { AreInOrder parts.now }
+    requires leasts { AreLeastsOf receivers.now class leasts.now }
+    ensures { (w : AWorld) (key : ℕ) → AreReceivers w receivers.now → ArePartsOf w receivers.now key parts.now → IfOk result (IsFound w Virtual class key) }
 {
-    let all = classes.tree().in_interfaces(key);
-    let choices = receivers.chosen(alloc, parts, all, class)?;
+    let choices = receivers.chosen(alloc, parts, leasts, class)?;
     let mut rows = IndexSet::new(alloc);
     let mut several = false;
     for choice in choices.as_slice() {
-        match selected(classes, key, *choice) {
+        match choice.selection {
             Selection::Method(row) => {
                 rows.insert(row)?;
             }

@@ -1,16 +1,15 @@
 //! The classes that may have objects, by their places.
 ghost use Rattle.std.specs.Prelude.{◌<◌, ℕ, IfOk, length};
-ghost use Rattle.class_rules.specs.Lookups.{OnPath};
 ghost use Rattle.class_order.specs.Tables.{HavePlaces};
 ghost use Rattle.link_rules.specs.World.{World as AWorld};
-ghost use Rattle.link_calls.specs.Receivers.{AreChoices, AreMarks, ArePartsOf, AreReceivers};
-ghost use Rattle.link_calls.specs.Selected.{IsSelection};
+ghost use Rattle.object_ranges.specs.Parts.{AreInOrder};
+ghost use Rattle.link_calls.specs.Receivers.{AreChoices, AreLeastsOf, AreMarks, ArePartsOf, AreReceivers};
 
-use super::selection::{Selection, select};
 use class_tree::Layout;
+use default_turns::default_turns;
 use link_classes::Classes;
 use lists::NoMemory;
-use object_ranges::{Choice, Minima, Part, choices_in, parts_of};
+use object_ranges::{Choice, Minima, Part, choices_in, leasts_in, parts_of};
 use std::alloc::Global;
 
 /// The classes that may have objects, at their places.
@@ -45,43 +44,47 @@ impl<'a> Receivers<'a> {
         Ok(Receivers { layout, objects })
     }
 
-    /// The places between which look-ups of the key along the parents give one row.
-    pub(crate) fn parts(&self, alloc: Global, key: u32) -> Result<Vec<Part>, NoMemory>
-        requires { (w : AWorld) × AreReceivers w self.now }
-        ensures { IfOk result (λ parts. ArePartsOf self.now key parts.items) }
+    /// The places between which classes select the same for the key.
+    pub(crate) fn parts(
+        &self,
+        alloc: Global,
+        classes: &Classes,
+        key: u32,
+    ) -> Result<Vec<Part>, NoMemory>
+        requires { AreReceivers classes.now.world self.now }
+        ensures { IfOk result (λ parts. ArePartsOf classes.now.world self.now key parts.items) }
     {
         let turns = self.layout.methods.turns(key);
-        let parts = parts_of(alloc, turns, &self.objects)?;
+        let defaults = default_turns(alloc, classes.tree(), self.layout, key)?;
+        let parts = parts_of(alloc, turns, defaults.as_slice(), &self.objects)?;
         Ok(parts)
     }
 
-    /// The classes to be looked at for a call on an object of this class.
+    /// For each span of the places of those below the class the least that may have objects.
+    pub(crate) fn leasts(&self, alloc: Global, class: u32) -> Result<Minima, NoMemory>
+        requires { class < length self.now.layout.reach.now }
+        ensures { IfOk result (λ leasts. AreLeastsOf self.now class leasts) }
+    {
+        let leasts = leasts_in(alloc, &self.objects, self.layout.reach.get(class as usize))?;
+        Ok(leasts)
+    }
+
+    /// The classes that serve for all in a call on an object of this class.
     pub(crate) fn chosen(
         &self,
         alloc: Global,
         parts: &[Part],
-        all: bool,
+        leasts: &Minima,
         class: u32,
     ) -> Result<Vec<Choice>, NoMemory>
         requires class { (w : AWorld) × AreReceivers w self.now × (class < length w.rows.classes) }
-        requires parts { (key : ℕ) × ArePartsOf self.now key parts.now }
-        ensures { (w : AWorld) (key : ℕ) → AreReceivers w self.now → ArePartsOf self.now key parts.now → IfOk result (λ choices. AreChoices w class key all choices.items) }
+        requires parts { AreInOrder parts.now }
+        requires leasts { AreLeastsOf self.now class leasts.now }
+        ensures { (w : AWorld) (key : ℕ) → AreReceivers w self.now → ArePartsOf w self.now key parts.now → IfOk result (λ choices. AreChoices w class key choices.items) }
     {
         let spans = self.layout.reach.get(class as usize);
-        let mut choices = choices_in(alloc, &self.objects, parts, all, spans)?;
+        let mut choices = choices_in(alloc, &self.objects, parts, spans, leasts)?;
         choices.sort_unstable_by_key(|choice| choice.class);
         Ok(choices)
-    }
-}
-
-// What a choice selects.
-pub(crate) fn selected(classes: &Classes, key: u32, choice: Choice) -> Selection
-    requires class { choice.class < length classes.now.world.classes }
-    requires on_path { OnPath classes.now.world.rows choice.class key choice.row }
-    ensures { IsSelection classes.now.world.rows choice.class key result }
-{
-    match choice.row {
-        Some(row) => Selection::Method(row),
-        None => select(classes, choice.class, key),
     }
 }

@@ -2,18 +2,8 @@
 ghost use Rattle.std.specs.Prelude.{◌<◌, length};
 ghost use Rattle.link_calls.specs.Selected.{IsSelection};
 
-use class_tree::Defaults;
 use link_classes::Classes;
-
-/// What selection from a class gives.
-#[derive(Clone, Copy, Debug, PartialEq, Eq)]
-pub(crate) enum Selection {
-    /// No method, or no class to select one.
-    Nothing,
-    Method(u32),
-    /// Several default methods, of which none is the most specific.
-    Several,
-}
+use object_ranges::{Selection, selection_of};
 
 // What is selected from the class.
 pub(crate) fn select(classes: &Classes, class: u32, key: u32) -> Selection
@@ -21,12 +11,8 @@ pub(crate) fn select(classes: &Classes, class: u32, key: u32) -> Selection
     ensures { IsSelection classes.now.world.rows class key result }
 {
     let tree = classes.tree();
-    if let Some(row) = tree.on_path(class, key) {
-        return Selection::Method(row);
-    }
-    match tree.defaults(class, key) {
-        Defaults::Nothing => Selection::Nothing,
-        Defaults::One(row) => Selection::Method(row),
-        Defaults::Several => Selection::Several,
+    match tree.on_path(class, key) {
+        Some(row) => Selection::Method(row),
+        None => selection_of(None, tree.defaults(class, key)),
     }
 }

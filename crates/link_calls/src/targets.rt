@@ -3,7 +3,7 @@ ghost use Rattle.std.specs.Prelude.{◌≡◌, ◌<◌, All, IfOk, IfSome, lengt
 ghost use Rattle.link_rules.specs.Targets.{AreTargetRows};
 ghost use Rattle.jim_ast.specs.declared.syntax.Mode.TheVariants.{Virtual};
 ghost use Rattle.link_calls.specs.Known.{AreKnown, IsFound};
-ghost use Rattle.link_calls.specs.Receivers.{AreKnownParts, ArePartsOf};
+ghost use Rattle.link_calls.specs.Receivers.{AreKnownLeasts, AreKnownParts, AreLeastsOf, ArePartsOf, AreReceivers};
 ghost use Rattle.link_calls.specs.declared.receivers.Receivers.{Receivers as SomeReceivers};
 ghost use Rattle.link_rules.specs.World.{AreRows, World as AWorld};
 ghost use Rattle.link_rules.specs.Classes.{methods_of};
@@ -13,7 +13,7 @@ use super::receivers::Receivers;
 use jim_ast::Mode;
 use link_classes::Classes;
 use lists::NoMemory;
-use object_ranges::Part;
+use object_ranges::{Minima, Part};
 use std::alloc::Global;
 use std::collections::HashMap;
 use std::marker::Model;
@@ -66,7 +66,7 @@ struct PartTable {
 impl PartTable {
     // No key has been named.
     fn new(alloc: Global) -> Self
-        ensures { (r : SomeReceivers) → AreKnownParts r result }
+        ensures { (w : AWorld) (r : SomeReceivers) → AreKnownParts w r result }
     {
         PartTable {
             parts: HashMap::new(alloc),
@@ -75,7 +75,7 @@ impl PartTable {
 
     // The parts of the key, where they are known.
     fn get(&self, key: u32) -> Option<&[Part]>
-        ensures { (r : SomeReceivers) → AreKnownParts r self.now → IfSome result (λ parts. ArePartsOf r key parts.now) }
+        ensures { (w : AWorld) (r : SomeReceivers) → AreKnownParts w r self.now → IfSome result (λ parts. ArePartsOf w r key parts.now) }
     {
         match self.parts.get(&key) {
             Some(parts) => Some(parts.as_slice()),
@@ -85,9 +85,41 @@ impl PartTable {
 
     // Keeps the parts of the key.
     fn put(&mut self, key: u32, parts: Vec<Part>) -> Result<(), NoMemory>
-        ensures { (r : SomeReceivers) → AreKnownParts r self.old → ArePartsOf r key parts.items → AreKnownParts r self.new }
+        ensures { (w : AWorld) (r : SomeReceivers) → AreKnownParts w r self.old → ArePartsOf w r key parts.items → AreKnownParts w r self.new }
     {
         self.parts.insert(key, parts)?;
+        Ok(())
+    }
+}
+
+/// The least classes by the spans of the classes that calls on objects name.
+#[derive(Drop)]
+struct LeastTable {
+    leasts: HashMap<u32, Minima>,
+}
+
+impl LeastTable {
+    // No class has been named.
+    fn new(alloc: Global) -> Self
+        ensures { (r : SomeReceivers) → AreKnownLeasts r result }
+    {
+        LeastTable {
+            leasts: HashMap::new(alloc),
+        }
+    }
+
+    // The least classes by the spans of the class, where they are known.
+    fn get(&self, class: u32) -> Option<&Minima>
+        ensures { (r : SomeReceivers) → AreKnownLeasts r self.now → IfSome result (λ leasts. AreLeastsOf r class leasts.now) }
+    {
+        self.leasts.get(&class)
+    }
+
+    // Keeps those of the class.
+    fn put(&mut self, class: u32, leasts: Minima) -> Result<(), NoMemory>
+        ensures { (r : SomeReceivers) → AreKnownLeasts r self.old → AreLeastsOf r class leasts → AreKnownLeasts r self.new }
+    {
+        self.leasts.insert(class, leasts)?;
         Ok(())
     }
 }
@@ -100,19 +132,46 @@ pub struct Targets<'a> {
     classes: &'a Classes<'a>,
     receivers: Receivers<'a>,
     parts: PartTable,
+    leasts: LeastTable,
     known: Known,
 }
 
 impl<'a> Model for Targets<'a> {
     ghost use Rattle.link_classes.specs.Classes.{ClassTable};
     ghost use Rattle.link_calls.specs.Known.{AreKnown};
-    ghost use Rattle.link_calls.specs.Receivers.{AreKnownParts, AreReceivers};
+    ghost use Rattle.link_calls.specs.Receivers.{AreKnownLeasts, AreKnownParts, AreReceivers};
 
     ghost Value = { ClassTable };
 
     ghost view = { λ t. t.classes.now };
 
-    ghost invariant = { λ t. AreReceivers t.classes.now.world t.receivers × AreKnownParts t.receivers t.parts × AreKnown t.classes.now.world t.known };
+    ghost invariant = { λ t. AreReceivers t.classes.now.world t.receivers × AreKnownParts t.classes.now.world t.receivers t.parts × AreKnownLeasts t.receivers t.leasts
+        × AreKnown t.classes.now.world t.known };
+}
+
+// What a call on an object runs, by the least classes of the spans of the class that it names.
+fn by_leasts(
+    alloc: Global,
+    classes: &Classes,
+    receivers: &Receivers,
+    parts: &mut PartTable,
+    leasts: &Minima,
+    asked: Asked,
+) -> Result<Found, NoMemory>
+    requires class { asked.class < length classes.now.world.classes }
+    requires receivers { AreReceivers classes.now.world receivers.now }
+    requires parts { AreKnownParts classes.now.world receivers.now parts.old }
+    requires leasts { AreLeastsOf receivers.now asked.class leasts.now }
+    ensures found { IfOk result (IsFound classes.now.world Virtual asked.class asked.key) }
+    ensures kept { AreKnownParts classes.now.world receivers.now parts.new }
+{
+    if let Some(known) = parts.get(asked.key) {
+        return by_objects(alloc, receivers, known, leasts, asked.class);
+    }
+    let made = receivers.parts(alloc, classes, asked.key)?;
+    let found = by_objects(alloc, receivers, made.as_slice(), leasts, asked.class)?;
+    parts.put(asked.key, made)?;
+    Ok(found)
 }
 
 // The rows are those of the classes.
@@ -133,6 +192,7 @@ impl<'a> Targets<'a> {
             classes,
             receivers,
             parts: PartTable::new(alloc),
+            leasts: LeastTable::new(alloc),
             known: Known::new(alloc),
         })
     }
@@ -151,19 +211,27 @@ impl<'a> Targets<'a> {
         ensures same { self.new ≡ self.old }
     {
         let (alloc, classes) = (self.alloc, self.classes);
-        if let Some(parts) = self.parts.get(key) {
-            return by_objects(alloc, classes, &self.receivers, parts, class, key);
+        let asked = Asked { class, key };
+        if let Some(leasts) = self.leasts.get(class) {
+            return by_leasts(
+                alloc,
+                classes,
+                &self.receivers,
+                &mut self.parts,
+                leasts,
+                asked,
+            );
         }
-        let parts = self.receivers.parts(alloc, key)?;
-        let found = by_objects(
+        let leasts = self.receivers.leasts(alloc, class)?;
+        let found = by_leasts(
             alloc,
             classes,
             &self.receivers,
-            parts.as_slice(),
-            class,
-            key,
+            &mut self.parts,
+            &leasts,
+            asked,
         )?;
-        self.parts.put(key, parts)?;
+        self.leasts.put(class, leasts)?;
         Ok(found)
     }
 

@@ -1,55 +1,15 @@
--- Lists that grow by those with a fact.
-use Rattle.std.proofs.Common.{◌≡◌, ℕ, ◌+◌, ◌≤◌, ◌⊎◌, ◌++◌, List, [], ◌∷◌, Some, length, slice_get, sym, subst, inl, inr, arith}
+-- Lists that grow by the targets that stay.
+use Rattle.std.proofs.Common.{◌≡◌, ℕ, ◌+◌, ◌≤◌, ◌⊎◌, List, Some, length, slice_get, sym, subst, inl, inr, arith}
 use Rattle.std.proofs.lemmas.Bool.{cases_order}
-use Rattle.lists.specs.Lists.{Adds, Has}
+use Rattle.lists.specs.Grown.{IsGrownBy}
+use Rattle.lists.specs.Lists.{Adds}
+use Rattle.lists.proofs.Grown.{grown_one, grown_same, grown_then}
 use Rattle.jim_ast.specs.declared.syntax.Mode.{Mode}
-use Rattle.lists.proofs.Places.{slice_get-append_left, slice_get-below, slice_get-push, slice_get-pushed}
+use Rattle.lists.proofs.Places.{slice_get-below}
 use Rattle.link_rules.specs.declared.code.Code.{Code}
 use Rattle.narrow_rules.specs.declared.kept.Kept.{Kept}
 use Rattle.narrow_rules.specs.Narrowed.{IsKept, StaysIn}
-use Rattle.link_narrow.specs.Reaching.{IsGrownBy, StaysAmong, StaysBefore, StaysFrom}
-
--- by none
-pub grown_none : (P : ℕ → Type 0) (xs : List ℕ) → ((x : ℕ) → P x → ⊥) → IsGrownBy P xs xs
-grown_none P xs none = record { same = λ i x e. e; each = λ i x e. inl (i, e); all = λ x h. absurd (none x h) }
-
--- by those with another fact that says the same
-pub grown_same : (P Q : ℕ → Type 0) (a b : List ℕ) → IsGrownBy P a b → ((x : ℕ) → P x → Q x) → ((x : ℕ) → Q x → P x) → IsGrownBy Q a b
-grown_same P Q a b g to back = record {
-  same = g.same;
-  each = λ i x e. elim (g.each i x e) [ inl old ↦ inl old | inr new ↦ inr (to x new) ];
-  all = λ x h. g.all x (back x h);
-}
-
--- by some and then by others
-pub grown_then : (P R Q : ℕ → Type 0) (a b c : List ℕ) → IsGrownBy P a b → IsGrownBy R b c → ((x : ℕ) → P x → Q x) → ((x : ℕ) → R x → Q x)
-    → ((x : ℕ) → Q x → P x ⊎ R x) → IsGrownBy Q a c
-grown_then P R Q a b c first second left right split = record {
-  same = λ i x e. second.same i x (first.same i x e);
-  each = λ i x e. elim (second.each i x e) [
-    | inl old ↦ elim (first.each old.0 x old.1) [ inl there ↦ inl there | inr new ↦ inr (left x new) ]
-    | inr new ↦ inr (right x new)
-  ];
-  all = λ x h. elim (split x h) [
-    | inl p ↦ let there = first.all x p in (there.0, second.same there.0 x there.1)
-    | inr r ↦ second.all x r
-  ];
-}
-
--- by one
-pub grown_one : (x : ℕ) (a b : List ℕ) → Adds a x b → IsGrownBy (λ y. y ≡ x) a b
-grown_one x a b adds = elim adds [
-  | inl there ↦ record {
-    same = λ i y e. rw there.1 e;
-    each = λ i y e. inl (i, rw there.1 at e);
-    all = λ y is. rw there.1 (subst (Has a) (sym is) there.0);
-  }
-  | inr new ↦ record {
-    same = λ i y e. rw new.1 (slice_get-append_left a (x ∷ []) i y e);
-    each = λ i y e. elim (slice_get-pushed a x i y (rw new.1 at e)) [ inl old ↦ inl (i, old) | inr last ↦ inr last.1 ];
-    all = λ y is. rw new.1 (length a, subst (λ z. slice_get (a ++ x ∷ []) (length a) ≡ Some z) (sym is) (slice_get-push a x));
-  }
-]
+use Rattle.link_narrow.specs.Reaching.{StaysAmong, StaysBefore, StaysFrom}
 
 module _ (kept : List Kept) (number index : ℕ) (mode : Mode) (targets : List ℕ) where
   pub among_none : (x : ℕ) → StaysAmong kept number index mode targets 0 x → ⊥

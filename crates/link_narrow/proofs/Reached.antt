@@ -1,6 +1,7 @@
 -- The methods that are reached, as they are found.
 use Rattle.std.proofs.Common.{◌≡◌, ℕ, zero, suc, ◌+◌, ◌<◌, ◌≤◌, ◌++◌, List, [], ◌∷◌, Some, length, slice_get, refl, sym, ap, ◌∙◌, subst, inl, inr, arith}
 use Rattle.std.proofs.lemmas.Bool.{cases_order}
+use Rattle.lists.specs.Grown.{IsGrownBy}
 use Rattle.lists.specs.Lists.{Adds, Has}
 use Rattle.lists.proofs.Places.{slice_get-below, slice_get-there}
 use Rattle.link_rules.specs.declared.code.Code.{Code}
@@ -8,7 +9,7 @@ use Rattle.link_rules.specs.declared.code.Code.TheVariants as code
 use Rattle.link_rules.specs.Linked.{LinkedMethod, LinkedProgram}
 use Rattle.link_rules.specs.WellLinked.{FitsCode, FitsMethod, IsInForm}
 use Rattle.link_laws.proofs.Lists.{at_all}
-use Rattle.link_narrow.specs.Reaching.{AreReached, IsGrownBy, StaysBefore, StaysFrom}
+use Rattle.link_narrow.specs.Reaching.{AreReached, StaysBefore, StaysFrom}
 use Rattle.narrow_rules.specs.declared.kept.Kept.{Kept}
 use Rattle.narrow_rules.specs.Narrowed.{IsReachedBy, KeepsTarget, called, root}
 
@@ -79,7 +80,7 @@ module _ (p : LinkedProgram) (kept : List Kept) where
       record {
         within = let below = slice_get-below new at number (g.same at number here) in omega (arith, below);
         root = still first f.root;
-        each = λ i x e. elim (g.each i x e) [
+        each = λ i x e. elim (g.each x (i, e)) [
           | inl before ↦ f.each before.0 x before.1
           | inr new_one ↦ (let k = keeps_from number x m there new_one in called (f.each at number here) k.1)
         ];

@@ -1,5 +1,5 @@
 -- Methods that are found, one after another, by the targets that stay.
-use Rattle.std.specs.Prelude.{◌≡◌, ℕ, ◌+◌, ◌<◌, ◌⊎◌, List, Some, length, slice_get}
+use Rattle.std.specs.Prelude.{◌≡◌, ℕ, ◌+◌, ◌<◌, List, Some, length, slice_get}
 use Rattle.lists.specs.Lists.{Has}
 use Rattle.jim_ast.specs.declared.syntax.Mode.{Mode}
 use Rattle.link_rules.specs.declared.code.Code.{Code}
@@ -27,12 +27,6 @@ pub record StaysBefore (kept : List Kept) (number : ℕ) (codes : List Code) (co
   pub code : Code
   pub here : slice_get codes index ≡ Some code
   pub stays : StaysFrom kept number index code target
-
--- a list has grown by those with the fact: what stood there stands there still, and they are all there
-pub record IsGrownBy (P : ℕ → Type 0) (old new : List ℕ) : Type 0 where
-  pub same : (i x : ℕ) → slice_get old i ≡ Some x → slice_get new i ≡ Some x
-  pub each : (i x : ℕ) → slice_get new i ≡ Some x → Has old x ⊎ P x
-  pub all : (x : ℕ) → P x → Has new x
 
 -- the methods that the root reaches
 abbrev pub AreReached : LinkedProgram → List Kept → List ℕ → Type 0

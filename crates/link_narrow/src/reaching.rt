@@ -1,8 +1,9 @@
 //! Which methods are still reached.
 ghost use Rattle.std.specs.Prelude.{◌≡◌, ◌<◌, ◌+◌, ℕ, Some, IfOk, OnOk, length, slice_get};
+ghost use Rattle.lists.specs.Grown.{IsGrownBy};
 ghost use Rattle.lists.specs.Lists.{Has};
 ghost use Rattle.link_rules.specs.Linked.{LinkedMethod};
-ghost use Rattle.link_narrow.specs.Reaching.{AreReached, IsGrownBy, StaysAmong, StaysBefore, StaysFrom};
+ghost use Rattle.link_narrow.specs.Reaching.{AreReached, StaysAmong, StaysBefore, StaysFrom};
 
 use super::names::{Named, Spot};
 use jim_ast::Mode;

@@ -1,4 +1,5 @@
 //! The methods that are linked of small programs, and the first refusals of others, by hand.
+use compiled_text::AS_COMPILED;
 use link_program::Linked;
 use link_rules::{Arg, Code};
 use linked_text::{Rows, first_wrong, told_of};
@@ -34,32 +35,6 @@ fn reaches_what_calls_may_run(rt: HostRuntime) -> Result<(), Fail> {
     Ok(())
 }
 
-const WHOLE: &str = r#"public class Main extends java.lang.Object
-{
-    public void <init>()
-    {
-        Main r0;
-        r0 := @this: Main;
-        specialinvoke r0.<java.lang.Object: void <init>()>();
-        return;
-    }
-    public static void main(java.lang.String[])
-    {
-        java.lang.String[] r0;
-        java.io.PrintStream $r1;
-        java.lang.StringBuilder $r2, $r3;
-        java.lang.String $r4;
-        r0 := @parameter0: java.lang.String[];
-        $r1 = <java.lang.System: java.io.PrintStream out>;
-        $r2 = new java.lang.StringBuilder;
-        specialinvoke $r2.<java.lang.StringBuilder: void <init>()>();
-        $r3 = virtualinvoke $r2.<java.lang.StringBuilder: java.lang.StringBuilder append(java.lang.String)>("a\n");
-        $r4 = virtualinvoke $r3.<java.lang.StringBuilder: java.lang.String toString()>();
-        virtualinvoke $r1.<java.io.PrintStream: void println(java.lang.String)>($r4);
-        return;
-    }
-}"#;
-
 fn has_initializer(alloc: Global, text: &str) -> Result<bool, NoMemory> {
     let told = told_of(alloc, text)?;
     let lines = told.as_str();
@@ -72,7 +47,7 @@ fn has_initializer(alloc: Global, text: &str) -> Result<bool, NoMemory> {
 // A class in the usual layout, with the prelude.
 #[test]
 fn links_with_the_prelude(rt: HostRuntime) -> Result<(), Fail> {
-    assert!(rt; has_initializer(rt.alloc(), WHOLE)?);
+    assert!(rt; has_initializer(rt.alloc(), AS_COMPILED)?);
     Ok(())
 }
 

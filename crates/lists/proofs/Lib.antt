@@ -11,4 +11,5 @@ pub mod Exactly
 pub mod Joined
 pub mod OneKey
 pub mod Found
+pub mod Grown
 pub mod Elements

@@ -1,17 +1,14 @@
 -- Parts in order, and what is told of them when one more comes.
-use Rattle.std.proofs.Common.{◌≡◌, ℕ, suc, ◌+◌, ◌-◌, ◌<◌, ◌≤◌, ◌⊎◌, Option, None, List, [], ◌∷◌, ◌++◌, length, length-append, get_or, sym, ap, subst, ◌∙◌, inl, inr, arith}
-use Rattle.std.specs.List.{All, Contains}
-use Rattle.std.specs.List.Sorted.{IsNonDecreasingBy}
+use Rattle.std.proofs.Common.{◌≡◌, ℕ, ◌+◌, ◌<◌, ◌≤◌, ◌⊎◌, Option, List, [], ◌∷◌, ◌++◌, length, length-append, get_or, sym, ap, subst, ◌∙◌, inl, inr, arith}
+use Rattle.std.specs.List.{All}
 use Rattle.std.proofs.Math.Seq.{get_or-append_seam}
 use Rattle.std.proofs.lemmas.List.{get_or_append_left}
 use Rattle.std.proofs.lemmas.List.Elements.{All-contains, All-push, Contains-append_left, Contains-push, Contains-push_cases}
-use Rattle.class_tree.specs.declared.turns.Turn.{Turn}
-use Rattle.class_tree.specs.Turns.{turned}
-use Rattle.lists.proofs.Elements.{Contains-nil, same_read}
-use Rattle.class_tree.proofs.Turning.{row_before, row_before-at, row_before-none, turned-parted}
+use Rattle.lists.proofs.Elements.{Contains-nil}
 use Rattle.object_ranges.specs.declared.parts.Part.{Part}
 use Rattle.object_ranges.specs.Marks.{Stands}
-use Rattle.object_ranges.specs.Parts.{AreInOrder, ArePartsTo, GivesRow, IsIn}
+use Rattle.object_ranges.specs.declared.selection.Selection.{Selection}
+use Rattle.object_ranges.specs.Parts.{AreInOrder, ArePartsTo, IsIn, SelectAlike}
 
 below_or : (a b : ℕ) → (a < b) ⊎ (b ≤ a)
 below_or a b = grind arith
@@ -64,18 +61,18 @@ module _ (parts : List Part) (t : Part) (a : AreInOrder (parts ++ t ∷ [])) whe
 
 -- ---- one part more
 
-pub parts_none : (marks : List (Option ℕ)) (turns : List Turn) → ArePartsTo marks turns 0 []
-parts_none marks turns = record {
+pub parts_none : (marks : List (Option ℕ)) (select : ℕ → Selection) → ArePartsTo marks select 0 []
+parts_none marks select = record {
   in_order = in_order_none;
   up_to = λ k d h. absurd (omega (arith, h));
   right = λ part m. absurd (Contains-nil part m);
   all = λ place class lt s. absurd (omega (arith, lt));
 }
 
-module _ (marks : List (Option ℕ)) (turns : List Turn) (part : Part) (filled : part.start ≤ part.end) (gives : GivesRow marks turns part)
-    (old : List Part) (s : ArePartsTo marks turns part.start old) where
+module _ (marks : List (Option ℕ)) (select : ℕ → Selection) (part : Part) (filled : part.start ≤ part.end) (gives : SelectAlike marks select part)
+    (old : List Part) (s : ArePartsTo marks select part.start old) where
   -- no class stands in it
-  pub parts_skipped : ((place class : ℕ) → IsIn part place → Stands marks place class → ⊥) → ArePartsTo marks turns part.end old
+  pub parts_skipped : ((place class : ℕ) → IsIn part place → Stands marks place class → ⊥) → ArePartsTo marks select part.end old
   parts_skipped empty = record {
     in_order = s.in_order;
     up_to = λ k d h. let le = s.up_to k d h in omega (arith, le, filled);
@@ -87,13 +84,13 @@ module _ (marks : List (Option ℕ)) (turns : List Turn) (part : Part) (filled :
   }
 
   -- it comes behind the others
-  pub parts_pushed : ArePartsTo marks turns part.end (old ++ part ∷ [])
+  pub parts_pushed : ArePartsTo marks select part.end (old ++ part ∷ [])
   parts_pushed = record {
     in_order = in_order_push old part s.in_order s.up_to filled;
     up_to = All-push (λ (u : Part). u.end ≤ part.end) old part (λ k d h. let le = s.up_to k d h in omega (arith, le, filled)) (omega arith);
     right = λ u m. elim (Contains-push_cases old part u m) [
       | inl was ↦ s.right u was
-      | inr is ↦ subst (GivesRow marks turns) is gives
+      | inr is ↦ subst (SelectAlike marks select) is gives
     ];
     all = λ place class lt st. elim (below_or place part.start) [
       | inl earlier ↦ let p = s.all place class earlier st in (p.0, Contains-append_left old (part ∷ []) p.0 p.1, p.2)
@@ -102,8 +99,8 @@ module _ (marks : List (Option ℕ)) (turns : List Turn) (part : Part) (filled :
   }
 
 -- the last part goes on
-module _ (marks : List (Option ℕ)) (turns : List Turn) (part : Part) (filled : part.start ≤ part.end) (gives : GivesRow marks turns part)
-    (front : List Part) (last : Part) (same : last.row ≡ part.row) (s : ArePartsTo marks turns part.start (front ++ last ∷ [])) where
+module _ (marks : List (Option ℕ)) (select : ℕ → Selection) (part : Part) (filled : part.start ≤ part.end) (gives : SelectAlike marks select part)
+    (front : List Part) (last : Part) (same : last.selection ≡ part.selection) (s : ArePartsTo marks select part.start (front ++ last ∷ [])) where
   abbrev pub wider : Part
   wider = record last { end = part.end }
 
@@ -125,7 +122,7 @@ module _ (marks : List (Option ℕ)) (turns : List Turn) (part : Part) (filled :
         | inr is ↦ let e = ap (λ (u : Part). u.end) is in absurd (omega (arith, e, p.2.1, le))
       ]
 
-  wider_gives : GivesRow marks turns wider
+  wider_gives : SelectAlike marks select wider
   wider_gives place class here st = elim (below_or place last.end) [
     | inl in_last ↦ s.right last (Contains-push front last) place class (here.0, in_last) st
     | inr past ↦ elim (below_or place part.start) [
@@ -134,13 +131,13 @@ module _ (marks : List (Option ℕ)) (turns : List Turn) (part : Part) (filled :
     ]
   ]
 
-  pub parts_widened : ArePartsTo marks turns part.end (front ++ wider ∷ [])
+  pub parts_widened : ArePartsTo marks select part.end (front ++ wider ∷ [])
   parts_widened = record {
     in_order = in_order_push front wider (in_order_init front last s.in_order) before (omega (arith, last_filled, last_end, filled));
     up_to = All-push (λ (u : Part). u.end ≤ part.end) front wider (λ k d h. let le = before k d h in omega (arith, le, last_filled, last_end, filled)) (omega arith);
     right = λ u m. elim (Contains-push_cases front wider u m) [
       | inl was ↦ s.right u (Contains-append_left front (last ∷ []) u was)
-      | inr is ↦ subst (GivesRow marks turns) is wider_gives
+      | inr is ↦ subst (SelectAlike marks select) is wider_gives
     ];
     all = λ place class lt st. elim (below_or place part.start) [
       | inl earlier ↦ (let p = s.all place class earlier st in elim (Contains-push_cases front last p.0 p.1) [
@@ -150,38 +147,3 @@ module _ (marks : List (Option ℕ)) (turns : List Turn) (part : Part) (filled :
       | inr here ↦ (wider, Contains-push front wider, (omega (arith, here, last_filled, last_end), lt))
     ];
   }
-
--- ---- turn by turn
-
--- what is known where the turns before an index have been passed
-pub record AreTurned (turns : List Turn) (i start : ℕ) (row : Option ℕ) : Type 0 where
-  pub within : i ≤ length turns
-  pub is_row : row ≡ row_before None turns i
-  pub passed : (k : ℕ) (d : Turn) → k < i → (get_or turns k d).at ≤ start
-  pub coming : (k : ℕ) (d : Turn) → i ≤ k → k < length turns → start ≤ (get_or turns k d).at
-
-pub turned_first : (turns : List Turn) → AreTurned turns 0 0 None
-turned_first turns = record {
-  within = omega arith;
-  is_row = sym (row_before-none turns);
-  passed = λ k d h. absurd (omega (arith, h));
-  coming = λ k d le h. omega arith;
-}
-
-module _ (turns : List Turn) (rising : IsNonDecreasingBy (λ (t : Turn). t.at) turns) (i : ℕ) (d : Turn) (h : i < length turns) (start : ℕ) (row : Option ℕ) (t : AreTurned turns i start row) where
-  pub turned_next : AreTurned turns (i + 1) (get_or turns i d).at (get_or turns i d).row
-  turned_next = record {
-    within = omega (arith, h);
-    is_row = sym (row_before-at None turns i d h) ∙ ap (row_before None turns) (suc-is i);
-    passed = λ k e lt. let x = ap (λ (u : Turn). u.at) (same_read turns i d e h) in omega (arith, rising k i e (omega (arith, lt)) h, x);
-    coming = λ k e le lt. let x = ap (λ (u : Turn). u.at) (same_read turns i d e h) in omega (arith, rising i k e (omega (arith, le)) lt, x);
-  }
-    where
-      suc-is : (n : ℕ) → suc n ≡ n + 1
-      suc-is n = omega arith
-
--- look-ups from there up to the next turn give the row
-pub turned_here : (turns : List Turn) (i start place : ℕ) (row : Option ℕ) → AreTurned turns i start row → start ≤ place
-    → ((k : ℕ) (d : Turn) → i ≤ k → k < length turns → place < (get_or turns k d).at) → turned None turns place ≡ row
-turned_here turns i start place row t le later =
-    turned-parted None turns place i t.within (λ k d lt. let p = t.passed k d lt in omega (arith, p, le)) later ∙ sym t.is_row

@@ -1,6 +1,6 @@
 -- The least number of which a fact holds, from those of other facts.
-use Rattle.std.proofs.Common.{◌≡◌, ℕ, ◌<◌, ◌≤◌, ◌⊎◌, min, true, false, true≢false, eqb, eqb-true, Option, Some, None, refl, sym, ap, subst, inl, inr, arith}
-use Rattle.std.specs.Option.{is_some, option_eq}
+use Rattle.std.proofs.Common.{◌≡◌, ℕ, ◌<◌, ◌≤◌, ◌⊎◌, min, false, true≢false, Option, Some, None, refl, sym, ap, subst, inl, inr, arith}
+use Rattle.std.specs.Option.{is_some}
 use Rattle.object_ranges.specs.Marks.{IsLeastOf, earlier}
 
 below_or : (a b : ℕ) → (a < b) ⊎ (b ≤ a)
@@ -85,10 +85,3 @@ earlier_second a b n e = subst (λ x. (m : ℕ) × (m ≤ n) × (earlier a x ≡
 pub none_has : (P : ℕ → Type 0) (o : Option ℕ) → is_some o ≡ false → IsLeastOf P o → (n : ℕ) → P n → ⊥
 none_has P None e is = is
 none_has P (Some n) e is = absurd (true≢false e)
-
--- a test of two options
-pub same_option : (a b : Option ℕ) → option_eq eqb a b ≡ true → a ≡ b
-same_option None None e = refl
-same_option None (Some y) e = absurd (true≢false (sym e))
-same_option (Some x) None e = absurd (true≢false (sym e))
-same_option (Some x) (Some y) e = ap Some (eqb-true x y e)

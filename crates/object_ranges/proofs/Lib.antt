@@ -1,4 +1,10 @@
 pub mod Leasts
 pub mod Heaped
 pub mod Laid
+pub mod Same
+pub mod Steady
+pub mod Turned
+pub mod Meeting
+pub mod Ordered
+pub mod Leasted
 pub mod Serving

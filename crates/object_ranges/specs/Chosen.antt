@@ -1,49 +1,50 @@
--- The classes that are chosen to be looked at for a call.
-use Rattle.std.specs.Prelude.{◌≡◌, ℕ, ◌<◌, ◌≤◌, ◌⊎◌, Bool, IsTrue, Option, Some, None, List, Contains}
+-- The classes that are chosen for a call.
+use Rattle.std.specs.Prelude.{◌≡◌, ℕ, ◌≤◌, Option, Some, None, List, Contains, length, max, min, slice_get, slice_index_or}
 use Rattle.class_order.specs.declared.spans.Span.{Span}
-use Rattle.class_tree.specs.declared.turns.Turn.{Turn}
 use Rattle.class_order.specs.Spans.{Holds}
-use Rattle.class_tree.specs.Turns.{turned}
+use Rattle.lists.specs.Lists.{IsLeast}
 use Rattle.object_ranges.specs.declared.chosen.Choice.{Choice}
 use Rattle.object_ranges.specs.declared.parts.Part.{Part}
-use Rattle.object_ranges.specs.Marks.{Stands}
+use Rattle.object_ranges.specs.declared.selection.Selection.{Selection}
+use Rattle.object_ranges.specs.declared.selection.Selection.TheVariants.{Nothing}
+use Rattle.object_ranges.specs.Marks.{IsLeastOf, Stands, StandsIn}
 use Rattle.object_ranges.specs.Parts.{IsIn}
 
--- a class with a row serves for later classes with the same row, and one without for itself alone
-abbrev pub Serves : Option ℕ → ℕ → ℕ → Type 0
-Serves (Some row) chosen class = chosen ≤ class
-Serves None chosen class = chosen ≡ class
+-- for each span the least class that stands in it
+pub record AreLeasts (marks : List (Option ℕ)) (spans : List Span) (leasts : List (Option ℕ)) : Type 0 where
+  pub len : length leasts ≡ length spans
+  pub each : (k : ℕ) (span : Span) → slice_get spans k ≡ Some span → IsLeastOf (StandsIn marks span.start span.end) (slice_index_or leasts k None)
 
--- a choice that serves for the class, from which a look-up gives this row
-pub record IsServed (choices : List Choice) (class : ℕ) (row : Option ℕ) : Type 0 where
+-- the class stands in the part and in the span
+abbrev pub StandsInClip : List (Option ℕ) → Part → Span → ℕ → Type 0
+StandsInClip marks part span class = StandsIn marks (max part.start span.start) (min part.end span.end) class
+
+-- the class stands in the part and in one of the spans
+abbrev pub StandsInBoth : List (Option ℕ) → List Span → Part → ℕ → Type 0
+StandsInBoth marks spans part class = (place : ℕ) × IsIn part place × Holds spans place × Stands marks place class
+
+-- something is selected
+abbrev pub SelectsSome : Selection → Type 0
+SelectsSome selection = selection ≡ Nothing → ⊥
+
+-- the choice of a part, if there is one: the least class that stands in it and in one of the spans, where something is selected from it
+abbrev pub IsChoiceOf : List (Option ℕ) → List Span → Part → Option Choice → Type 0
+IsChoiceOf marks spans part (Some choice) = SelectsSome part.selection × (choice.selection ≡ part.selection) × IsLeast (StandsInBoth marks spans part) choice.class
+IsChoiceOf marks spans part None = SelectsSome part.selection → (class : ℕ) → StandsInBoth marks spans part class → ⊥
+
+-- a choice that serves for a class from which this is selected: its class is no later, and the same is selected from it
+pub record IsServed (choices : List Choice) (class : ℕ) (selection : Selection) : Type 0 where
   pub choice : Choice
   pub there : Contains choices choice
-  pub same : choice.row ≡ row
-  pub serves : Serves row choice.class class
+  pub same : choice.selection ≡ selection
+  pub first : choice.class ≤ class
 
--- the class of the choice stands at one of these places, and the look-up from there gives its row
-abbrev pub IsChosenIn : (ℕ → Type 0) → List (Option ℕ) → List Turn → Choice → Type 0
-IsChosenIn P marks turns choice = (place : ℕ) × P place × Stands marks place choice.class × (choice.row ≡ turned None turns place)
+-- the class of the choice stands in one of the spans, and its selection is what is selected there
+abbrev pub IsChosenIn : List (Option ℕ) → (ℕ → Selection) → List Span → Choice → Type 0
+IsChosenIn marks select spans choice = (place : ℕ) × Holds spans place × Stands marks place choice.class × (choice.selection ≡ select place)
 
--- a class of the part serves for each of them
-pub record AddsPart (marks : List (Option ℕ)) (part : Part) (old new : List Choice) : Type 0 where
-  pub kept : (choice : Choice) → Contains old choice → Contains new choice
-  pub right : (choice : Choice) → Contains new choice → Contains old choice ⊎ ((place : ℕ) × IsIn part place × Stands marks place choice.class × (choice.row ≡ part.row))
-  pub all : (place class : ℕ) → IsIn part place → Stands marks place class → IsServed new class part.row
-
-abbrev pub IsInSpan : Span → ℕ → Type 0
-IsInSpan span place = (span.start ≤ place) × (place < span.end)
-
--- the classes at these places are served, but, where not all are asked for, those from which look-ups give no row
-abbrev pub AreServed : (ℕ → Type 0) → List (Option ℕ) → List Turn → Bool → List Choice → Type 0
-AreServed P marks turns all choices = (place class : ℕ) → P place → Stands marks place class → (turned None turns place ≡ None → IsTrue all) → IsServed choices class (turned None turns place)
-
-pub record AddsSpan (marks : List (Option ℕ)) (turns : List Turn) (all : Bool) (span : Span) (old new : List Choice) : Type 0 where
-  pub kept : (choice : Choice) → Contains old choice → Contains new choice
-  pub right : (choice : Choice) → Contains new choice → Contains old choice ⊎ IsChosenIn (IsInSpan span) marks turns choice
-  pub served : AreServed (IsInSpan span) marks turns all new
-
--- those that are chosen in the spans
-pub record AreChosen (marks : List (Option ℕ)) (turns : List Turn) (all : Bool) (spans : List Span) (choices : List Choice) : Type 0 where
-  pub right : (choice : Choice) → Contains choices choice → IsChosenIn (Holds spans) marks turns choice
-  pub served : AreServed (Holds spans) marks turns all choices
+-- those that are chosen in the spans: they serve for all classes there from which something is selected
+pub record AreChosen (marks : List (Option ℕ)) (select : ℕ → Selection) (spans : List Span) (choices : List Choice) : Type 0 where
+  pub some : (choice : Choice) → Contains choices choice → SelectsSome choice.selection
+  pub right : (choice : Choice) → Contains choices choice → IsChosenIn marks select spans choice
+  pub served : (place class : ℕ) → Holds spans place → Stands marks place class → SelectsSome (select place) → IsServed choices class (select place)

@@ -1,110 +1,123 @@
-//! The classes that have to be looked at for a call.
-ghost use Rattle.std.specs.Prelude.{◌≡◌, ◌||◌, IfOk, List, None, OnOk, Some};
-ghost use Rattle.std.specs.Option.{is_some};
-ghost use Rattle.class_tree.specs.declared.turns.Turn.{Turn as ATurn};
-ghost use Rattle.object_ranges.specs.Chosen.{AddsPart, AddsSpan, AreChosen};
-ghost use Rattle.object_ranges.specs.Parts.{AreInOrder, TellParts};
+//! The classes that select what a call runs.
+ghost use Rattle.std.specs.Prelude.{◌≡◌, ◌<◌, ◌≤◌, ℕ, IfOk, Some, slice_get};
+ghost use Rattle.class_order.specs.Spans.{AreApart, Holds};
+ghost use Rattle.object_ranges.specs.Chosen.{AreChosen, AreLeasts, IsChoiceOf, StandsInBoth, StandsInClip};
+ghost use Rattle.object_ranges.specs.Marks.{IsLeastOf};
+ghost use Rattle.object_ranges.specs.Parts.{AreInOrder, IsIn, TellParts};
+ghost use Rattle.object_ranges.specs.declared.parts.Part.{Part as APart};
+ghost use Rattle.object_ranges.specs.declared.selection.Selection.{Selection as ASelection};
 
-use super::minima::Minima;
+use super::minima::{Minima, earlier};
 use super::parts::Part;
+use super::selection::Selection;
 use class_order::Span;
 use std::alloc::{AllocError, Global};
 
-/// A class that may have objects, and the row that the look-up along the parents gives from it.
+/// A class that may have objects, and what is selected from it.
 #[derive(Clone, Copy)]
 pub struct Choice {
     pub class: u32,
-    pub row: Option<u32>,
+    pub selection: Selection,
 }
 
-// The least class of a part with a row.
-fn add_least(
-    choices: &mut Vec<Choice>,
-    objects: &Minima,
-    part: Part,
-    row: u32,
-) -> Result<(), AllocError>
-    requires { part.row ≡ Some row }
-    ensures { OnOk result (AddsPart objects.now part choices.old.items choices.new.items) }
+/// For each of some spans the least class that may have objects at its places.
+pub fn leasts_in(alloc: Global, objects: &Minima, spans: &[Span]) -> Result<Minima, AllocError>
+    ensures { IfOk result (λ leasts. AreLeasts objects.now spans.now leasts) }
 {
-    if let Some(class) = objects.least(part.start, part.end) {
-        choices.push(Choice {
-            class,
-            row: Some(row),
-        })?;
+    let mut leasts = Vec::new(alloc);
+    for span in spans {
+        leasts.push(objects.least(span.start as usize, span.end as usize))?;
     }
-    Ok(())
+    let minima = Minima::new(alloc, leasts.as_slice())?;
+    Ok(minima)
 }
 
-// Each class of a part without one.
-fn add_each(choices: &mut Vec<Choice>, objects: &Minima, part: Part) -> Result<(), AllocError>
-    requires { part.row ≡ None }
-    ensures { OnOk result (AddsPart objects.now part choices.old.items choices.new.items) }
+// The least class that may have objects at the places of a part and of a span.
+fn least_in_span(objects: &Minima, part: Part, span: Span) -> Option<u32>
+    ensures { IsLeastOf (StandsInClip objects.now part span) result }
 {
-    for place in part.start..part.end {
-        if let Some(class) = objects.at(place) {
-            choices.push(Choice { class, row: None })?;
-        }
+    objects.least(
+        part.start.max(span.start) as usize,
+        part.end.min(span.end) as usize,
+    )
+}
+
+// The least class that may have objects at the places of a part and of some spans.
+fn least_in(objects: &Minima, spans: &[Span], leasts: &Minima, part: Part) -> Option<u32>
+    requires spans { AreApart spans.now }
+    requires leasts { AreLeasts objects.now spans.now leasts.now }
+    ensures { IsLeastOf (StandsInBoth objects.now spans.now part) result }
+{
+    let from = spans.partition_point(|span| span.end <= part.start);
+    let to = spans.partition_point(|span| span.start < part.end);
+    if to <= from {
+        return None;
     }
-    Ok(())
+    // Those between the first and the last of these spans lie in the part.
+    let between = leasts.least(from + 1, to - 1);
+    let first = least_in_span(objects, part, spans[from]);
+    let last = least_in_span(objects, part, spans[to - 1]);
+    earlier(between, earlier(first, last))
 }
 
-// What is chosen in a part: the least class that may have objects, or each of them where look-ups give no row.
-fn add_part(choices: &mut Vec<Choice>, objects: &Minima, part: Part) -> Result<(), AllocError>
-    ensures { OnOk result (AddsPart objects.now part choices.old.items choices.new.items) }
+// The choice of a part: none where nothing is selected, or no class may have objects at its places and those of the spans.
+fn choice_of(objects: &Minima, spans: &[Span], leasts: &Minima, part: Part) -> Option<Choice>
+    requires spans { AreApart spans.now }
+    requires leasts { AreLeasts objects.now spans.now leasts.now }
+    ensures { IsChoiceOf objects.now spans.now part result }
 {
-    match part.row {
-        Some(row) => add_least(choices, objects, part, row),
-        None => add_each(choices, objects, part),
+    let selection = part.selection;
+    if selection == Selection::Nothing {
+        return None;
     }
+    let class = least_in(objects, spans, leasts, part)?;
+    Some(Choice { class, selection })
 }
 
-// Whether a part with this row is looked at: each is, or it has one.
-fn is_asked(all: bool, row: Option<u32>) -> bool
-    ensures { result ≡ (all || is_some row) }
-{
-    all || row.is_some()
-}
-
-// What is chosen in a span, part by part.
-fn add_span(
-    choices: &mut Vec<Choice>,
-    objects: &Minima,
-    parts: &[Part],
-    all: bool,
-    span: Span,
-) -> Result<(), AllocError>
+// The first part from an index on that ends behind the start of the next span: those before it meet no span.
+fn next_part(parts: &[Part], spans: &[Span], from: usize) -> usize
     requires parts { AreInOrder parts.now }
-    ensures { (turns : List ATurn) → TellParts objects.now turns parts.now → OnOk result (AddsSpan objects.now turns all span choices.old.items choices.new.items) }
+    requires spans { AreApart spans.now }
+    ensures passed { (k place : ℕ) (part : APart) → from ≤ k → k < result → slice_get parts.now k ≡ Some part → IsIn part place → Holds spans.now place → ⊥ }
+    ensures on { from ≤ result }
 {
-    let from = parts.partition_point(|part| part.end <= span.start);
-    let to = parts.partition_point(|part| part.start < span.end);
-    for at in from..to {
-        let part = parts[at];
-        if is_asked(all, part.row) {
-            let start = part.start.max(span.start);
-            let end = part.end.min(span.end);
-            add_part(choices, objects, Part { start, end, ..part })?;
-        }
+    if from >= parts.len() {
+        return from;
     }
-    Ok(())
+    let begin = parts[from].start;
+    let passed = spans.partition_point(|span| span.end <= begin);
+    if passed >= spans.len() {
+        return parts.len();
+    }
+    let start = spans[passed].start;
+    from.max(parts.partition_point(|part| part.end <= start))
 }
 
-/// For each row that look-ups along the parents give from classes that may have objects, at the places of some spans, the least such class of each part that
-/// meets a span; and, where `all` is set, each such class from which they give no row.
+/// For each part that selects something and meets one of the spans, the least class that may have objects at the places of both. `leasts` has the least class
+/// of each span. It takes time with what is found, and with the number of the parts or of the spans, whichever is less: parts that meet no span are passed by
+/// searches.
 pub fn choices_in(
     alloc: Global,
     objects: &Minima,
     parts: &[Part],
-    all: bool,
     spans: &[Span],
+    leasts: &Minima,
 ) -> Result<Vec<Choice>, AllocError>
     requires parts { AreInOrder parts.now }
-    ensures { (turns : List ATurn) → TellParts objects.now turns parts.now → IfOk result (λ choices. AreChosen objects.now turns all spans.now choices.items) }
+    requires spans { AreApart spans.now }
+    requires leasts { AreLeasts objects.now spans.now leasts.now }
+    ensures { (select : ℕ → ASelection) → TellParts objects.now select parts.now → IfOk result (λ choices. AreChosen objects.now select spans.now choices.items) }
 {
     let mut choices = Vec::new(alloc);
-    for span in spans {
-        add_span(&mut choices, objects, parts, all, *span)?;
+    let mut at = 0;
+    while at < parts.len() {
+        match choice_of(objects, spans, leasts, parts[at]) {
+            Some(choice) => {
+                choices.push(choice)?;
+                at += 1;
+            }
+            None => at = next_part(parts, spans, at + 1),
+        }
     }
     Ok(choices)
 }

@@ -1,5 +1,5 @@
 //! The least number in a range of places.
-ghost use Rattle.std.specs.Prelude.{◌≡◌, ◌<◌, ◌^◌, IfOk, None, length, slice_index_or};
+ghost use Rattle.std.specs.Prelude.{◌≡◌, IfOk, length};
 ghost use Rattle.object_ranges.specs.Marks.{IsLeastOf, StandsIn, earlier};
 
 use std::alloc::{AllocError, Global};
@@ -26,7 +26,7 @@ impl Model for Minima {
 }
 
 // The lesser of two numbers, of which there may be one or none.
-fn earlier(one: Option<u32>, other: Option<u32>) -> Option<u32>
+pub(crate) fn earlier(one: Option<u32>, other: Option<u32>) -> Option<u32>
     ensures { result ≡ earlier one other }
 {
     match (one, other) {
@@ -39,7 +39,6 @@ fn earlier(one: Option<u32>, other: Option<u32>) -> Option<u32>
 impl Minima {
     /// The minima of these numbers.
     pub fn new(alloc: Global, numbers: &[Option<u32>]) -> Result<Self, AllocError>
-        requires { length numbers.now < 2 ^ 32 }
         ensures { IfOk result (λ minima. minima ≡ numbers.now) }
     {
         let count = numbers.len();
@@ -54,28 +53,18 @@ impl Minima {
     }
 
     /// How many places there are.
-    pub fn len(&self) -> u32
+    pub fn len(&self) -> usize
         ensures { result ≡ length self.now }
     {
-        self.count as u32
-    }
-
-    /// The number at this place, if there is one.
-    pub fn at(&self, place: u32) -> Option<u32>
-        ensures { result ≡ slice_index_or self.now place None }
-    {
-        if place as usize >= self.count {
-            return None;
-        }
-        self.nodes[self.count + place as usize]
+        self.count
     }
 
     /// The least of the numbers at the places from `from` up to `to`, without `to`.
-    pub fn least(&self, from: u32, to: u32) -> Option<u32>
+    pub fn least(&self, from: usize, to: usize) -> Option<u32>
         ensures { IsLeastOf (StandsIn self.now from to) result }
     {
-        let mut low = self.count + (from as usize).min(self.count);
-        let mut high = self.count + (to as usize).min(self.count);
+        let mut low = self.count + from.min(self.count);
+        let mut high = self.count + to.min(self.count);
         let mut least = None;
         while low < high {
             // What is between the first and the last node, without one of them where it has no brother there, stands below the nodes between their halves.

@@ -5,18 +5,18 @@ use Rattle.link_rules.specs.WellLinked.{IsWellLinked}
 use Rattle.link_sites.specs.declared.site.Site.{Site}
 use Rattle.spds_rules.specs.declared.node.Node.{Node}
 use Rattle.spds_rules.specs.Answers.{IsAnswered, IsShared}
-use Rattle.spds_rules.specs.Demand.{Demand, Demanded}
+use Rattle.spds_rules.specs.Demand.{Demand, Demanded, about, asked}
 use Rattle.step_rules.specs.declared.parts.Slot.TheVariants.{Local}
 use Rattle.run_covers.specs.Covers.{IsCovered}
 use Rattle.run_sound.specs.Frames.{node_of}
 use Rattle.run_sound.proofs.Simulating.{runs_answered, runs_shared}
-use Rattle.query_core.specs.Answers.{AreSharedBy, HoldsAllRuns, IsAnswerTo, SharesAllRuns, asked}
+use Rattle.query_core.specs.Answers.{AreSharedBy, HoldsAllRuns, IsAnswerTo, SharesAllRuns}
 
 module _ (p : LinkedProgram) (well : IsWellLinked p) (covered : IsCovered p) where
   -- what a local holds is of a site of its node's answer
   pub answer_sound : (n : Node) (sites : List Site) (demanded : ℕ) → IsAnswerTo p n sites demanded → HoldsAllRuns p n sites
   answer_sound n sites demanded answer count s number frame x o run holds is =
-      let q = asked (n ∷ []) in
+      let q = about n in
       let target = subst (Demand p q) is (Demanded.target (0, refl)) in
       let found = runs_answered p well covered q count s number frame x o run holds target in
       (found.0, found.1, (answer.answer.each found.0.site).1 (subst (λ (m : Node). IsAnswered p q m found.0.site) (sym is) found.2))

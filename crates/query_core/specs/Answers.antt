@@ -5,23 +5,18 @@ use Rattle.link_rules.specs.Linked.{LinkedProgram}
 use Rattle.link_sites.specs.declared.site.Site.{Site}
 use Rattle.spds_rules.specs.declared.node.Node.{Node}
 use Rattle.spds_rules.specs.declared.node.Var.TheVariants.{Local}
-use Rattle.spds_rules.specs.declared.reach.Reach.TheVariants.{Plain}
 use Rattle.spds_rules.specs.Answers.{AreAnswered, AreSites, IsShared}
-use Rattle.spds_rules.specs.Demand.{Asked, Demand}
+use Rattle.spds_rules.specs.Demand.{Demand, about, asked}
 use Rattle.spds_rules.specs.Nodes.{at}
 use Rattle.demand_set.specs.Walks.{HasAtMost}
 use Rattle.step_rules.specs.Runs.{Run}
 use Rattle.step_rules.specs.States.{Frame, HeapObject, State, place_of}
 use Rattle.run_sound.specs.Simulated.{Holds}
 
--- a query of these nodes. It needs no back edges
-abbrev pub asked : List Node → Asked
-asked nodes = record { targets = nodes; reach = Plain }
-
 -- the sites of the node's answer, in the order in which they are printed, and how many nodes the query demands
 pub record IsAnswerTo (p : LinkedProgram) (n : Node) (sites : List Site) (demanded : ℕ) : Type 0 where
-  pub answer : AreAnswered p (asked (n ∷ [])) n sites
-  pub size : Counts (Demand p (asked (n ∷ []))) demanded
+  pub answer : AreAnswered p (about n) n sites
+  pub size : Counts (Demand p (about n)) demanded
 
 -- the sites that both nodes may hold under one call string, in the order in which they are printed, and how many nodes the query of both demands
 pub record AreSharedBy (p : LinkedProgram) (a b : Node) (sites : List Site) (demanded : ℕ) : Type 0 where

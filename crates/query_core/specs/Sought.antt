@@ -4,11 +4,10 @@ use Rattle.link_rules.specs.Linked.{LinkedProgram}
 use Rattle.link_sites.specs.declared.site.Site.{Site}
 use Rattle.spds_rules.specs.declared.node.Node.{Node}
 use Rattle.spds_rules.specs.Answers.{AreSites, IsAnswered, IsShared}
-use Rattle.spds_rules.specs.Demand.{Asked, Demand}
+use Rattle.spds_rules.specs.Demand.{Asked, Demand, asked}
 use Rattle.lists.specs.Lists.{Counts}
 use Rattle.demand_set.specs.Demands.{DemandParts, IsDemandOf}
 use Rattle.spds_solve.specs.Solved.{IsSolved, SolvedParts}
-use Rattle.query_core.specs.Answers.{asked}
 
 -- the node, and the second one where there are two
 abbrev pub nodes_of : Node → Option Node → List Node

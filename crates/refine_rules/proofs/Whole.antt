@@ -21,7 +21,7 @@ use Rattle.run_sound.specs.Simulated.{Holds}
 use Rattle.run_sound.proofs.Simulating.{runs_agree, runs_answered}
 use Rattle.spds_rules.specs.declared.node.Var.TheVariants.{Local}
 use Rattle.spds_rules.specs.Answers.{IsAnswered}
-use Rattle.spds_rules.specs.Demand.{Demand, target as target_itself}
+use Rattle.spds_rules.specs.Demand.{Demand, about, target as target_itself}
 use Rattle.spds_rules.specs.Nodes.{at as node_at}
 use Rattle.std.specs.Option.{is_some}
 use Rattle.step_rules.specs.declared.parts.Slot.TheVariants as slot
@@ -31,7 +31,7 @@ use Rattle.step_rules.specs.Effects.{Effect, calls}
 use Rattle.step_rules.specs.Offers.{Offers}
 use Rattle.step_rules.specs.Runs.{Run}
 use Rattle.step_rules.specs.States.{Frame, HeapObject, Point, state_of}
-use Rattle.refine_rules.specs.Refined.{AreToKeep, GoesByObject, IsRefined, IsRefinedBy, IsSelected, none, query_of, receiver_at, round}
+use Rattle.refine_rules.specs.Refined.{AreToKeep, GoesByObject, IsRefined, IsRefinedBy, IsSelected, none, receiver_at, round}
 use Rattle.refine_rules.specs.Laws.{AreKeptBy, RefinedKeepsRuns}
 use Rattle.refine_rules.proofs.Dispatched.{IsDispatched, dispatched}
 
@@ -56,13 +56,13 @@ module _ (p : LinkedProgram) (well : IsWellLinked p) (covered : IsCovered p) (bu
           there = slice_get-push at.below at.top;
           holds = subst (λ y. local_of at.top y ≡ Some (Object d.o)) same d.holds;
         } in
-        let asked = subst (λ m. Demand p (query_of n) m) (sym node) (target_itself (0, refl)) in
-        let found = runs_answered p well covered (query_of n) count (state_of at) (length at.below) at.top x d.o run holds asked in
+        let asked = subst (λ m. Demand p (about n) m) (sym node) (target_itself (0, refl)) in
+        let found = runs_answered p well covered (about n) count (state_of at) (length at.below) at.top x d.o run holds asked in
         let object : found.0 ≡ d.object = let a = found.1 in let b = d.there in cc (a, b) in
-        let answered = subst (λ m. IsAnswered p (query_of n) m found.0.site) node found.2 in
+        let answered = subst (λ m. IsAnswered p (about n) m found.0.site) node found.2 in
         record {
           site = d.object.site;
-          answered = subst (λ (o : HeapObject). IsAnswered p (query_of n) n o.site) object answered;
+          answered = subst (λ (o : HeapObject). IsAnswered p (about n) n o.site) object answered;
           from = d.object.class;
           of_class = (runs_agree p well covered count (state_of at) run).classes d.object (d.o, d.there);
           below = d.below;

@@ -1,6 +1,6 @@
 -- Which targets the answers of receivers lead to, and what is left after so many rounds. This is this project's own, over the answers of Späth, Ali and
 -- Bodden 2019.
-use Rattle.std.specs.Prelude.{◌≡◌, ℕ, zero, suc, ◌↔◌, ◌⊎◌, List, [], ◌∷◌, Some, slice_get}
+use Rattle.std.specs.Prelude.{◌≡◌, ℕ, zero, suc, ◌↔◌, ◌⊎◌, List, Some, slice_get}
 use Rattle.class_rules.specs.Lookups.{Resolve}
 use Rattle.class_rules.specs.Rows.{Sub}
 use Rattle.jim_ast.specs.declared.syntax.Mode.{Mode}
@@ -14,15 +14,10 @@ use Rattle.narrow_rules.specs.declared.kept.Kept.{Kept}
 use Rattle.narrow_rules.specs.Narrowed.{IsKept, IsNarrowed}
 use Rattle.spds_rules.specs.declared.node.Node.{Node}
 use Rattle.spds_rules.specs.declared.node.Var.TheVariants.{Local}
-use Rattle.spds_rules.specs.declared.reach.Reach.TheVariants.{Plain}
 use Rattle.spds_rules.specs.Answers.{IsAnswered}
-use Rattle.spds_rules.specs.Demand.{Asked, Demand}
+use Rattle.spds_rules.specs.Demand.{Demand, about}
 use Rattle.lists.specs.Lists.{HasMore}
 use Rattle.spds_rules.specs.Nodes.{at}
-
--- a query of the node alone. It needs no back edges
-abbrev pub query_of : Node → Asked
-query_of n = record { targets = n ∷ []; reach = Plain }
 
 -- the node of the receiver of the call at an index of a method
 abbrev pub receiver_at : ℕ → ℕ → ℕ → Node
@@ -38,7 +33,7 @@ GoesByObject Static = ⊥
 -- an object of a site that the query of the node answers is of the class that is called or of one below it, and look-up from there finds the target
 pub record IsSelected (p : LinkedProgram) (n : Node) (class key target : ℕ) : Type 0 where
   pub site : Site
-  pub answered : IsAnswered p (query_of n) n site
+  pub answered : IsAnswered p (about n) n site
   pub from : ℕ
   pub of_class : IsSiteClass p site from
   pub below : Sub p.rows from class
@@ -52,7 +47,7 @@ pub record IsToKeep (p : LinkedProgram) (budget number index target : ℕ) : Typ
   pub goes : GoesByObject has.mode
   pub x : ℕ
   pub receiver : has.receiver ≡ Some x
-  pub stays : HasMore (Demand p (query_of (receiver_at number index x))) budget ⊎ IsSelected p (receiver_at number index x) has.class has.key target
+  pub stays : HasMore (Demand p (about (receiver_at number index x))) budget ⊎ IsSelected p (receiver_at number index x) has.class has.key target
 
 -- these are the targets that calls on objects keep
 abbrev pub AreToKeep : LinkedProgram → ℕ → List Kept → Type 0

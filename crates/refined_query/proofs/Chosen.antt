@@ -14,10 +14,9 @@ use Rattle.link_sites.specs.declared.site.Site.{Site}
 use Rattle.link_sites.specs.Sites.{IsSiteClass}
 use Rattle.spds_nodes.proofs.Named.{IsSiteClass-below}
 use Rattle.refined_query.specs.Selecting.{IsChosen, IsFoundFrom, StaysFor}
-use Rattle.refine_rules.specs.Refined.{query_of}
 use Rattle.spds_rules.specs.declared.node.Node.{Node}
 use Rattle.spds_rules.specs.Answers.{AreAnswered}
-use Rattle.spds_rules.specs.Demand.{Demand}
+use Rattle.spds_rules.specs.Demand.{Demand, about}
 
 -- by a look-up
 pub has_there : (keys : List ℕ) (x : ℕ) (r : Option ℕ) (b : Bool) → ((i : ℕ) → (r ≡ Some i) ↔ (slice_get keys i ≡ Some x)) → b ≡ is_some r
@@ -123,7 +122,7 @@ added_none old r is target = ((λ has. inl has), λ either. elim either [ inl ha
 
 -- what is chosen of an answer is what stays, where the query doesn't demand more nodes than the budget allows
 pub stays_is : (p : LinkedProgram) (budget : ℕ) (n : Node) (class key target : ℕ) (sites : List Site) (keys : List ℕ)
-    → AreAnswered p (query_of n) n sites → (HasMore (Demand p (query_of n)) budget → ⊥) → (Has keys target ↔ IsChosen p sites class key target)
+    → AreAnswered p (about n) n sites → (HasMore (Demand p (about n)) budget → ⊥) → (Has keys target ↔ IsChosen p sites class key target)
     → Has keys target ↔ StaysFor p budget n class key target
 stays_is p budget n class key target sites keys are within finds = (
   (λ has. (let c = finds.0 has in

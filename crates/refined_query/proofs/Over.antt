@@ -6,11 +6,10 @@ use Rattle.demand_set.specs.Walks.{HasAtMost}
 use Rattle.link_rules.specs.declared.code.Code.{Code}
 use Rattle.link_rules.specs.Linked.{LinkedMethod, LinkedProgram}
 use Rattle.link_sites.specs.declared.site.Site.{Site}
-use Rattle.refine_rules.specs.Refined.{query_of}
 use Rattle.spds_laws.proofs.Within.{fields_within}
 use Rattle.spds_rules.specs.declared.node.Node.{Node}
 use Rattle.spds_rules.specs.Answers.{AreAnswered}
-use Rattle.spds_rules.specs.Demand.{Demand}
+use Rattle.spds_rules.specs.Demand.{Demand, about}
 use Rattle.lists.specs.Lists.{HasMore}
 use Rattle.spds_rules.specs.Nodes.{IsNode}
 use Rattle.spds_rules.specs.Systems.{Meets}
@@ -48,7 +47,7 @@ module _ (q : LinkedProgram) (n : Node) where
     pub lost_answer : (sites : List Site) → sites ≡ [] → IsAnswerOver q n sites 0
     lost_answer sites none = rw none (record {
       answer = record {
-        each = λ o. (λ has. let e = has.1 in cc, λ a. absurd (no (fields_within q (query_of n) (Meets q (query_of n)) o a.0).0));
+        each = λ o. (λ has. let e = has.1 in cc, λ a. absurd (no (fields_within q (about n) (Meets q (about n)) o a.0).0));
         ordered = λ i j d less within. absurd (omega (arith, less, within));
       };
       size = ([], record { each = λ x has. let e = has.1 in cc; all = λ x is. absurd (no is.0); apart = λ i j x e f. cc }, refl);
@@ -62,7 +61,7 @@ module _ (q : LinkedProgram) (n : Node) where
 
   module _ (is : IsNode q n) where
     -- what is demanded is its query's demand
-    pub stands_answer : (sites : List Site) (demanded : ℕ) (d : DemandParts) → AreAnswered q (query_of n) n sites → IsDemandOf q (query_of n) d
+    pub stands_answer : (sites : List Site) (demanded : ℕ) (d : DemandParts) → AreAnswered q (about n) n sites → IsDemandOf q (about n) d
         → demanded ≡ length d.nodes → IsAnswerOver q n sites demanded
     stands_answer sites demanded d answer demand size = record {
       answer = answer;
@@ -73,11 +72,11 @@ module _ (q : LinkedProgram) (n : Node) where
       );
     }
 
-    pub stands_more : (budget : ℕ) → HasMore (IsDemandedBy q n) budget → HasMore (Demand q (query_of n)) budget
+    pub stands_more : (budget : ℕ) → HasMore (IsDemandedBy q n) budget → HasMore (Demand q (about n)) budget
     stands_more budget more = record { some = more.some; each = λ x has. (more.each x has).1; apart = more.apart; more = more.more }
 
-    pub more_stands : (budget : ℕ) → HasMore (Demand q (query_of n)) budget → HasMore (IsDemandedBy q n) budget
+    pub more_stands : (budget : ℕ) → HasMore (Demand q (about n)) budget → HasMore (IsDemandedBy q n) budget
     more_stands budget more = record { some = more.some; each = λ x has. (is, more.each x has); apart = more.apart; more = more.more }
 
-    pub stands_few : (budget : ℕ) → HasAtMost (IsDemandedBy q n) budget → HasAtMost (Demand q (query_of n)) budget
+    pub stands_few : (budget : ℕ) → HasAtMost (IsDemandedBy q n) budget → HasAtMost (Demand q (about n)) budget
     stands_few budget few = record { some = few.some; all = λ x demanded. few.all x (is, demanded); few = few.few }

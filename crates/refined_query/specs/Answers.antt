@@ -5,20 +5,20 @@ use Rattle.link_rules.specs.Linked.{LinkedProgram}
 use Rattle.link_sites.specs.declared.site.Site.{Site}
 use Rattle.demand_set.specs.Walks.{HasAtMost}
 use Rattle.narrow_rules.specs.Narrowed.{LacksPairs}
-use Rattle.refine_rules.specs.Refined.{IsRefinedBy, query_of}
+use Rattle.refine_rules.specs.Refined.{IsRefinedBy}
 use Rattle.spds_rules.specs.declared.node.Node.{Node}
 use Rattle.spds_rules.specs.Answers.{AreAnswered}
-use Rattle.spds_rules.specs.Demand.{Demand}
+use Rattle.spds_rules.specs.Demand.{Demand, about}
 use Rattle.lists.specs.Lists.{Counts, HasMore}
 use Rattle.spds_rules.specs.Nodes.{IsNode}
 
 -- the query of the node demands the other one: where the node's method has lost its statements, it is no node any more, and nothing is demanded
 abbrev pub IsDemandedBy : LinkedProgram → Node → Node → Type 0
-IsDemandedBy q n other = IsNode q n × Demand q (query_of n) other
+IsDemandedBy q n other = IsNode q n × Demand q (about n) other
 
 -- the node's answer over a program that is left: the sites, in the order in which they are printed, and how many nodes its query demands there
 pub record IsAnswerOver (q : LinkedProgram) (n : Node) (sites : List Site) (demanded : ℕ) : Type 0 where
-  pub answer : AreAnswered q (query_of n) n sites
+  pub answer : AreAnswered q (about n) n sites
   pub size : Counts (IsDemandedBy q n) demanded
 
 -- The node's answer over the program that so many rounds leave, and how many pairs of a call and a target of the first program are gone from it.

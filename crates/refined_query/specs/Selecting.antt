@@ -7,9 +7,9 @@ use Rattle.link_rules.specs.Linked.{LinkedProgram}
 use Rattle.link_sites.specs.declared.site.Site.{Site}
 use Rattle.link_sites.specs.Sites.{IsSiteClass}
 use Rattle.lists.specs.Numbers.{Numbers}
-use Rattle.refine_rules.specs.Refined.{IsSelected, query_of}
+use Rattle.refine_rules.specs.Refined.{IsSelected}
 use Rattle.spds_rules.specs.declared.node.Node.{Node}
-use Rattle.spds_rules.specs.Demand.{Demand}
+use Rattle.spds_rules.specs.Demand.{Demand, about}
 
 -- an object of the site is of the class that is called or of one below it, and look-up from there finds the target
 pub record IsFoundFrom (p : LinkedProgram) (s : Site) (class key target : ℕ) : Type 0 where
@@ -31,4 +31,4 @@ IsAmong None target = Unit {0}
 
 -- what stays of a call on what the node holds
 abbrev pub StaysFor : LinkedProgram → ℕ → Node → ℕ → ℕ → ℕ → Type 0
-StaysFor p budget n class key target = HasMore (Demand p (query_of n)) budget ⊎ IsSelected p n class key target
+StaysFor p budget n class key target = HasMore (Demand p (about n)) budget ⊎ IsSelected p n class key target

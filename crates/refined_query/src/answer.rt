@@ -5,7 +5,7 @@ ghost use Rattle.demand_set.specs.Walks.{HasAtMost};
 ghost use Rattle.link_rules.specs.WellLinked.{IsWellLinked};
 ghost use Rattle.query_core.specs.Answers.{HoldsAllRuns};
 ghost use Rattle.narrow_rules.specs.Narrowed.{LacksPairs, pairs_in};
-ghost use Rattle.refine_rules.specs.Refined.{query_of};
+ghost use Rattle.spds_rules.specs.Demand.{about};
 ghost use Rattle.refined_query.specs.Answers.{IsAnswerOver, IsDemandedBy, IsRefinedAffordable, IsRefinedAnswer, IsRefinedOver};
 ghost use Rattle.refined_query.specs.Rounds.{StandsOrIsLost};
 ghost use Rattle.run_covers.specs.Covers.{IsCovered};
@@ -52,9 +52,9 @@ fn found_over<R: Threads + Sync, G: Gate>(
     node: Node,
 ) -> Result<Found, NoMemory>
     requires well { IsWellLinked linked.now }
-    requires demanded { IsDemandOf linked.now (query_of node) demand.now }
+    requires demanded { IsDemandOf linked.now (about node) demand.now }
     requires few { length demand.now.nodes < 2 ^ 32 }
-    ensures sites { IfOk result (λ found. AreAnswered linked.now (query_of node) node found.sites) }
+    ensures sites { IfOk result (λ found. AreAnswered linked.now (about node) node found.sites) }
     ensures size { IfOk result (λ found. found.demanded ≡ length demand.now.nodes) }
 {
     let sites = sites_over(hands, linked, demand, node)?;

@@ -27,6 +27,7 @@ use Rattle.track_systems.specs.Laws.{IsAmongSixteen}
 use Rattle.track_systems.specs.Values.{IsWeight}
 use Rattle.track_systems.specs.Weights.{Anywhere, IsInside, May, Sends, Within}
 use Rattle.track_systems.specs.Weights as weights
+use Rattle.track_systems.proofs.Few.{goes_few, sends_few}
 use Rattle.weight_laws.proofs.Meaning.{meaning}
 use Rattle.weight_laws.specs.declared.rel.Rel.{Rel}
 use Rattle.weight_laws.specs.Rel.{Relates, rel_domain}
@@ -261,21 +262,14 @@ module _ (p : LinkedProgram) (k : ProtocolParts) (q : Asked) (a : Site) where
     abbrev pub IsStep : Type 0
     IsStep = (i j : ℕ) → i < 16 → Relates u i j ↔ ((c : Place) × Where c × May p k q a c × Goes p k c i j)
 
-    goes_low : (c : Place) (i j : ℕ) → Goes p k c i j → j < 16
-    goes_low c i j goes = let row = sixteen (record { from = i; event = goes.0; to = j }) goes.3 in row.1
-
-    sends_low : (i j : ℕ) → i < 16 → Sends p k q a Where i j → j < 16
-    sends_low i j h weights.none = h
-    sends_low i j h (weights.more {c} {j = from} way there may goes) = goes_low c from j goes
-
     leads_low : IsStep → (i j : ℕ) → i < 16 → Leads (Relates u) i j → j < 16
     leads_low step i j h leading.none = h
-    leads_low step i j h (leading.more {j = from} way then) = let g = (step from j (leads_low step i from h way)).0 then in goes_low g.0 from j g.3
+    leads_low step i j h (leading.more {j = from} way then) = let g = (step from j (leads_low step i from h way)).0 then in goes_few p k q a sixteen g.0 from j g.3
 
     sends_lead : IsStep → (i j : ℕ) → i < 16 → Sends p k q a Where i j → Leads (Relates u) i j
     sends_lead step i j h weights.none = leading.none
     sends_lead step i j h (weights.more {c} {j = from} way there may goes) =
-        leading.more (sends_lead step i from h way) ((step from j (sends_low i from h way)).1 (c, there, may, goes))
+        leading.more (sends_lead step i from h way) ((step from j (sends_few p k q a sixteen h way)).1 (c, there, may, goes))
 
     lead_sends : IsStep → (i j : ℕ) → i < 16 → Leads (Relates u) i j → Sends p k q a Where i j
     lead_sends step i j h leading.none = weights.none

@@ -16,6 +16,7 @@ use Rattle.track_systems.specs.Settled.{CallAt, IsKept, IsPassedTo, IsSettled, I
 use Rattle.track_systems.specs.Values.{IsWeight}
 use Rattle.track_systems.specs.Weights.{Across, Changes, InFlight, May, Owns, Sends, Within}
 use Rattle.track_systems.specs.Weights as weights
+use Rattle.track_systems.proofs.Few.{owns_few}
 use Rattle.weight_laws.specs.declared.rel.Rel.{Rel}
 use Rattle.weight_laws.specs.Rel.{rel_domain}
 use Rattle.site_events.specs.Passed.{HasOtherReceiver}
@@ -89,17 +90,11 @@ module _ (p : LinkedProgram) (k : ProtocolParts) (q : Asked) (a : Site) where
       owns_either may,
     ))
 
-    -- the state between is among the sixteen
-    owns_few : IsAmongSixteen k → {i j : ℕ} → i < 16 → Owns p k q a c v i j → j < 16
-    owns_few few low (weights.never h) = low
-    owns_few few low (weights.other h) = low
-    owns_few few low (weights.event may goes) = (few _ goes.3).1
-
     pub across_weight : {x y : Rel} → IsAmongSixteen k → IsWeight x (Owns p k q a c v) → IsWeight y (Sends p k q a (Within p c))
         → IsWeight (rel_domain.extend x y) (Across p k q a c v)
     across_weight few first second = weight_same (weight_then first second) (λ i j low small. (
       λ h. record { between = h.0; owns = h.2; inside = h.3 },
-      λ h. (h.between, owns_few few low h.owns, h.owns, h.inside),
+      λ h. (h.between, owns_few p k q a few low h.owns, h.owns, h.inside),
     ))
 
   module _ (b n : Node) where

@@ -1,12 +1,13 @@
 -- What a query needs to look at, found backwards from what it asks for (Späth, Ali and Bodden 2019).
-use Rattle.std.specs.Prelude.{◌≡◌, ℕ, ◌<◌, List, length}
-use Rattle.lists.specs.Lists.{Has, IsApart}
+use Rattle.std.specs.Prelude.{◌≡◌, ℕ, List, [], ◌∷◌}
+use Rattle.lists.specs.Lists.{Has}
 use Rattle.link_rules.specs.Linked.{LinkedProgram}
 use Rattle.link_sites.specs.declared.site.Site.{Site}
 use Rattle.spds_rules.specs.declared.edge.EdgeKind.{EdgeKind}
 use Rattle.spds_rules.specs.declared.edge.EdgeKind.TheVariants.{Load}
 use Rattle.spds_rules.specs.declared.node.Node.{Node}
 use Rattle.spds_rules.specs.declared.reach.Reach.{Reach}
+use Rattle.spds_rules.specs.declared.reach.Reach.TheVariants.{Plain}
 use Rattle.spds_rules.specs.declared.store.StoreAt.{StoreAt}
 use Rattle.spds_rules.specs.Edges.{IsEdge}
 use Rattle.spds_rules.specs.Nodes.{IsStart}
@@ -33,6 +34,14 @@ pub record IsFieldDemanded (Edges : Node → EdgeKind → Node → Type 0) (Stor
 pub record Asked : Type 0 where
   pub targets : List Node
   pub reach : Reach
+
+-- a query of these nodes. It needs no back edges
+abbrev pub asked : List Node → Asked
+asked nodes = record { targets = nodes; reach = Plain }
+
+-- of one node
+abbrev pub about : Node → Asked
+about n = asked (n ∷ [])
 
 -- the nodes that the query demands
 abbrev pub Demand : LinkedProgram → Asked → Node → Type 0

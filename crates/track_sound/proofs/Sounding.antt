@@ -19,7 +19,8 @@ use Rattle.track_systems.specs.Events.{IsAskedBy}
 use Rattle.track_systems.specs.Findings.{HasNoFinding}
 use Rattle.track_systems.specs.Track.{Tracks}
 use Rattle.track_systems.specs.Weights.{Anywhere, Sends}
-use Rattle.track_systems.proofs.Leading.{tracks_few, values_leading}
+use Rattle.track_systems.proofs.Few.{tracks_few}
+use Rattle.track_systems.proofs.Leading.{values_leading}
 use Rattle.weight_laws.proofs.Meaning.{meaning}
 use Rattle.track_sound.specs.Recalled.{recalled}
 use Rattle.track_sound.specs.Sound.{AreAllSent, HasAllSent, HasValuesAbove, HasWeightsAbove, IsAbove, IsAboveRuns, IsSafeWithoutFindings, LinksAreTrackSound}
@@ -96,7 +97,7 @@ weights_are_above p well covered k q few asked count s run states watched number
       is.1,
       λ from o object value holds there tracked demanded is_value.
           let h = is.2 from o object holds there tracked demanded in
-          let low = tracks_few meaning p k q object.site few h.2 in
+          let low = tracks_few p k q object.site few h.2 in
           (h.0, h.1, (values_leading meaning p k q object.site (node_of frame from) (string_of s.frames number) value h.0 few low is_value).1 h.2),
     )
 

@@ -18,6 +18,7 @@ use Rattle.track_systems.specs.Values.{Derives, DerivesAny}
 use Rattle.track_systems.specs.Values as values
 use Rattle.track_systems.specs.Weights.{Across, Anywhere, Changes, Owns, Sends}
 use Rattle.track_systems.specs.Weights as weights
+use Rattle.track_systems.proofs.Few.{changes_few, owns_few, sends_few, tracks_few}
 use Rattle.track_systems.proofs.Weighing.{CanBe, weight_can_be}
 use Rattle.weight_laws.specs.declared.rel.Rel.{Rel}
 use Rattle.weight_laws.specs.Law.{Leq}
@@ -63,37 +64,6 @@ module _ (meaning : HasMeaning) where
         subst (λ (j : ℕ). Tracks p k q a n string j) (sym is) (track.leaves edge (derived d over.0 over.1 over.2))
 
     module _ (few : IsAmongSixteen k) where
-      -- states stay among the sixteen
-      goes_few : (c : Place) (i j : ℕ) → Goes p k c i j → j < 16
-      goes_few c i j goes = (few _ goes.3).1
-
-      sends_few : {Where : Place → Type 0} {i j : ℕ} → i < 16 → Sends p k q a Where i j → j < 16
-      sends_few low weights.none = low
-      sends_few low (weights.more {c} {j} {l} sends is may goes) = goes_few c j l goes
-
-      owns_few : {c : Place} {v : Var} {i j : ℕ} → i < 16 → Owns p k q a c v i j → j < 16
-      owns_few low (weights.never h) = low
-      owns_few low (weights.other h) = low
-      owns_few {c} {v} {i} low (weights.event {j} may goes) = goes_few c i j goes
-
-      across_few : {c : Place} {v : Var} {i j : ℕ} → i < 16 → Across p k q a c v i j → j < 16
-      across_few low h = sends_few (owns_few low h.owns) h.inside
-
-      changes_few : {b n : Node} {i j : ℕ} → i < 16 → Changes p k q a b n i j → j < 16
-      changes_few low (weights.elsewhere h) = low
-      changes_few low (weights.kept call h over) = across_few low over
-      changes_few low (weights.unsettled call h over) = across_few low over
-      changes_few low (weights.unsettled_null call h flies) = low
-      changes_few low (weights.settled_null call h flies is apart) = low
-
-      pub tracks_few : {n : Node} {string : List Place} {i : ℕ} → Tracks p k q a n string i → i < 16
-      tracks_few (track.fresh start made is) = omega arith
-      tracks_few (track.constant start made is sends) = sends_few (omega arith) sends
-      tracks_few (track.loaded edge is_loaded answered is sends) = sends_few (omega arith) sends
-      tracks_few (track.flows edge tracks changes) = changes_few (tracks_few tracks) changes
-      tracks_few (track.enters edge tracks owns) = owns_few (tracks_few tracks) owns
-      tracks_few (track.leaves edge tracks) = tracks_few tracks
-
       -- a derivation that leads there
       abbrev IsDerived : Node → List Place → ℕ → Type 0
       IsDerived n string i = (w : Rel) × Derives p k q a n string w × Relates w 0 i
@@ -103,19 +73,19 @@ module _ (meaning : HasMeaning) where
       tracked (track.fresh start made is) = λ fails.
           fails (rel_domain.one, values.fresh start made is, (meaning.one 0 0 (omega arith)).1 refl)
       tracked (track.constant {i} start made is sends) = λ fails. weight_can_be (Sends p k q a Anywhere) (λ w.
-          fails (w.0, values.constant start made is w.1, (w.1.each 0 i (omega arith) (sends_few (omega arith) sends)).1 sends))
+          fails (w.0, values.constant start made is w.1, (w.1.each 0 i (omega arith) (sends_few p k q a few (omega arith) sends)).1 sends))
       tracked (track.loaded {i} edge is_loaded answered is sends) = λ fails. weight_can_be (Sends p k q a Anywhere) (λ w.
-          fails (w.0, values.loaded edge is_loaded answered is w.1, (w.1.each 0 i (omega arith) (sends_few (omega arith) sends)).1 sends))
+          fails (w.0, values.loaded edge is_loaded answered is w.1, (w.1.each 0 i (omega arith) (sends_few p k q a few (omega arith) sends)).1 sends))
       tracked (track.flows {b} {n} {string} {i} {j} edge tracks changes) = λ fails. tracked tracks (λ d. weight_can_be (Changes p k q a b n) (λ w.
-          let low = tracks_few tracks in
-          let step : Relates w.0 i j = (w.1.each i j low (changes_few low changes)).1 changes in
+          let low = tracks_few p k q a few tracks in
+          let step : Relates w.0 i j = (w.1.each i j low (changes_few p k q a few low changes)).1 changes in
           fails (rel_domain.extend d.0 w.0, values.flows edge d.1 w.1, (meaning.extend d.0 w.0 0 j (omega arith)).1 (i, low, d.2, step))))
       tracked (track.enters {b} {n} {call} {string} {i} {j} edge tracks owns) = λ fails. tracked tracks (λ d. weight_can_be (Owns p k q a call b.var) (λ w.
-          let low = tracks_few tracks in
-          let step : Relates w.0 i j = (w.1.each i j low (owns_few low owns)).1 owns in
+          let low = tracks_few p k q a few tracks in
+          let step : Relates w.0 i j = (w.1.each i j low (owns_few p k q a few low owns)).1 owns in
           fails (rel_domain.extend d.0 w.0, values.enters edge d.1 w.1, (meaning.extend d.0 w.0 0 j (omega arith)).1 (i, low, d.2, step))))
       tracked (track.leaves {i} edge tracks) = λ fails. tracked tracks (λ d.
-          let low = tracks_few tracks in
+          let low = tracks_few p k q a few tracks in
           let step : Relates rel_domain.one i i = (meaning.one i i low).1 refl in
           fails (rel_domain.extend d.0 rel_domain.one, values.leaves edge d.1, (meaning.extend d.0 rel_domain.one 0 i (omega arith)).1 (i, low, d.2, step)))
 

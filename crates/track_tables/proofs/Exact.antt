@@ -22,7 +22,7 @@ use Rattle.track_rules.specs.Protocols.{ProtocolParts}
 use Rattle.track_systems.specs.Laws.{IsAmongSixteen}
 use Rattle.track_systems.specs.Track.{Tracks}
 use Rattle.track_systems.specs.Track as track
-use Rattle.track_systems.proofs.Leading.{tracks_few}
+use Rattle.track_systems.proofs.Few.{tracks_few}
 use Rattle.weight_laws.proofs.Meaning.{meaning}
 use Rattle.track_tables.specs.Systems.{Begins, IsBeginning, IsCrossStep, IsEdgeStep, IsTrackSystem, LeadsAlong}
 use Rattle.track_tables.specs.Systems as systems
@@ -197,7 +197,7 @@ module _ (p : LinkedProgram) (k : ProtocolParts) (q : Asked) (a : Site) (d : Dem
 
   module _ (few : IsAmongSixteen k) where
     low_of : {n : Node} {string : List Place} {i : ℕ} → Tracks p k q a n string i → i < 16
-    low_of tracks = tracks_few meaning p k q a few tracks
+    low_of tracks = tracks_few p k q a few tracks
 
     -- what is tracked is led to
     thread : {n : Node} {string : List Place} {i : ℕ} → Tracks p k q a n string i → IsThread n string i

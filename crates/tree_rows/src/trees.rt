@@ -3,7 +3,8 @@ ghost use Rattle.std.specs.Prelude.{◌≡◌, ◌^◌, ◌<◌, length, All, If
 
 use class_rules::{BodyKind, ClassRow, FieldRow, MethodRow};
 use class_tree::{Defaults, Tree, TreeError, build};
-use std::alloc::Global;
+use default_turns::{DefaultTurn, default_turns};
+use std::alloc::{AllocError, Global};
 use std::test::Fail;
 
 const TOP: ClassRow = ClassRow {
@@ -294,6 +295,40 @@ fn are_alone(tree: &Tree) -> bool
     diamond && native && bodiless_in_class && off_path && nowhere
 }
 
+fn are_same(one: Defaults, other: Defaults) -> bool {
+    match (one, other) {
+        (Defaults::Nothing, Defaults::Nothing) | (Defaults::Several, Defaults::Several) => true,
+        (Defaults::One(row), Defaults::One(other_row)) => row == other_row,
+        _ => false,
+    }
+}
+
+// What turns tell at a place.
+fn told(turns: &[DefaultTurn], place: u32) -> Defaults {
+    let mut last = Defaults::Nothing;
+    for turn in turns {
+        if turn.at <= place {
+            last = turn.defaults;
+        }
+    }
+    last
+}
+
+// By places the same is told as class by class.
+fn are_told(alloc: Global, tree: &Tree, key: u32) -> Result<bool, AllocError>
+    requires { length tree.now.classes ≡ 9 }
+{
+    let layout = tree.layout();
+    let turns = default_turns(alloc, tree, layout, key)?;
+    for class in 0..9 {
+        let by_place = told(turns.as_slice(), layout.places[class as usize]);
+        if !are_same(by_place, tree.defaults(class, key)) {
+            return Ok(false);
+        }
+    }
+    Ok(true)
+}
+
 const DEFAULTS: [MethodRow; 13] = [
     MethodRow {
         class: 1,
@@ -372,6 +407,30 @@ fn defaults_hold(alloc: Global) -> Result<bool, TreeError> {
 #[test]
 fn defaults(rt: HostRuntime) -> Result<(), Fail> {
     assert!(rt; defaults_hold(rt.alloc())?);
+    Ok(())
+}
+
+fn all_are_told(alloc: Global, tree: &Tree) -> Result<bool, AllocError>
+    requires { length tree.now.classes ≡ 9 }
+{
+    for key in 10..18 {
+        if !are_told(alloc, tree, key)? {
+            return Ok(false);
+        }
+    }
+    Ok(true)
+}
+
+fn turns_hold(alloc: Global) -> Result<bool, TreeError> {
+    match of_interfaces(alloc, &DEFAULTS) {
+        Ok(tree) => Ok(all_are_told(alloc, &tree)?),
+        Err(error) => Err(error),
+    }
+}
+
+#[test]
+fn defaults_by_places(rt: HostRuntime) -> Result<(), Fail> {
+    assert!(rt; turns_hold(rt.alloc())?);
     Ok(())
 }
 

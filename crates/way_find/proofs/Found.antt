@@ -1,11 +1,13 @@
 -- What a search has found grows at its end, and tells a way to each element.
 use Rattle.std.proofs.Common.{◌≡◌, ◌⊎◌, ◌∙◌, ℕ, zero, suc, ◌+◌, ◌-◌, ◌<◌, ◌≤◌, List, [], ◌∷◌, ◌++◌, Some, length, slice_get, take, reverse, refl, sym, ap, subst, inl, inr, arith, append_assoc, length-append}
 use Rattle.std.proofs.lemmas.List.{append-nil, reverse-append}
+use Rattle.lists.specs.Grown.{IsLonger}
 use Rattle.lists.specs.Lists.{Has}
+use Rattle.lists.proofs.Grown.{got_longer, got_shorter, has_longer, longer_push}
 use Rattle.lists.proofs.Places.{slice_get-append_left, slice_get-below, slice_get-pushed, slice_get-there, take-next}
 use Rattle.way_find.specs.declared.seen.Back.{Back}
 use Rattle.way_find.specs.declared.ways.Step.{Step}
-use Rattle.way_find.specs.Seen.{AreBacks, AreBegun, IsBack, IsClosed, IsLonger, LeadsTo}
+use Rattle.way_find.specs.Seen.{AreBacks, AreBegun, IsBack, IsClosed, LeadsTo}
 use Rattle.way_find.specs.Ways.{Leads}
 
 place_cases : (i at : ℕ) → i < at + 1 → (i < at) ⊎ (i ≡ at)
@@ -15,31 +17,6 @@ place_cases (suc i) zero low = absurd (omega arith)
 place_cases (suc i) (suc at) low = elim (place_cases i at (omega arith)) [ inl a ↦ inl (omega arith) | inr b ↦ inr (ap suc b) ]
 
 module _ {V : Type 0} where
-  pub longer_none : (xs : List V) → IsLonger xs xs
-  longer_none xs = ([], sym (append-nil xs))
-
-  pub longer_push : (xs : List V) (x : V) → IsLonger xs (xs ++ x ∷ [])
-  longer_push xs x = (x ∷ [], refl)
-
-  pub longer_more : (a b c : List V) → IsLonger a b → IsLonger b c → IsLonger a c
-  longer_more a b c first second =
-      (first.0 ++ second.0, second.1 ∙ ap (λ (xs : List V). xs ++ second.0) first.1 ∙ append_assoc a first.0 second.0)
-
-  pub got_longer : (old new : List V) → IsLonger old new → (i : ℕ) (x : V) → slice_get old i ≡ Some x → slice_get new i ≡ Some x
-  got_longer old new longer i x h =
-      subst (λ (xs : List V). slice_get xs i ≡ Some x) (sym longer.1) (slice_get-append_left old longer.0 i x h)
-
-  pub has_longer : (old new : List V) → IsLonger old new → (x : V) → Has old x → Has new x
-  has_longer old new longer x has = (has.0, got_longer old new longer has.0 x has.1)
-
-  -- an element of the front of a longer list stands in the front
-  pub got_shorter : (old new : List V) → IsLonger old new → (i : ℕ) (x : V) → i < length old → slice_get new i ≡ Some x → slice_get old i ≡ Some x
-  got_shorter old new longer i x low h =
-      let there = slice_get-there old i low in
-      let again = got_longer old new longer i there.0 there.1 in
-      let same : there.0 ≡ x = cc in
-      there.1 ∙ ap Some same
-
   -- one start more
   pub begun_next : (starts : List (Step V)) (i : ℕ) (s : Step V) (old new : List V) (number : ℕ) → slice_get starts i ≡ Some s → IsLonger old new
       → AreBegun (take i starts) old → slice_get new number ≡ Some s.to → AreBegun (take (i + 1) starts) new

@@ -23,10 +23,6 @@ pub record AreBacks {V : Type 0} (Goes : V → ℕ → V → Type 0) (starts : L
   pub as_many : length backs ≡ length seen
   pub each : (i : ℕ) (back : Back) (to : V) → slice_get backs i ≡ Some back → slice_get seen i ≡ Some to → IsBack Goes starts seen i back to
 
--- the list grew at its end
-abbrev pub IsLonger : {V : Type 0} → List V → List V → Type 0
-IsLonger {V} old new = (more : List V) × (new ≡ old ++ more)
-
 -- steps with these labels lead to the element at the place
 abbrev pub LeadsTo : {V : Type 0} → (V → ℕ → V → Type 0) → List (Step V) → List V → ℕ → List ℕ → Type 0
 LeadsTo {V} Goes starts seen i labels = (to : V) → slice_get seen i ≡ Some to → Leads Goes starts labels to

@@ -1,7 +1,8 @@
 //! The search.
 ghost use Rattle.std.specs.Prelude.{◌≡◌, ◌+◌, ◌<◌, ◌^◌, ℕ, List, [], length, slice_get, IfNone, IfOk, IfSome, OnOk, Some};
 ghost use Rattle.lists.specs.Lists.{Has};
-ghost use Rattle.way_find.specs.Seen.{AreBacks, AreBegun, IsLonger};
+ghost use Rattle.lists.specs.Grown.{IsLonger};
+ghost use Rattle.way_find.specs.Seen.{AreBacks, AreBegun};
 ghost use Rattle.way_find.specs.Ways.{LeadsToGoal};
 ghost use Rattle.way_find.specs.declared.ways.Step.{Step as AnyStep};
 

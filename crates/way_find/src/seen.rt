@@ -1,6 +1,7 @@
 //! What a search has found.
 ghost use Rattle.std.specs.Prelude.{◌≡◌, ◌<◌, [], length, slice_get, IfOk, OnOk, Some};
-ghost use Rattle.way_find.specs.Seen.{AreBacks, IsBack, IsLonger, LeadsTo};
+ghost use Rattle.lists.specs.Grown.{IsLonger};
+ghost use Rattle.way_find.specs.Seen.{AreBacks, IsBack, LeadsTo};
 
 use super::ways::{Step, Ways};
 use lists::{Key, Numbered};

@@ -2,11 +2,10 @@ use Rattle.std.proofs.Common.{◌≡◌, ◌≤◌, ℕ, List, Ok, Err, Result, 
 use Rattle.std.specs.Result.{IfOk}
 use Rattle.link_rules.specs.Linked.{LinkedProgram}
 use Rattle.spds_rules.specs.declared.node.Node.{Node}
-use Rattle.spds_rules.specs.Demand.{Demand}
+use Rattle.spds_rules.specs.Demand.{Demand, about}
 use Rattle.lists.specs.Lists.{AreAll}
 use Rattle.cert_rules.specs.declared.certificate.Certificate.{Certificate}
 use Rattle.cert_rules.specs.Certified.{IsCertified}
-use Rattle.cert_rules.specs.Given.{about}
 use Rattle.report_text.specs.Answers.{IsQueryNode}
 use Rattle.cert_query.specs.declared.replaying.Accepted.{Accepted}
 use Rattle.cert_query.specs.Replays.{IsAccepted, IsAskable}

@@ -1,11 +1,12 @@
 use Rattle.std.proofs.Common.{List, arith, subst, sym}
 use Rattle.std.proofs.lemmas.List.{take_all}
 use Rattle.std.proofs.lemmas.Option.{slice_get-get_or}
+use Rattle.lists.proofs.Grown.{longer_more, longer_none}
 use Rattle.lists.specs.Lists.{Has}
 use Rattle.spds_rules.specs.declared.edge.Edge.{Edge}
 use Rattle.cert_work.proofs.Growing.{each_next}
 use Rattle.cert_trace.specs.Ahead.{IsBefore}
-use Rattle.cert_trace.proofs.FoundAhead.{before_more, longer_more, longer_none}
+use Rattle.cert_trace.proofs.FoundAhead.{before_more}
 use Rattle.cert_trace.proofs.ahead.add_all_before.Goals as goal
 
 pub loop-edge-init : goal.loop-edge-init

@@ -1,7 +1,8 @@
 use Rattle.std.proofs.Common.{take}
+use Rattle.lists.specs.Grown.{IsLonger}
 use Rattle.lists.specs.Lists.{Has}
 use Rattle.spds_rules.specs.declared.edge.Edge.{Edge}
-use Rattle.cert_trace.specs.Ahead.{IsBefore, IsLonger}
+use Rattle.cert_trace.specs.Ahead.{IsBefore}
 use Rattle.cert_trace.proofs.ahead.add_all_before.Given as goal
 
 abbrev pub invariant-loop-edge : goal.invariant-loop-edge

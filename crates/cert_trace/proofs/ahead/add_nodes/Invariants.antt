@@ -1,7 +1,8 @@
 use Rattle.std.proofs.Common.{take}
+use Rattle.lists.specs.Grown.{IsLonger}
 use Rattle.lists.specs.Lists.{Has}
 use Rattle.spds_rules.specs.declared.node.Node.{Node}
-use Rattle.cert_trace.specs.Ahead.{IsFound, IsLonger}
+use Rattle.cert_trace.specs.Ahead.{IsFound}
 use Rattle.cert_trace.proofs.ahead.add_nodes.Given as goal
 
 abbrev pub invariant-loop-node : goal.invariant-loop-node

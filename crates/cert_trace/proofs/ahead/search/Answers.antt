@@ -1,10 +1,11 @@
 use Rattle.std.proofs.Common.{◌≡◌, inl, inr, ℕ, ◌+◌, ◌++◌, List, Some, slice_get, subst, sym, arith}
+use Rattle.lists.proofs.Grown.{longer_more, longer_none}
 use Rattle.lists.proofs.Places.{slice_get-append_left, slice_get-below, slice_get-there}
 use Rattle.cert_lines.specs.declared.keys.FieldAt.{FieldAt}
 use Rattle.spds_rules.specs.declared.edge.Edge.{Edge}
 use Rattle.lists.specs.Lists.{Has}
 use Rattle.cert_trace.specs.Ahead.{IsSearched}
-use Rattle.cert_trace.proofs.FoundAhead.{longer_more, longer_none, searched_more}
+use Rattle.cert_trace.proofs.FoundAhead.{searched_more}
 use Rattle.cert_trace.proofs.Wanted.{less_next}
 use Rattle.cert_trace.proofs.ahead.search.Goals as goal
 

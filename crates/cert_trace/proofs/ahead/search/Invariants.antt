@@ -1,6 +1,7 @@
 use Rattle.std.proofs.Common.{◌≡◌, ℕ, ◌-◌, ◌<◌, ◌^◌, Some, slice_get}
+use Rattle.lists.specs.Grown.{IsLonger}
 use Rattle.cert_lines.specs.declared.keys.FieldAt.{FieldAt}
-use Rattle.cert_trace.specs.Ahead.{IsLonger, IsSearched}
+use Rattle.cert_trace.specs.Ahead.{IsSearched}
 use Rattle.cert_trace.proofs.ahead.search.Given as goal
 
 abbrev pub invariant-loop-at : goal.invariant-loop-at

@@ -2,7 +2,7 @@ use Rattle.std.proofs.Common.{List, [], subst, sym}
 use Rattle.lists.specs.Lists.{Has}
 use Rattle.spds_rules.specs.declared.node.Node.{Node}
 use Rattle.spds_rules.specs.Systems.{Meets}
-use Rattle.cert_rules.specs.Given.{about}
+use Rattle.spds_rules.specs.Demand.{about}
 use Rattle.spds_solve.specs.Solved.{IsListed}
 use Rattle.cert_work.proofs.Growing.{added_more, there_more}
 use Rattle.cert_work.proofs.Turns.{work_more}

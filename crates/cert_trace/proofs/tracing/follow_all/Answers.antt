@@ -5,7 +5,7 @@ use Rattle.lists.proofs.Joined.{slice_get-taken}
 use Rattle.spds_solve.specs.declared.met.Met.{Met}
 use Rattle.spds_rules.specs.Systems.{Meets}
 use Rattle.spds_solve.specs.Solved.{IsListed}
-use Rattle.cert_rules.specs.Given.{about}
+use Rattle.spds_rules.specs.Demand.{about}
 use Rattle.cert_work.specs.Added.{AreAdded}
 use Rattle.cert_work.proofs.Growing.{added_more}
 use Rattle.cert_trace.specs.Resting.{IsTraced}

@@ -1,7 +1,7 @@
 use Rattle.std.proofs.Common.{All, List, subst}
 use Rattle.lists.specs.Lists.{Has}
 use Rattle.cert_rules.specs.declared.line.Line.{Line}
-use Rattle.cert_rules.specs.Given.{about}
+use Rattle.spds_rules.specs.Demand.{about}
 use Rattle.cert_rules.specs.Spelled.{FitsLine}
 use Rattle.cert_work.proofs.Growing.{added_more}
 use Rattle.cert_trace.proofs.Apart.{added_apart, added_well_read}

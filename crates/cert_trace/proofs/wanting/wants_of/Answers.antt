@@ -2,8 +2,7 @@ use Rattle.std.proofs.Common.{◌∙◌, ℕ, List, Option, refl, subst, sym}
 use Rattle.std.specs.Option.{IsSome}
 use Rattle.lists.specs.Lists.{Has}
 use Rattle.spds_rules.specs.declared.edge.Edge.{Edge}
-use Rattle.spds_rules.specs.Demand.{Demanded}
-use Rattle.cert_rules.specs.Given.{about}
+use Rattle.spds_rules.specs.Demand.{Demanded, about}
 use Rattle.cert_trace.specs.Ahead.{IsAheadIn}
 use Rattle.cert_trace.proofs.Wanted.{are_wants, everywhere_more, settled_more}
 use Rattle.cert_trace.proofs.wanting.wants_of.Goals as goal

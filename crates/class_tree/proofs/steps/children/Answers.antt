@@ -1,8 +1,5 @@
-use Rattle.std.proofs.Common.{ℕ, ◌<◌, ◌↔◌, List, Contains, get_or, length, subst, sym, ◌∙◌, length-set}
+use Rattle.std.proofs.Common.{◌<◌, Contains, get_or, length, subst, sym, ◌∙◌, length-set}
 use Rattle.std.proofs.lemmas.List.{take_all}
-use Rattle.class_rules.specs.Rows.{HasParent}
-use Rattle.class_order.specs.Tables.{Under}
-use Rattle.lists.proofs.Elements.{Contains-nil}
 use Rattle.class_rules.proofs.Parents.{parent_from, parent-below}
 use Rattle.class_tree.proofs.StepLists.{children_more, children_none}
 use Rattle.class_tree.proofs.steps.children.Goals as goal

@@ -62,9 +62,6 @@ new-requires-clause-all c = λ k h. c.requires.order.all k (rw c.requires.len h)
 pub new-requires-3-clause-bodies : goal.new-requires-3-clause-bodies
 new-requires-3-clause-bodies c = c.in_ok-members.ensures.bodies
 
-pub new-requires-3-clause-own_fields : goal.new-requires-3-clause-own_fields
-new-requires-3-clause-own_fields c = c.in_ok-members.ensures.own_fields
-
 pub invariant_of-result : goal.invariant_of-result
 invariant_of-result c =
     let reached = reach_map (Under c.args.below.now) (Step c.args.classes.now c.args.implements.now) _ _ c.in_ok-numbering.numbering.numbers.items c.in_ok-reach.reach

@@ -1,4 +1,4 @@
-use Rattle.cert_rules.specs.Given.{about}
+use Rattle.spds_rules.specs.Demand.{about}
 use Rattle.explain_text.proofs.explaining.shown.Goals as goal
 
 pub answer_sites-requires-clause-demanded : goal.answer_sites-requires-clause-demanded

@@ -2,7 +2,7 @@ use Rattle.std.proofs.Common.{List, sym, subst, All}
 use Rattle.link_sites.specs.declared.site.Site.{Site}
 use Rattle.link_sites.specs.Sites.{IsSite}
 use Rattle.spds_rules.specs.Answers.{IsAnswered}
-use Rattle.cert_rules.specs.Given.{about}
+use Rattle.spds_rules.specs.Demand.{about}
 use Rattle.explain_text.proofs.Asked.{sites_answered, sites_stand}
 use Rattle.explain_text.proofs.explaining.told.Goals as goal
 

@@ -1,6 +1,7 @@
 use Rattle.std.proofs.Common.{subst}
+use Rattle.lists.specs.Grown.{IsGrownBy}
 use Rattle.lists.proofs.Places.{slice_get-read}
-use Rattle.link_narrow.specs.Reaching.{IsGrownBy, StaysFrom}
+use Rattle.link_narrow.specs.Reaching.{StaysFrom}
 use Rattle.link_narrow.proofs.Grown.{grown_code}
 use Rattle.link_narrow.proofs.reaching.find_in.Goals as goal
 

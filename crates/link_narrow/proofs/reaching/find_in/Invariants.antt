@@ -1,4 +1,5 @@
-use Rattle.link_narrow.specs.Reaching.{IsGrownBy, StaysBefore}
+use Rattle.lists.specs.Grown.{IsGrownBy}
+use Rattle.link_narrow.specs.Reaching.{StaysBefore}
 use Rattle.link_narrow.proofs.reaching.find_in.Given as goal
 
 abbrev pub invariant-loop-at : goal.invariant-loop-at

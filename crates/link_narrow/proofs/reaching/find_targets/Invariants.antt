@@ -1,4 +1,5 @@
-use Rattle.link_narrow.specs.Reaching.{IsGrownBy, StaysAmong}
+use Rattle.lists.specs.Grown.{IsGrownBy}
+use Rattle.link_narrow.specs.Reaching.{StaysAmong}
 use Rattle.link_narrow.proofs.reaching.find_targets.Given as goal
 
 abbrev pub invariant-loop-target : goal.invariant-loop-target

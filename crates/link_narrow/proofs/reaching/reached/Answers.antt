@@ -1,7 +1,8 @@
 use Rattle.std.proofs.Common.{List, length, subst, arith}
+use Rattle.lists.specs.Grown.{IsGrownBy}
 use Rattle.lists.proofs.Places.{slice_get-there}
 use Rattle.link_rules.specs.declared.code.Code.{Code}
-use Rattle.link_narrow.specs.Reaching.{IsGrownBy, StaysBefore}
+use Rattle.link_narrow.specs.Reaching.{StaysBefore}
 use Rattle.link_narrow.proofs.Reached.{found_all, found_first, found_more, reached_within}
 use Rattle.link_narrow.proofs.reaching.reached.Goals as goal
 

@@ -1,8 +1,9 @@
-use Rattle.std.proofs.Common.{List, take}
-use Rattle.class_tree.specs.declared.turns.Turn.{Turn}
-use Rattle.object_ranges.specs.Chosen.{AreChosen}
-use Rattle.object_ranges.specs.Parts.{TellParts}
+use Rattle.std.proofs.Common.{◌-◌, length}
+use Rattle.object_ranges.proofs.Serving.{AreChosenTo}
 use Rattle.object_ranges.proofs.chosen.choices_in.Given as goal
 
-abbrev pub invariant-loop-span : goal.invariant-loop-span
-invariant-loop-span l = (turns : List Turn) → TellParts l.objects turns l.parts → AreChosen l.objects turns l.all (take l.span-index l.spans) l.choices.items
+abbrev pub invariant-loop-at : goal.invariant-loop-at
+invariant-loop-at l = AreChosenTo l.objects l.parts l.spans l.at l.choices.items
+
+abbrev pub decreases-loop-at : goal.decreases-loop-at
+decreases-loop-at l = length l.parts - l.at

@@ -1,6 +1,7 @@
 use Rattle.std.proofs.Common.{arith}
+use Rattle.lists.proofs.Grown.{got_longer, has_longer}
 use Rattle.lists.proofs.Places.{slice_get-below}
-use Rattle.way_find.proofs.Found.{closed_next, found_all, got_longer, has_longer, none_next}
+use Rattle.way_find.proofs.Found.{closed_next, found_all, none_next}
 use Rattle.way_find.proofs.search.find_goal.Goals as goal
 
 pub loop-at-preserved : goal.loop-at-preserved

@@ -1,6 +1,7 @@
 use Rattle.std.proofs.Common.{inr, refl}
 use Rattle.lists.proofs.Places.{slice_get-below, slice_get-read}
-use Rattle.way_find.proofs.Found.{begun_next, got_longer, longer_more}
+use Rattle.lists.proofs.Grown.{got_longer, longer_more}
+use Rattle.way_find.proofs.Found.{begun_next}
 use Rattle.way_find.proofs.search.go_on.Goals as goal
 
 pub reach-requires-clause-back : goal.reach-requires-clause-back

@@ -1,5 +1,6 @@
 use Rattle.std.proofs.Common.{take}
-use Rattle.way_find.specs.Seen.{AreBacks, AreBegun, IsLonger}
+use Rattle.lists.specs.Grown.{IsLonger}
+use Rattle.way_find.specs.Seen.{AreBacks, AreBegun}
 use Rattle.way_find.proofs.search.go_on.Given as goal
 
 abbrev pub invariant-loop-step : goal.invariant-loop-step

@@ -1,4 +1,4 @@
-use Rattle.cert_rules.specs.Given.{about}
+use Rattle.spds_rules.specs.Demand.{about}
 use Rattle.cert_replay.proofs.Looking.{goes_iff}
 use Rattle.cert_replay.proofs.view.View.goes.Goals as goal
 

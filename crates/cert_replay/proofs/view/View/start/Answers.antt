@@ -1,4 +1,4 @@
-use Rattle.cert_rules.specs.Given.{about}
+use Rattle.spds_rules.specs.Demand.{about}
 use Rattle.cert_replay.proofs.From.{fails}
 use Rattle.cert_replay.proofs.Looking.{start_no_node, start_none, start_site}
 use Rattle.cert_replay.proofs.view.View.start.Goals as goal

@@ -1,5 +1,5 @@
 use Rattle.std.proofs.Common.{slice_get, ap, ◌∙◌}
-use Rattle.cert_rules.specs.Given.{about}
+use Rattle.spds_rules.specs.Demand.{about}
 use Rattle.cert_replay.proofs.Looking.{between_none, between_some, copied_at}
 use Rattle.cert_replay.proofs.view.View.store.Goals as goal
 

@@ -1,4 +1,4 @@
-use Rattle.std.proofs.Common.{◌≡◌, ◌∙◌, length, subst, sym}
+use Rattle.std.proofs.Common.{◌∙◌, subst, sym}
 use Rattle.class_tree.specs.FirstRows.{row_at}
 use Rattle.class_tree.specs.Turns.{IsForest}
 use Rattle.class_tree.proofs.Slots.{forest_of, key_path, slot_rising}

@@ -1,24 +1,13 @@
-use Rattle.std.proofs.Common.{◌≡◌, ◌<◌, Some, length, arith, refl, sym, subst, ◌∙◌}
-use Rattle.class_rules.specs.Lookups.{own_row}
-use Rattle.class_rules.specs.Rows.{Rows}
-use Rattle.class_tree.proofs.Lowest.{body_read, default_given, held_within, row_within}
-use Rattle.class_rules.proofs.Selected.{owned_row}
+use Rattle.std.proofs.Common.{refl}
+use Rattle.class_tree.proofs.Lowest.{default_given, held_within, none_given}
 use Rattle.class_tree.proofs.tree.Tree.default_from.Goals as goal
-
-pub index-requires : goal.index-requires
-index-requires c =
-    let ix = rw c.self.view_is at c.self.invariant in
-    let own : own_row c.args.self.now.methods c.args.interface c.args.key ≡ Some c.in_ok-row.row = sym (c.in_ok-row.ensures ∙ ix.interface_rows c.args.interface c.args.key c.requires.holder.is_interface) in
-    let within = subst (λ (r : Rows). c.in_ok-row.row < length r.methods) (sym c.self.view_is) (row_within c.args.self.now c.args.class c.args.key c.args.interface c.in_ok-row.row own) in
-    omega (arith, within, c.self.inside.rows.methods.ok.0)
 
 pub sub-requires-clause-b : goal.sub-requires-clause-b
 sub-requires-clause-b c = held_within c.args.self.now c.args.interface c.args.key c.requires.holder
 
+pub returns-in_err-row : goal.returns-in_err-row
+returns-in_err-row c = rw c.from_residual.ensures (none_given c.args.self.now c.args.class c.args.key c.args.interface c.in_err-row.ensures)
+
 pub returns-then-is_lowest : goal.returns-then-is_lowest
 returns-then-is_lowest c =
-    let ix = rw c.self.view_is at c.self.invariant in
-    let own : own_row c.args.self.now.methods c.args.interface c.args.key ≡ Some c.in_ok-row.row = sym (c.in_ok-row.ensures ∙ ix.interface_rows c.args.interface c.args.key c.requires.holder.is_interface) in
-    let m = owned_row c.args.self.now c.args.interface c.args.key c.in_ok-row.row own in
-    default_given c.args.self.now c.args.class c.args.key c.args.interface c.in_ok-row.row own (c.if-is_lowest.ensures.0 refl) m.0 m.1
-    (body_read _ _ _ m.0 _ _ c.self.view_is m.1 c.index.ensures c.if-has_body.ensures)
+    default_given c.args.self.now c.args.class c.args.key c.args.interface c.in_ok-row.row ((c.in_ok-row.ensures c.in_ok-row.row).0 refl) (c.if-is_lowest.ensures.0 refl)

@@ -8,8 +8,8 @@ use Rattle.class_rules.proofs.Parents.{interface_named}
 use Rattle.class_tree.proofs.TreeFacts.{field_in_class, field_nowhere, field_from_interface, not_near, step-above}
 use Rattle.class_tree.proofs.tree.Tree.field_here.Goals as goal
 
-pub returns-in-Some : goal.returns-in-Some
-returns-in-Some c =
+pub returns-in-Some-clause-here : goal.returns-in-Some-clause-here
+returns-in-Some-clause-here c =
     let ix = rw c.self.view_is at c.self.invariant in
     c.loop-row.invariant.goes_on c.in-Some.row (field_in_class _ _ ix.ranked c.loop-row.at c.args.key c.in-Some.row (c.in-Some.ensures ∙ ix.fields c.loop-row.at c.args.key))
 
@@ -36,12 +36,22 @@ loop-row-preserved c =
       near = inr first.near;
     }
 
-pub returns-in-None : goal.returns-in-None
-returns-in-None c =
+pub returns-in-None-clause-here : goal.returns-in-None-clause-here
+returns-in-None-clause-here c =
     let ix = rw c.self.view_is at c.self.invariant in
     let others = subst (All (λ i. HasFieldNear c.args.self.now i c.args.key → ⊥)) (c.get-in-loop-row.ensures ∙ ix.interfaces_are c.loop-row.at) c.in-None.ensures.none in
     let none = not_near _ _ ix.ranked c.loop-row.at c.args.key (c.in_default.ensures ∙ ix.fields c.loop-row.at c.args.key) others in
     elim c.loop-row.invariant.near [
       | inl first ↦ subst (λ k. FieldHere c.args.self.now c.args.key k None) first (field_nowhere _ _ ix.ranked c.loop-row.at c.args.key none)
+      | inr near ↦ absurd (none near)
+    ]
+
+pub returns-in-None-clause-near : goal.returns-in-None-clause-near
+returns-in-None-clause-near c =
+    let ix = rw c.self.view_is at c.self.invariant in
+    let others = subst (All (λ i. HasFieldNear c.args.self.now i c.args.key → ⊥)) (c.get-in-loop-row.ensures ∙ ix.interfaces_are c.loop-row.at) c.in-None.ensures.none in
+    let none = not_near _ _ ix.ranked c.loop-row.at c.args.key (c.in_default.ensures ∙ ix.fields c.loop-row.at c.args.key) others in
+    elim c.loop-row.invariant.near [
+      | inl first ↦ subst (λ k. HasFieldNear c.args.self.now k c.args.key → ⊥) first none
       | inr near ↦ absurd (none near)
     ]

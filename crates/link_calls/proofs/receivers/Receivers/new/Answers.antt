@@ -1,12 +1,9 @@
-use Rattle.std.proofs.Common.{subst, sym, ◌∙◌, arith}
+use Rattle.std.proofs.Common.{subst, sym, ◌∙◌}
 use Rattle.link_calls.specs.Receivers.{AreMarks}
 use Rattle.link_calls.proofs.receivers.Receivers.new.Goals as goal
 
 pub marks_of-requires : goal.marks_of-requires
 marks_of-requires c = rw c.tree.ensures.classes at ((rw c.tree.ensures.rows at c.layout-layout.ensures).placed)
-
-pub new-requires : goal.new-requires
-new-requires c = let laid = rw c.tree.ensures.rows at c.layout-layout.ensures in rw c.as_slice.ensures.value (omega (arith, laid.few, c.tree.ensures.classes, c.in_ok-marks.ensures.len))
 
 pub returns : goal.returns
 returns c = record {

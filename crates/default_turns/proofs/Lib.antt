@@ -1,0 +1,5 @@
+pub mod Told
+pub mod Staying
+pub mod Sweeping
+pub mod Swept
+pub mod Owned
