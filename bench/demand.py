@@ -166,7 +166,7 @@ SHAPES = [('copies', copies, 1_000_000), ('clique', clique, 160), ('dispatch', d
 
 def main():
     with tempfile.TemporaryDirectory() as folder:
-        path = build(folder, 'demand_speed', USES, PROGRAM, [('told', ASKS)])
+        path = build(folder, 'demand_speed', USES, PROGRAM, [('told/Answers', ASKS)])
         print(f'{"shape":>9} {"size":>8} {"nodes":>8} {"edges":>8} {"stores":>7} {"sites":>7} {"time":>10} {"nodes/s":>11} {"edges/s":>11} {"edges":>7} {"time":>7} '
               f'{"bytes/node":>11}')
         for name, shape, size in SHAPES:

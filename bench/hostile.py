@@ -6,9 +6,11 @@ Each shape is a text of at most so many bytes, 1, 4 and 16 MiB, of which the pro
 the seconds of a processor and the memory are told, and the exponent of the growth between the last two sizes that ended: 1 is linear, 2 quadratic. A call that
 takes longer than the limit, 60 seconds by the clock where none is given, is ended, and larger sizes of its shape are left out. It judges nothing.
 
-The shapes in `one_hash` have texts that the hasher of the kit's maps, whose seed is fixed, folds to one number.
+The shapes in `one_hash` have texts that the hasher of the kit's maps, whose seed is fixed, folds to one number. Those of few slots have numbers, or pairs of them,
+for which these maps begin to look in a part of their slots.
 """
 import argparse
+import itertools
 import math
 import os
 import random
@@ -39,8 +41,13 @@ def folded_to_zero():
             return (front + state).decode()
 
 
+def letters(number, places):
+    """So many letters that differ from number to number."""
+    return ''.join(chr(LETTERS[number // 52 ** place % 52]) for place in range(places))
+
+
 def tail(number):
-    """8 letters that differ from number to number."""
+    """8 letters, digits or marks that differ from number to number."""
     return ''.join(chr(LETTERS[number >> 6 * place & 63]) for place in range(8))
 
 
@@ -89,26 +96,63 @@ def label_names(size, name):
     return in_main(lambda i: f'{name(i)}: nop;\n', size)
 
 
-def group_of(number, groups):
-    """The group of slots, of so many, at which the kit's maps begin to look for a number of 32 bits."""
+def group_of(numbers, groups):
+    """The group of slots, of so many, at which the kit's maps begin to look for some numbers of 32 bits."""
     multiplier, mask = 0x9E3779B97F4A7C15, (1 << 64) - 1
-    product = (0x243F6A8885A308D3 ^ (number | number << 32)) * (multiplier ^ 8)
-    folded = (product & mask) ^ (product >> 64)
+    folded = 0x243F6A8885A308D3
+    for number in numbers:
+        product = (folded ^ (number | number << 32)) * (multiplier ^ 8)
+        folded = (product & mask) ^ (product >> 64)
     return (folded ^ folded >> 32) & (groups - 1)
+
+
+def groups_for(count):
+    """How many groups of slots a map of the kit has for so many entries."""
+    groups = 1
+    while 9 * groups < count:
+        groups *= 2
+    return groups
 
 
 def locals_of_few_slots(size):
     """A method with many locals, and another one with those of them whose numbers begin in one quarter of the slots."""
     many = size * 3 // 4 // 5 - 60
-    groups = 1
-    while 9 * groups < many // 4:
-        groups *= 2
-    name = lambda i: ''.join(chr(LETTERS[i // 52 ** place % 52]) for place in range(4))
+    groups = groups_for(many // 4)
     others = ['int', 'byte', 'char', 'case', 'null', 'long', 'void', 'enum', 'from', 'with', 'goto', 'cmpg', 'cmpl', 'Main']
-    taken = [text for text in map(name, range(many)) if text not in others]
-    few = [text for number, text in enumerate(taken, 2) if group_of(number, groups) < groups // 4]
+    taken = [text for text in (letters(i, 4) for i in range(many)) if text not in others]
+    few = [text for number, text in enumerate(taken, 2) if group_of([number], groups) < groups // 4]
     return (f'class Main {{ static void f() {{ int {",".join(taken)}; return; }}\nstatic void g() {{ int {",".join(few)}; return; }}\n'
             'static void main(java.lang.String[]) { staticinvoke <Main: void g()>(); return; } }\n')
+
+
+def pairs_of_few_slots(count):
+    """So many pairs of the number of a class, from 1 on, and that of a key, from 0 on, for which the kit's maps begin to look in an eighth of their slots; and
+    below which number all of them lie."""
+    side = math.isqrt(8 * count) + 1
+    groups = groups_for(count)
+    found = ((class_, key) for class_ in range(1, side + 1) for key in range(side) if group_of([class_, key], groups) < groups // 8)
+    return side, list(itertools.islice(found, count))
+
+
+def family(side, members_of=lambda class_: ''):
+    """A class with so many methods, which have the first keys, and as many classes below it, whose numbers begin at 1."""
+    methods = ''.join(f'void {letters(key, 2)}x() {{ return; }}\n' for key in range(side))
+    below = ''.join(f'class C{letters(class_, 2)} extends Top {{ {members_of(class_)}}}\n' for class_ in range(1, side + 1))
+    return f'class Top {{\n{methods}}}\n{below}'
+
+
+def calls_of_few_slots(count):
+    side, pairs = pairs_of_few_slots(count)
+    lines = ''.join(f'virtualinvoke x.<C{letters(class_, 2)}: void {letters(key, 2)}x()>();\n' for class_, key in pairs)
+    return family(side) + main_of('Top x;', f'x = new Top;\n{lines}')
+
+
+def methods_of_few_slots(count):
+    side, pairs = pairs_of_few_slots(count)
+    own = {}
+    for class_, key in pairs:
+        own.setdefault(class_, []).append(f'void {letters(key, 2)}x() {{ return; }} ')
+    return family(side, lambda class_: ''.join(own.get(class_, []))) + main_of('int x;', '')
 
 
 def repeated(count):
@@ -254,6 +298,14 @@ def every_second(count):
     return main_of('', '', ''.join(f'abstract class C{i}{" implements I" * (i % 2)} {{ }}\n' for i in range(count)) + f'interface I {{ {methods} }}\n')
 
 
+def every_second_of_many(count):
+    """Five interfaces with the same methods, all of which every second of the classes before them implements."""
+    methods = ''.join(f'void m{i}();\n' for i in range(count // 5))
+    made = ''.join(f'interface I{i} {{ {methods} }}\n' for i in range(5))
+    made += f'interface J implements {", ".join(f"I{i}" for i in range(5))} {{ }}\n'
+    return main_of('', '', ''.join(f'abstract class C{i}{" implements J" * (i % 2)} {{ }}\n' for i in range(count)) + made)
+
+
 def every_second_of_a_chain(count):
     """A chain of interfaces, of which every second of the classes before them implements the last."""
     made = 'interface I0 { }\n' + ''.join(f'interface I{i} implements I{i - 1} {{ }}\n' for i in range(1, count))
@@ -294,6 +346,8 @@ SHAPES = {
     'locals of one hash': (one_hash(local_names), RUN),
     'labels of one hash': (one_hash(label_names), RUN),
     'locals of few slots': (locals_of_few_slots, RUN),
+    'calls of few slots': (repeated(400_000)(calls_of_few_slots), RUN),
+    'methods of few slots': (repeated(550_000)(methods_of_few_slots), RUN),
     'initializers': (repeated(180_000)(initializers), RUN),
     'methods of a class': (repeated(100_000)(methods), RUN),
     'labels of a method': (repeated(500_000)(labels), RUN),
@@ -315,6 +369,7 @@ SHAPES = {
     'keys on a chain': (repeated(140_000)(keys_on_a_chain), RUN),
     'keys of an interface': (repeated(110_000)(keys_of_an_interface), RUN),
     'every second class': (repeated(300_000)(every_second), RUN),
+    'every second of many': (repeated(300_000)(every_second_of_many), RUN),
     'under a chain': (repeated(200_000)(every_second_of_a_chain), RUN),
     'interfaces side by side': (repeated(160_000)(side_by_side), RUN),
     'hidden interfaces': (repeated(100_000)(hidden), RUN),

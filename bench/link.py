@@ -136,7 +136,7 @@ SHAPES = [('wide', wide, 5_000), ('deep', deep, 5_000), ('interfaces', interface
 
 def main():
     with tempfile.TemporaryDirectory() as folder:
-        path = build(folder, 'link_speed', 'jim_ast jim_text jim_parse jim_prelude link_rules jim_link read_laws anyhow', PROGRAM, [('told', PROOF)])
+        path = build(folder, 'link_speed', 'jim_ast jim_text jim_parse jim_prelude link_rules jim_link read_laws anyhow', PROGRAM, [('told/Answers', PROOF)])
         print(f'{"shape":>12} {"size":>8} {"bytes":>10} {"time":>10} {"memory":>9} {"growth":>8}   answer, methods')
         for name, shape, size in SHAPES:
             before = None

@@ -92,8 +92,8 @@ def below(names, known):
 
 
 def build(folder, name, uses, program, proofs=()):
-    """Proves and builds a program over the crates of which `uses` has the names, in the folder, and gives its path. `proofs` are pairs of a function and
-    its proof. What a check on this machine proved before isn't proved again."""
+    """Proves and builds a program over the crates of which `uses` has the names, in the folder, and gives its path. `proofs` are pairs of a file
+    of proofs, without its ending, and its text. What a check on this machine proved before isn't proved again."""
     known = crates()
     needed = below(uses.split(), known)
     with open(os.path.join(folder, 'crates.txt'), 'w') as out:
@@ -103,8 +103,8 @@ def build(folder, name, uses, program, proofs=()):
         shutil.copytree(os.path.join(TOP, 'crates', crate), os.path.join(folder, 'crates', crate), ignore=shutil.ignore_patterns('out', 'must-fail'))
     crate = os.path.join(folder, 'crates', name)
     write(os.path.join(crate, 'src', 'main.rt'), program)
-    for function, proof in proofs:
-        write(os.path.join(crate, 'proofs', function, 'Answers.antt'), proof)
+    for file, proof in proofs:
+        write(os.path.join(crate, 'proofs', file + '.antt'), proof)
     done = subprocess.run(['rt', 'run'], cwd=crate, stdin=subprocess.DEVNULL, capture_output=True, text=True)
     if done.returncode:
         sys.exit('the program does not build:\n' + (done.stdout + done.stderr)[-4000:])

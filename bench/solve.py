@@ -82,7 +82,7 @@ def growth(now, before):
 def main():
     small = sys.argv[1:] == ['--small']
     with tempfile.TemporaryDirectory() as folder:
-        path = build(folder, 'solve_speed', USES, PROGRAM, [('told', asks('solve_speed'))])
+        path = build(folder, 'solve_speed', USES, PROGRAM, [('told/Answers', asks('solve_speed'))])
         for title, shape, sizes, few in TABLES['calls'] + TABLES['fields']:
             print(f'\n{title}')
             print(f'{"size":>8} {"time":>11} {"growth":>7} {"demanded":>10} {"entries":>9} {"facts":>10} {"growth":>7} {"meets":>7}', flush=True)

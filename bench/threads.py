@@ -134,7 +134,7 @@ def solved(path, text):
 
 def show_sites(small):
     with tempfile.TemporaryDirectory() as folder:
-        path = build(folder, 'threads_speed', USES, PROGRAM, [('told', asks('threads_speed'))])
+        path = build(folder, 'threads_speed', USES, PROGRAM, [('told/Answers', asks('threads_speed'))])
         for methods, size in TABLES[:2] if small else TABLES:
             print(f'\nsites with {size} tables: {methods} methods that all call each other')
             print(f'{"sites":>8} {"one thread":>12} {"in pieces":>12} {"times as fast":>14}', flush=True)

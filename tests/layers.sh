@@ -41,7 +41,7 @@ names() {
 for_tests=(linked_text *_rows)
 
 # What every crate may stand on.
-for_all=(lists)
+for_all=(lists number_sets)
 
 # but CRATE..: all crates other than these, those that are for tests, and those that are for all.
 but() {
@@ -53,7 +53,7 @@ but() {
 
 # shellcheck disable=SC2046 # names of crates have no blanks
 {
-  none 'lists knows nothing of ours' "$(names $(but))" $(files "${for_all[@]}")
+  none 'what is for all knows nothing of ours' "$(names $(but))" $(files "${for_all[@]}")
   none 'link_indexes knows code alone' "$(names $(but link_indexes jim_ast link_rules))" $(files link_indexes)
   none 'boom_words knows no programs' "$(names $(but boom_words lists))" $(files boom_words)
   none 'only boom_io and main touch streams' 'std::(io|fs|net)|, io\}' $(files $(but boom_io boomer))

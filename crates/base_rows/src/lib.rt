@@ -1,5 +1,5 @@
-//! Tests of what knows no programs: keys by number, streams, the words of commands, the demo's text, and pieces and batches side by side. They stand by
-//! themselves, so that no library is proved again for them.
+//! Tests of what knows no programs: keys by number, sets of numbers, streams, the words of commands, the demo's text, and pieces and batches side by
+//! side. They stand by themselves, so that no library is proved again for them.
 #![tactic(auto)]
 
 #[cfg(test)]
@@ -10,6 +10,8 @@ mod demos;
 mod keys;
 #[cfg(test)]
 mod pieces;
+#[cfg(test)]
+mod sets;
 #[cfg(test)]
 mod streams;
 #[cfg(test)]

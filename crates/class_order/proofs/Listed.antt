@@ -1,13 +1,11 @@
 -- Numbered lists.
-use Rattle.std.proofs.Common.{◌≡◌, ℕ, zero, suc, ◌+◌, ◌<◌, ◌≤◌, ◌⊎◌, Some, List, [], ◌∷◌, ◌++◌, length, get_or, set, slice_get, replicate, refl, sym, ap, subst, ◌∙◌, inl, inr, arith, take, get_or-set_same, get_or-set_other}
+use Rattle.std.proofs.Common.{◌≡◌, ℕ, ◌<◌, ◌≤◌, ◌⊎◌, List, [], ◌∷◌, ◌++◌, length, set, replicate, sym, ap, subst, ◌∙◌, inl, inr, arith, get_or-set_same, get_or-set_other}
 use Rattle.std.specs.List.{Contains}
-use Rattle.std.proofs.lemmas.Option.{slice_get_within, slice_get-get_or, get_or_from_slice_get}
 use Rattle.std.proofs.lemmas.Bool.{cases_eq}
-use Rattle.std.proofs.lemmas.List.{get_or_past, get_or-replicate, length-replicate, take_more, take_all, take-append-le}
+use Rattle.std.proofs.lemmas.List.{get_or_past, get_or-replicate, length-replicate}
 use Rattle.std.proofs.lemmas.List.Elements.{Contains-push, Contains-push_cases, Contains-append_left}
 use Rattle.class_order.specs.Groups.{group}
 use Rattle.class_order.specs.Tables.{Under}
-use Rattle.lists.proofs.Elements.{Contains-nil, Contains-take_more, Contains-take_kept, Contains-take_last, Contains-at, slice_get-append_below, slice_get-push_cases, slice_get-take_push, same_read}
 
 -- no list of none
 pub group-replicate : {X : Type 0} (n at : ℕ) → group {X = X} (replicate n []) at ≡ []

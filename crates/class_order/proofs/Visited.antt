@@ -1,17 +1,12 @@
 -- What a search upwards or downwards has reached.
-use Rattle.std.proofs.Common.{◌≡◌, ◌≢◌, ◌↔◌, ℕ, zero, suc, ◌+◌, ◌<◌, ◌≤◌, ◌⊎◌, Bool, true, false, if◌then◌else◌, Some, List, [], ◌∷◌, ◌++◌, length, length-append, get_or, slice_get, refl, sym, ap, subst, ◌∙◌, inl, inr, arith, take, eqb}
-use Rattle.std.specs.Cmp.{nat_eq_equiv, unsigned_Decides}
-use Rattle.std.specs.List.{AllPairs, Contains, IsDistinct, list_any}
-use Rattle.std.specs.Ordering.{nat_cmp}
-use Rattle.std.proofs.lemmas.Map.Keys.{IsDistinct-IsPermutation}
-use Rattle.std.specs.List.Sorted.{IsPermutation, IsSorted}
-use Rattle.std.proofs.lemmas.List.Sorted.{Contains-permutation, IsNonDecreasingBy-from_sort, IsPermutation-sym}
+use Rattle.std.proofs.Common.{◌≡◌, ◌↔◌, ℕ, ◌+◌, ◌<◌, ◌≤◌, ◌⊎◌, Bool, true, false, MatchBool, Some, List, [], ◌∷◌, ◌++◌, length, length-append, get_or, slice_get, sym, ap, subst, ◌∙◌, inl, inr, arith, take, eqb}
+use Rattle.std.specs.Cmp.{unsigned_Decides}
+use Rattle.std.specs.List.{Contains, IsDistinct}
 use Rattle.std.proofs.lemmas.List.{append-nil, append_assoc}
 use Rattle.std.proofs.lemmas.List.Elements.{Contains-push, Contains-push_cases, Contains-append_left}
-use Rattle.std.proofs.lemmas.Map.Made.{AllPairs-from_IsDistinct, is_member-Decides}
+use Rattle.std.proofs.lemmas.Map.Made.{is_member-Decides}
 use Rattle.std.proofs.lemmas.Map.Steps.{length-le_from_distinct_below}
 use Rattle.std.proofs.lemmas.Option.{slice_get-get_or, slice_get_within}
-use Rattle.indexmap.specs.IndexSet.{insert_key}
 use Rattle.class_order.specs.Groups.{group}
 use Rattle.class_rules.specs.Paths.{Path, here, step, ProperPath}
 use Rattle.class_order.specs.Tables.{HasReached, IsWithin, Under, Visits}
@@ -45,16 +40,11 @@ visits_new classes old new i d h v = record {
   ];
 }
 
--- one more class is put into the set
-pub visits_more : (classes old new : List ℕ) (i d : ℕ) → i < length classes → Visits (take i classes) old new → Visits (take (i + 1) classes) old (insert_key eqb new (get_or classes i d))
-visits_more classes old new i d h v = by (list_any (eqb x) new) refl
-  where
-    x : ℕ
-    x = get_or classes i d
-
-    by : (b : Bool) → list_any (eqb x) new ≡ b → Visits (take (i + 1) classes) old (if b then new else new ++ x ∷ [])
-    by true e = visits_old classes old new i d h v ((is_member-Decides unsigned_Decides new x).0 e)
-    by false e = visits_new classes old new i d h v
+-- one more class was put into the set
+pub visits_more : (classes old mid new : List ℕ) (i d : ℕ) (is_new : Bool) → i < length classes → Visits (take i classes) old mid
+    → MatchBool is_new ((new ≡ mid ++ get_or classes i d ∷ []) × (Contains mid (get_or classes i d) → ⊥)) ((new ≡ mid) × Contains mid (get_or classes i d)) → Visits (take (i + 1) classes) old new
+visits_more classes old mid new i d true h v (is, absent) = rw is (visits_new classes old mid i d h v)
+visits_more classes old mid new i d false h v (is, there) = rw is (visits_old classes old mid i d h v there)
 
 pub visits_longer : (classes old new : List ℕ) → Visits classes old new → length old ≤ length new
 visits_longer classes old new v = omega (arith, ap length v.grown, length-append old v.added)
@@ -131,24 +121,3 @@ met_more steps class old mid new closed v has c = (
 -- so there are no more of them than classes
 pub searched_bound : (reached : List ℕ) (n : ℕ) → IsDistinct eqb reached → IsWithin n reached → length reached ≤ n
 searched_bound reached n once within = length-le_from_distinct_below reached n once (λ q m. within q ((is_member-Decides unsigned_Decides reached q).0 m))
-
--- the classes reached from one alone, in another order
-pub reached_alone : (steps : List (List ℕ)) (class : ℕ) (reached all : List ℕ) → HasReached steps (class ∷ []) reached → IsPermutation reached all → (c : ℕ) → Contains all c ↔ Path (Under steps) c class
-reached_alone steps class reached all has moved c = (
-  λ m. let p = (has c).0 (Contains-permutation all reached c (IsPermutation-sym reached all moved) m) in subst (Path (Under steps) c) (alone p.0 p.1) p.2,
-  λ p. Contains-permutation reached all c moved ((has c).1 (class, (0, omega arith, refl), p)),
-)
-  where
-    alone : (d : ℕ) → Contains (class ∷ []) d → d ≡ class
-    alone d (zero, h, e) = sym e
-    alone d (suc k, h, e) = absurd (omega (arith, h))
-
--- numbers that differ ascend when they are sorted
-pub ascending_sorted : (xs ys : List ℕ) → IsDistinct eqb xs → IsPermutation xs ys → IsSorted nat_cmp ys → AllPairs (λ a b. a < b) ys
-ascending_sorted xs ys once moved sorted i j d lt h =
-    let le : get_or ys i d ≤ get_or ys j d = IsNonDecreasingBy-from_sort (λ x. x) ys sorted i j d (omega (arith, lt)) h in
-    let apart : get_or ys i d ≢ get_or ys j d = AllPairs-from_IsDistinct unsigned_Decides ys (IsDistinct-IsPermutation eqb nat_eq_equiv.symm xs ys moved once) i j d lt h in
-    elim (below_or_at (get_or ys i d) (get_or ys j d) le) [ inl less ↦ less | inr same ↦ absurd (apart same) ]
-  where
-    below_or_at : (a b : ℕ) → a ≤ b → (a < b) ⊎ (a ≡ b)
-    below_or_at a b h = grind arith

@@ -1,19 +1,20 @@
 -- The tables that `build` makes say what the rows say.
-use Rattle.std.proofs.Common.{◌≡◌, ℕ, zero, suc, ◌<◌, ◌≤◌, ◌⊎◌, ◌==◌, ◌&&◌, true, Option, Some, None, List, [], ◌∷◌, length, get_or, slice_get, map, refl, sym, ap, subst, ◌∙◌, inl, inr, arith, eqb-true, eq-eqb}
+use Rattle.std.proofs.Common.{◌≡◌, ℕ, zero, suc, ◌<◌, ◌≤◌, ◌⊎◌, ◌↔◌, ◌==◌, ◌&&◌, true, Option, Some, None, List, [], ◌∷◌, length, get_or, slice_get, map, refl, sym, ap, subst, ◌∙◌, inl, inr, arith, eqb-true, eq-eqb}
 use Rattle.std.specs.List.{Contains, All}
 use Rattle.std.specs.Option.{is_some}
 use Rattle.std.proofs.lemmas.Bool.{and_parts, and_from}
 use Rattle.std.proofs.lemmas.List.Elements.{All-contains}
 use Rattle.std.proofs.lemmas.Option.{slice_get-get_or}
 use Rattle.class_tree.specs.declared.first_rows.Member.{Member}
-use Rattle.class_tree.specs.declared.key_spans.KeySpans.{KeySpans}
+use Rattle.class_tree.specs.declared.owners.Owners.{Owners}
 use Rattle.class_rules.specs.declared.rows.ClassRow.{ClassRow}
 use Rattle.class_rules.specs.declared.rows.MethodRow.{MethodRow}
 use Rattle.class_rules.specs.declared.rows.FieldRow.{FieldRow}
 use Rattle.class_order.specs.declared.spans.Span.{Span}
 use Rattle.class_order.specs.Groups.{group}
 use Rattle.class_tree.specs.Indexed.{HasFieldNear, TellsOf}
-use Rattle.class_tree.specs.KeySpans.{IsKeyed, member_of_method, member_of_field}
+use Rattle.class_tree.specs.KeySpans.{HoldsKey, member_of_method, member_of_field}
+use Rattle.class_tree.specs.Owners.{AreServed, HoldsOwner}
 use Rattle.class_rules.specs.Lookups.{own_field, Declared}
 use Rattle.class_rules.specs.Paths.{Path, here, step, ProperPath}
 use Rattle.lists.specs.Lists.{IsLeast}
@@ -83,17 +84,16 @@ Contains-mapped f [] i x e = cc
 Contains-mapped f (y ∷ ys) zero x e = let same : y ≡ x = cc in (0, omega arith, ap f same)
 Contains-mapped f (y ∷ ys) (suc i) x e = let m = Contains-mapped f ys i x e in (suc m.0, omega (arith, m.1), m.2)
 
-module _ (rows : Rows) (places : List ℕ) (table : List (List Span)) (s : KeySpans) (named : NameClasses rows) where
+module _ (rows : Rows) (places : List ℕ) (table : List (List Span)) (o : Owners) (served : AreServed table o) (named : NameClasses rows) where
   method_owner : (i : ℕ) (m : MethodRow) → slice_get rows.methods i ≡ Some m → m.class < length rows.classes
   method_owner i m e = All-contains (λ (m : MethodRow). m.class < length rows.classes) rows.methods m named.methods (Contains-at rows.methods i m e)
 
-  pub tells_declared : IsReach (Step rows.classes rows.implements) (length rows.classes) places table → IsKeyed (map member_of_method rows.methods) table s → TellsOf (Declared rows) (length rows.classes) places s
-  tells_declared r keyed = record {
-    len = keyed.len;
-    apart = keyed.apart;
+  pub tells_declared : IsReach (Step rows.classes rows.implements) (length rows.classes) places table → ((k p : ℕ) → HoldsOwner table o k p ↔ HoldsKey (map member_of_method rows.methods) table k p) → TellsOf (Declared rows) (length rows.classes) places table o
+  tells_declared r held = record {
+    served = served;
     exact = λ a k h. (
       λ q.
-          let m = (keyed.exact k (get_or places a 0)).0 q in
+          let m = (held k (get_or places a 0)).0 q in
           let p = Contains-map member_of_method rows.methods m.0 m.1 in
           let class : p.1.class ≡ m.0.class = ap (λ (x : Member). x.class) p.3 in
           let key : p.1.key ≡ m.0.key = ap (λ (x : Member). x.key) p.3 in
@@ -106,7 +106,7 @@ module _ (rows : Rows) (places : List ℕ) (table : List (List Span)) (s : KeySp
             in_owner = class;
             has_key = key ∙ m.2;
           },
-      λ d. (keyed.exact k (get_or places a 0)).1 (
+      λ d. (held k (get_or places a 0)).1 (
         member_of_method d.method,
         Contains-mapped member_of_method rows.methods d.row d.method d.there,
         d.has_key,
@@ -135,13 +135,12 @@ module _ (rows : Rows) (places : List ℕ) (table : List (List Span)) (s : KeySp
       by None none = let t = sym (ap is_some none) ∙ some in cc
       by (Some row) is = (row, is)
 
-  pub tells_near : IsReach (HasInterface rows.implements) (length rows.classes) places table → IsKeyed (map member_of_field rows.fields) table s → TellsOf (HasFieldNear rows) (length rows.classes) places s
-  tells_near r keyed = record {
-    len = keyed.len;
-    apart = keyed.apart;
+  pub tells_near : IsReach (HasInterface rows.implements) (length rows.classes) places table → ((k p : ℕ) → HoldsOwner table o k p ↔ HoldsKey (map member_of_field rows.fields) table k p) → TellsOf (HasFieldNear rows) (length rows.classes) places table o
+  tells_near r held = record {
+    served = served;
     exact = λ a k h. (
       λ q.
-          let m = (keyed.exact k (get_or places a 0)).0 q in
+          let m = (held k (get_or places a 0)).0 q in
           let p = Contains-map member_of_field rows.fields m.0 m.1 in
           let class : p.1.class ≡ m.0.class = ap (λ (x : Member). x.class) p.3 in
           let key : p.1.key ≡ k = ap (λ (x : Member). x.key) p.3 ∙ m.2 in
@@ -154,7 +153,7 @@ module _ (rows : Rows) (places : List ℕ) (table : List (List Span)) (s : KeySp
           },
       λ d.
           let f = field_row d.owner k d.row d.own in
-          (keyed.exact k (get_or places a 0)).1 (
+          (held k (get_or places a 0)).1 (
             member_of_field f.1,
             Contains-mapped member_of_field rows.fields f.0 f.1 f.2,
             f.4,

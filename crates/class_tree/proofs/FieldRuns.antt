@@ -1,14 +1,14 @@
 -- The look-up of a field by runs of places.
 use Rattle.std.proofs.Common.{◌≡◌, ℕ, ◌+◌, ◌-◌, ◌<◌, ◌≤◌, Option, Some, None, IfNone, List, length, get_or, slice_get, sym, ap, subst, ◌∙◌, arith}
 use Rattle.std.proofs.lemmas.Option.{slice_get-get_or}
-use Rattle.class_tree.specs.declared.key_spans.KeySpans.{KeySpans}
+use Rattle.class_tree.specs.declared.owners.Owners.{Owners}
 use Rattle.class_tree.specs.declared.runs.Runs.{Runs}
 use Rattle.class_tree.specs.Indexed.{AreRanked, HasFieldNear, TellsOf}
-use Rattle.class_tree.specs.KeySpans.{spans_of}
+use Rattle.class_tree.specs.Owners.{HoldsOwner}
 use Rattle.class_tree.specs.Runs.{AreRuns}
 use Rattle.class_rules.specs.Lookups.{FieldHere, FieldOf, found, further, ended}
 use Rattle.class_rules.specs.Rows.{Rows, HasParent, HasNoParent}
-use Rattle.class_order.specs.Spans.{Holds}
+use Rattle.class_order.specs.declared.spans.Span.{Span}
 use Rattle.class_order.specs.Tables.{HavePlaces}
 use Rattle.lists.proofs.Elements.{same_read}
 use Rattle.lists.proofs.Places.{slice_get-there}
@@ -42,12 +42,12 @@ module _ (rows : Rows) (places : List ℕ) (runs : Runs) (are : AreRuns rows.cla
   pub falls : (t b : ℕ) → t ≡ get_or runs.tenants.items start t → HasParent rows.classes t b → get_or places b 0 < get_or places at 0
   falls t b e named = omega (arith, are.falls t b named, (are.placed start t (tenant start t start_low e)).1, start_low, place_is)
 
-  module _ (ranks : List ℕ) (near : KeySpans) (ranked : AreRanked rows ranks) (placed : HavePlaces (length rows.classes) places) (told : TellsOf (HasFieldNear rows) (length rows.classes) places near)
+  module _ (ranks : List ℕ) (table : List (List Span)) (near : Owners) (ranked : AreRanked rows ranks) (placed : HavePlaces (length rows.classes) places) (told : TellsOf (HasFieldNear rows) (length rows.classes) places table near)
       (key : ℕ) where
-    -- the class at a place that the spans don't hold has no field near
-    none_at : (p c : ℕ) → slice_get runs.tenants.items p ≡ Some c → (Holds (spans_of near key) p → ⊥) → FieldHere rows key c None
+    -- the class at a place that isn't held has no field near
+    none_at : (p c : ℕ) → slice_get runs.tenants.items p ≡ Some c → (HoldsOwner table near key p → ⊥) → FieldHere rows key c None
     none_at p c there none = let at = are.placed p c there in
-        field_nowhere rows ranks ranked c key (λ n. none (subst (Holds (spans_of near key)) at.1 ((told.exact c key at.0).1 n)))
+        field_nowhere rows ranks ranked c key (λ n. none (subst (HoldsOwner table near key) at.1 ((told.exact c key at.0).1 n)))
 
     stands : slice_get runs.tenants.items place ≡ Some at
     stands =
@@ -56,7 +56,7 @@ module _ (rows : Rows) (places : List ℕ) (runs : Runs) (are : AreRuns rows.cla
         t.1 ∙ ap Some (placed.own t.0 at d.0 known (d.1 ∙ place_is))
 
     -- where no place of the run behind one has a field near, the look-up goes on from there
-    goes_back : (q d : ℕ) → start ≤ q → q ≤ place → slice_get runs.tenants.items q ≡ Some d → ((p : ℕ) → q < p → p ≤ place → Holds (spans_of near key) p → ⊥)
+    goes_back : (q d : ℕ) → start ≤ q → q ≤ place → slice_get runs.tenants.items q ≡ Some d → ((p : ℕ) → q < p → p ≤ place → HoldsOwner table near key p → ⊥)
         → (r : Option ℕ) → FieldOf rows d key r → FieldOf rows at key r
     goes_back q d ge le there none r of = by (place - q) (omega (arith, le))
       where
@@ -67,14 +67,14 @@ module _ (rows : Rows) (places : List ℕ) (runs : Runs) (are : AreRuns rows.cla
             at d r (ap (slice_get runs.tenants.items) is ∙ stands) there of
 
     -- the last place held has what the class has
-    pub field_at : (q t : ℕ) → t ≡ get_or runs.tenants.items q t → start ≤ q → q ≤ place → Holds (spans_of near key) q → ((p : ℕ) → q < p → p ≤ place → Holds (spans_of near key) p → ⊥)
+    pub field_at : (q t : ℕ) → t ≡ get_or runs.tenants.items q t → start ≤ q → q ≤ place → HoldsOwner table near key q → ((p : ℕ) → q < p → p ≤ place → HoldsOwner table near key p → ⊥)
         → (r : Option ℕ) → FieldHere rows key t r → IfNone r (HasFieldNear rows t key → ⊥) → FieldOf rows at key r
     field_at q t e ge le held none r here nothing =
         let there = tenant q t le e in
         let d = are.placed q t there in
-        goes_back q t ge le there none r (field_near rows t key r here nothing ((told.exact t key d.0).0 (subst (Holds (spans_of near key)) (sym d.1) held)))
+        goes_back q t ge le there none r (field_near rows t key r here nothing ((told.exact t key d.0).0 (subst (HoldsOwner table near key) (sym d.1) held)))
 
-    module _ (t : ℕ) (e : t ≡ get_or runs.tenants.items start t) (none : (p : ℕ) → start ≤ p → p ≤ place → Holds (spans_of near key) p → ⊥) where
+    module _ (t : ℕ) (e : t ≡ get_or runs.tenants.items start t) (none : (p : ℕ) → start ≤ p → p ≤ place → HoldsOwner table near key p → ⊥) where
       nothing : FieldHere rows key t None
       nothing = none_at start t (tenant start t start_low e) (none start (omega arith) start_low)
 

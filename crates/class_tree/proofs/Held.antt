@@ -38,16 +38,16 @@ in_another classes class key c k apart i = by (class == c) refl
     by true e = absurd (apart (subst (IsInterface classes) (sym (eqb-true class c e)) i))
     by false e = refl
 
--- ---- the members that are in interfaces
+-- ---- some of the members, one after the other
 
-module _ (classes : List ClassRow) (members found : List Member) (i : ℕ) (d : Member) (h : i < length members)
-    (so_far : (m : Member) → Contains found m ↔ Contains (take i members) m × IsInterface classes m.class) where
-  pub one_more : IsInterface classes (get_or members i d).class
-      → (m : Member) → Contains (found ++ get_or members i d ∷ []) m ↔ Contains (take (i + 1) members) m × IsInterface classes m.class
+module _ (In : Member → Type 0) (members found : List Member) (i : ℕ) (d : Member) (h : i < length members)
+    (so_far : (m : Member) → Contains found m ↔ Contains (take i members) m × In m) where
+  pub one_more : In (get_or members i d)
+      → (m : Member) → Contains (found ++ get_or members i d ∷ []) m ↔ Contains (take (i + 1) members) m × In m
   one_more here m = (
     λ c. elim (Contains-push_cases found (get_or members i d) m c) [
       | inl old ↦ let p = (so_far m).0 old in (Contains-take_kept members i d m h p.0, p.1)
-      | inr new ↦ (subst (Contains (take (i + 1) members)) new (Contains-take_last members i d h), subst (λ (x : Member). IsInterface classes x.class) new here)
+      | inr new ↦ (subst (Contains (take (i + 1) members)) new (Contains-take_last members i d h), subst In new here)
     ],
     λ p. elim (Contains-take_more members i d m h p.0) [
       | inl old ↦ Contains-append_left found _ m ((so_far m).1 (old, p.1))
@@ -55,12 +55,12 @@ module _ (classes : List ClassRow) (members found : List Member) (i : ℕ) (d : 
     ],
   )
 
-  pub one_skipped : (IsInterface classes (get_or members i d).class → ⊥) → (m : Member) → Contains found m ↔ Contains (take (i + 1) members) m × IsInterface classes m.class
+  pub one_skipped : (In (get_or members i d) → ⊥) → (m : Member) → Contains found m ↔ Contains (take (i + 1) members) m × In m
   one_skipped apart m = (
     λ c. let p = (so_far m).0 c in (Contains-take_kept members i d m h p.0, p.1),
     λ p. elim (Contains-take_more members i d m h p.0) [
       | inl old ↦ (so_far m).1 (old, p.1)
-      | inr is ↦ absurd (apart (subst (λ (x : Member). IsInterface classes x.class) (sym is) p.1))
+      | inr is ↦ absurd (apart (subst In (sym is) p.1))
     ],
   )
 

@@ -1,14 +1,12 @@
 -- The lists of the keys of some members.
-use Rattle.std.proofs.Common.{◌≡◌, ℕ, ◌+◌, ◌<◌, ◌↔◌, ◌==◌, Bool, true, false, true≢false, Option, Some, None, List, [], ◌∷◌, ◌++◌, length, get_or, set, take, refl, sym, ap, subst, ◌∙◌, inl, inr, arith, eqb, eqb-true, eq-eqb, get_or-set_same, get_or-set_other, if◌then◌else◌, replicate}
-use Rattle.std.specs.List.{Contains, All, list_any, position}
+use Rattle.std.proofs.Common.{◌≡◌, ℕ, ◌+◌, ◌<◌, ◌↔◌, ◌==◌, true≢false, Option, Some, None, List, [], ◌∷◌, ◌++◌, length, map, get_or, set, take, refl, sym, ap, subst, ◌∙◌, inl, inr, arith, eqb-true, eq-eqb, get_or-set_same, get_or-set_other, replicate}
+use Rattle.std.specs.List.{Contains, All, position}
 use Rattle.std.specs.Option.{is_some}
 use Rattle.std.proofs.lemmas.Bool.{cases_eq}
 use Rattle.std.proofs.lemmas.Iterator.Adapters.{position_from-zero}
-use Rattle.std.proofs.lemmas.List.Elements.{Contains-append_left, All-contains, All-more, All-weaker}
+use Rattle.std.proofs.lemmas.List.Elements.{All-contains}
 use Rattle.std.proofs.lemmas.List.Quantifiers.{position-Some}
 use Rattle.std.proofs.lemmas.Option.{slice_get-get_or}
-use Rattle.indexmap.proofs.CallerLemmas.{Contains-insert_key}
-use Rattle.indexmap.specs.IndexSet.{insert_key}
 use Rattle.class_tree.specs.declared.first_rows.Member.{Member}
 use Rattle.class_order.specs.declared.spans.Span.{Span}
 use Rattle.class_order.specs.Groups.{group}
@@ -17,19 +15,14 @@ use Rattle.class_order.specs.Spans.{AreApart, Holds, HoldsAny}
 use Rattle.class_order.proofs.Listed.{Under-push, Under-kept, Under-pushed, group-replicate}
 use Rattle.lists.proofs.Elements.{Contains-nil, Contains-take_more, Contains-take_kept, Contains-take_last}
 use Rattle.class_order.proofs.Positions.{found_from}
+use Rattle.class_tree.proofs.Building.{Contains-mapped}
 use Rattle.class_order.proofs.Spanned.{apart_none, holds_none}
 
 -- ---- the keys
 
-key_kept : (keys : List ℕ) (k q : ℕ) → Contains keys q → Contains (insert_key eqb keys k) q
-key_kept keys k q m = by (list_any (eqb k) keys)
-  where
-    by : (b : Bool) → Contains (if b then keys else keys ++ k ∷ []) q
-    by true = m
-    by false = Contains-append_left keys _ q m
-
-key_added : (keys : List ℕ) (k : ℕ) → Contains (insert_key eqb keys k) k
-key_added keys k = Contains-insert_key eqb eqb-true keys k
+-- the keys of members are known where the set has these
+pub keys_known : (members : List Member) (keys : List ℕ) → ((n : ℕ) → Contains keys n ↔ Contains (map (λ (m : Member). m.key) members) n) → All (λ (m : Member). Contains keys m.key) members
+keys_known members keys same k d h = (same _).1 (Contains-mapped (λ (m : Member). m.key) members k (get_or members k d) (slice_get-get_or members k d h))
 
 -- a key that stands there has an index
 pub key_found : (keys : List ℕ) (k : ℕ) → Contains keys k → position (λ x. k == x) keys ≡ None → ⊥
@@ -44,13 +37,6 @@ key_index keys k m = by (position (λ x. k == x) keys) refl
     by : (o : Option ℕ) → position (λ x. k == x) keys ≡ o → (i : ℕ) × (position (λ x. k == x) keys ≡ Some i)
     by None e = absurd (key_found keys k m e)
     by (Some i) e = (i, e)
-
--- the key of one more member is put into the set
-pub keys_more : (members : List Member) (keys : List ℕ) (i : ℕ) (d : Member) → i < length members → All (λ (m : Member). Contains keys m.key) (take i members)
-    → All (λ (m : Member). Contains (insert_key eqb keys (get_or members i d).key) m.key) (take (i + 1) members)
-keys_more members keys i d h known = All-more (λ (m : Member). Contains (insert_key eqb keys (get_or members i d).key) m.key) members i d h
-    (All-weaker (λ (m : Member). Contains keys m.key) (λ (m : Member). Contains (insert_key eqb keys (get_or members i d).key) m.key) (λ m. key_kept keys (get_or members i d).key m.key) (take i members) known)
-    (key_added keys (get_or members i d).key)
 
 -- keys with one index are one key
 pub key_same : (keys : List ℕ) (k q i : ℕ) → position (λ x. k == x) keys ≡ Some i → position (λ x. q == x) keys ≡ Some i → k ≡ q

@@ -7,6 +7,7 @@ pub mod Turning
 pub mod Walking
 pub mod Slots
 pub mod Held
+pub mod Owned
 pub mod Lowest
 pub mod Running
 pub mod FieldRuns

@@ -1,5 +1,5 @@
 -- Default methods, one interface after the other.
-use Rattle.std.proofs.Common.{◌≡◌, ◌≢◌, ℕ, zero, suc, ◌+◌, ◌<◌, ◌≤◌, ◌⊎◌, ◌↔◌, Bool, true, false, true≢false, IsTrue, not, eqb, eqb-true, Option, Some, None, List, [], ◌∷◌, slice_get, get_or, drop, length, refl, sym, ap, subst, ◌∙◌, inl, inr, arith}
+use Rattle.std.proofs.Common.{◌≡◌, ◌≢◌, ℕ, zero, suc, ◌+◌, ◌<◌, ◌≤◌, ◌⊎◌, ◌↔◌, Bool, true, true≢false, Option, Some, None, List, [], ◌∷◌, slice_get, get_or, drop, length, refl, sym, ap, subst, ◌∙◌, inl, inr, arith}
 use Rattle.std.specs.List.{Contains}
 use Rattle.std.specs.Option.{is_some}
 use Rattle.std.proofs.lemmas.Bool.{cases_eq}
@@ -16,7 +16,6 @@ use Rattle.class_tree.specs.Indexed.{AreReached, HoldsMethod}
 use Rattle.class_rules.specs.Lookups.{IsAmbiguous, IsDefault, IsHolder, IsLowestHolder, OnPath, Resolve, ambiguous, by_default, nowhere, own_row}
 use Rattle.class_rules.specs.Rows.{Rows, Sub}
 use Rattle.class_rules.proofs.LawFacts.{path_one}
-use Rattle.lists.proofs.Elements.{Contains-nil}
 use Rattle.class_rules.proofs.Selected.{owned_row}
 
 -- ---- holders
@@ -241,13 +240,3 @@ ambiguous_two rows class key two = record { one = two.one; other = two.other; is
 -- what is found along the parents leaves no doubt
 pub found_not_ambiguous : (rows : Rows) (class key : ℕ) (r : Option ℕ) → OnPath rows class key r → is_some r ≡ true → IsAmbiguous rows class key → ⊥
 found_not_ambiguous rows class key r p some two = let same = path_one rows class key r None p two.off_path in true≢false (sym some ∙ ap is_some same)
-
--- whether there is one at all
-pub held_some : (rows : Rows) (key : ℕ) (interfaces : List ℕ) → ((b : ℕ) → Contains interfaces b ↔ HoldsMethod rows b key)
-    → IsTrue (not (eqb (length interfaces) 0)) ↔ ((b : ℕ) × HoldsMethod rows b key)
-held_some rows key [] all = (λ t. absurd (true≢false (sym t)), λ p. absurd (Contains-nil p.0 ((all p.0).1 p.1)))
-held_some rows key (x ∷ xs) all = (λ t. (x, (all x).0 (0, omega arith, refl)), λ p. by (eqb (length (x ∷ xs)) 0) refl)
-  where
-    by : (b : Bool) → eqb (length (x ∷ xs)) 0 ≡ b → IsTrue (not (eqb (length (x ∷ xs)) 0))
-    by true e = absurd (omega (arith, eqb-true (length (x ∷ xs)) 0 e))
-    by false e = ap not e

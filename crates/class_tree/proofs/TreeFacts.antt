@@ -6,12 +6,12 @@ use Rattle.std.proofs.lemmas.List.{take-append-drop}
 use Rattle.std.proofs.Common.{drop-cons}
 use Rattle.std.proofs.lemmas.List.Elements.{All-contains, Contains-append_left, Contains-append_right}
 use Rattle.std.proofs.lemmas.Option.{slice_get_within, get_or_from_slice_get}
-use Rattle.class_tree.specs.declared.key_spans.KeySpans.{KeySpans}
+use Rattle.class_tree.specs.declared.owners.Owners.{Owners}
 use Rattle.class_rules.specs.declared.rows.ClassRow.{ClassRow}
 use Rattle.class_order.specs.declared.spans.Span.{Span}
 use Rattle.class_order.specs.Groups.{group}
 use Rattle.class_tree.specs.Indexed.{HasFieldNear, AreRanked, TellsOf, IsHierarchy}
-use Rattle.class_tree.specs.KeySpans.{spans_of}
+use Rattle.class_tree.specs.Owners.{HoldsOwner}
 use Rattle.class_rules.specs.Lookups.{own_field, FieldHere}
 use Rattle.class_rules.specs.Orders.{Orders, class_first, each, first_found}
 use Rattle.class_rules.specs.Paths.{Path, here, step}
@@ -49,9 +49,9 @@ known_parent rows shown a d s e h is None names = cc
 pub place_read : (places : List ℕ) (a place : ℕ) → a < length places → place ≡ get_or places a place → place ≡ get_or places a 0
 place_read places a place h e = e ∙ same_read places a place 0 h
 
-pub tells : (P : ℕ → ℕ → Type 0) (count : ℕ) (places : List ℕ) (s : KeySpans) (answer : Bool) (a k place : ℕ) → TellsOf P count places s → a < count → place ≡ get_or places a 0
-    → IsTrue answer ↔ Holds (spans_of s k) place → IsTrue answer ↔ P a k
-tells P count places s answer a k place t h e test = let at = subst (λ (x : ℕ). IsTrue answer ↔ Holds (spans_of s k) x) e test in
+pub tells : (P : ℕ → ℕ → Type 0) (count : ℕ) (places : List ℕ) (table : List (List Span)) (o : Owners) (answer : Bool) (a k place : ℕ) → TellsOf P count places table o → a < count → place ≡ get_or places a 0
+    → IsTrue answer ↔ HoldsOwner table o k place → IsTrue answer ↔ P a k
+tells P count places table o answer a k place t h e test = let at = subst (λ (x : ℕ). IsTrue answer ↔ HoldsOwner table o k x) e test in
     (λ y. (t.exact a k h).0 (at.0 y), λ p. at.1 ((t.exact a k h).1 p))
 
 pub tells_path : (Go : ℕ → ℕ → Type 0) (count : ℕ) (places : List ℕ) (table : List (List Span)) (answer : Bool) (a b place : ℕ) → IsReach Go count places table → a < count → b < count → place ≡ get_or places a 0

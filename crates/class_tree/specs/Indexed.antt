@@ -1,6 +1,6 @@
 -- What a tree keeps of its rows.
 use Rattle.std.specs.Prelude.{◌≡◌, ℕ, ◌<◌, ◌^◌, ◌↔◌, List, Some, Contains, length, map, slice_get, slice_index}
-use Rattle.class_tree.specs.declared.key_spans.KeySpans.{KeySpans}
+use Rattle.class_tree.specs.declared.owners.Owners.{Owners}
 use Rattle.class_tree.specs.declared.kept.KeptRows.{KeptRows}
 use Rattle.class_tree.specs.declared.members.Members.{Members}
 use Rattle.class_tree.specs.declared.inherited.Inherited.{Inherited}
@@ -10,12 +10,12 @@ use Rattle.class_rules.specs.declared.rows.FieldRow.{FieldRow}
 use Rattle.class_order.specs.declared.spans.Span.{Span}
 use Rattle.class_tree.specs.FirstRows.{row_at}
 use Rattle.class_order.specs.Groups.{group}
-use Rattle.class_tree.specs.Holders.{AreHolders, IsInterface, holders_of}
-use Rattle.class_tree.specs.KeySpans.{IsKeyed, member_of_field, member_of_method, spans_of}
+use Rattle.class_tree.specs.Holders.{IsInterface, holders_of}
+use Rattle.class_tree.specs.KeySpans.{member_of_field, member_of_method}
+use Rattle.class_tree.specs.Owners.{AreOwners, AreServed, HoldsOwner}
 use Rattle.class_rules.specs.Lookups.{own_body, own_field, own_row, Declared, IsHolder}
 use Rattle.class_rules.specs.Paths.{Path}
 use Rattle.class_rules.specs.Rows.{Rows, rows_of, NameClasses, NamesUnknown, IsOwnAncestor, Step, HasInterface, interfaces_of}
-use Rattle.class_order.specs.Spans.{AreApart, Holds}
 use Rattle.class_order.specs.Tables.{HavePlaces, IsReach}
 use Rattle.class_tree.specs.Inherited.{AreInherited}
 
@@ -31,11 +31,10 @@ pub record HasFieldNear (rows : Rows) (class key : ℕ) : Type 0 where
   pub row : ℕ
   pub own : own_field rows.fields owner key ≡ Some row
 
--- a place lies in the spans of a key where the fact holds of the class that has this place
-pub record TellsOf (P : ℕ → ℕ → Type 0) (count : ℕ) (places : List ℕ) (s : KeySpans) : Type 0 where
-  pub len : length s.spans ≡ length s.keys.keys
-  pub apart : (k : ℕ) → AreApart (spans_of s k)
-  pub exact : (a k : ℕ) → a < count → Holds (spans_of s k) (slice_index places a) ↔ P a k
+-- a place is held for a key where the fact holds of the class that has this place
+pub record TellsOf (P : ℕ → ℕ → Type 0) (count : ℕ) (places : List ℕ) (table : List (List Span)) (o : Owners) : Type 0 where
+  pub served : AreServed table o
+  pub exact : (a k : ℕ) → a < count → HoldsOwner table o k (slice_index places a) ↔ P a k
 
 -- a rank for each class, above those of its parent and its interfaces
 pub record AreRanked (rows : Rows) (ranks : List ℕ) : Type 0 where
@@ -59,15 +58,14 @@ pub record AreReached (rows : Rows) (class key : ℕ) (interfaces : List ℕ) : 
 
 -- what is kept of methods and fields, over the tables of all steps and of the interfaces alone
 pub record AreMembers (classes : List ClassRow) (methods : List MethodRow) (fields : List FieldRow) (reach near : List (List Span)) (m : Members) : Type 0 where
-  pub declares : IsKeyed (map member_of_method methods) reach m.declared
-  pub near_fields : IsKeyed (map member_of_field fields) near m.near_fields
+  pub declares : AreOwners classes (map member_of_method methods) reach m.declared
+  pub near_fields : AreOwners classes (map member_of_field fields) near m.near_fields
   pub bodies : (c k : ℕ) → row_at m.bodies c k ≡ own_body methods c k
   pub interface_rows : (c k : ℕ) → IsInterface classes c → row_at m.interface_rows c k ≡ own_row methods c k
-  pub holders : AreHolders classes (map member_of_method methods) m.holders
   pub own_fields : (c k : ℕ) → row_at m.own_fields c k ≡ own_field fields c k
 
 -- the tables say what the rows say
-pub record IsIndexed (rows : Rows) (interfaces : List (List ℕ)) (ranks places : List ℕ) (reach : List (List Span)) (members : Members) (inherited : Inherited) : Type 0 where
+pub record IsIndexed (rows : Rows) (interfaces : List (List ℕ)) (ranks places : List ℕ) (reach near : List (List Span)) (members : Members) (inherited : Inherited) : Type 0 where
   pub named : NameClasses rows
   pub hierarchy : IsHierarchy rows
   pub ranked : AreRanked rows ranks
@@ -76,12 +74,11 @@ pub record IsIndexed (rows : Rows) (interfaces : List (List ℕ)) (ranks places 
   pub interfaces_len : length interfaces ≡ length rows.classes
   pub interfaces_are : (a : ℕ) → group interfaces a ≡ interfaces_of rows.implements a
   pub reached : IsReach (Step rows.classes rows.implements) (length rows.classes) places reach
-  pub declares : TellsOf (Declared rows) (length rows.classes) places members.declared
-  pub near_fields : TellsOf (HasFieldNear rows) (length rows.classes) places members.near_fields
+  pub declares : TellsOf (Declared rows) (length rows.classes) places reach members.declared
+  pub near_fields : TellsOf (HasFieldNear rows) (length rows.classes) places near members.near_fields
   pub bodies : (c k : ℕ) → row_at members.bodies c k ≡ own_body rows.methods c k
   pub interface_rows : (c k : ℕ) → IsInterface rows.classes c → row_at members.interface_rows c k ≡ own_row rows.methods c k
-  pub holders_len : length members.holders.interfaces ≡ length members.holders.keys.keys
-  pub holders : (b k : ℕ) → Contains (holders_of members.holders k) b ↔ HoldsMethod rows b k
+  pub holders : (b k : ℕ) → Contains (holders_of members.declared.interfaces k) b ↔ HoldsMethod rows b k
   pub fields : (c k : ℕ) → row_at members.own_fields c k ≡ own_field rows.fields c k
   pub along : AreInherited rows.classes rows.methods places inherited
 

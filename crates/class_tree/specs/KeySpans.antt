@@ -21,7 +21,7 @@ list_at lists (Some i) = group lists i
 
 -- the spans kept for the key
 abbrev pub spans_of : KeySpans → ℕ → List Span
-spans_of s k = list_at s.spans (position (λ x. k == x) s.keys.keys)
+spans_of s k = list_at s.spans (position (λ x. k == x) s.keys)
 
 -- the place lies in one of the spans that the table has for the class of a member with this key
 abbrev pub HoldsKey : List Member → List (List Span) → ℕ → ℕ → Type 0
@@ -29,7 +29,7 @@ HoldsKey members table k p = (m : Member) × Contains members m × (m.key ≡ k)
 
 -- for each key the places of its members
 pub record IsKeyed (members : List Member) (table : List (List Span)) (s : KeySpans) : Type 0 where
-  pub len : length s.spans ≡ length s.keys.keys
+  pub len : length s.spans ≡ length s.keys
   pub apart : (k : ℕ) → AreApart (spans_of s k)
   pub exact : (k p : ℕ) → Holds (spans_of s k) p ↔ HoldsKey members table k p
 

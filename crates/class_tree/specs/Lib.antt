@@ -1,6 +1,7 @@
 pub mod FirstRows
 pub mod KeySpans
 pub mod Holders
+pub mod Owners
 pub mod Indexed
 pub mod Inherited
 pub mod Defaults

@@ -3,8 +3,6 @@ use Rattle.std.specs.Prelude.{◌≡◌, ℕ, ◌+◌, ◌<◌, ◌≤◌, Optio
 use Rattle.class_tree.specs.declared.runs.Runs.{Runs}
 use Rattle.class_rules.specs.declared.rows.ClassRow.{ClassRow}
 use Rattle.class_rules.specs.Rows.{HasParent}
-use Rattle.class_order.specs.declared.spans.Span.{Span}
-use Rattle.class_order.specs.Spans.{Holds}
 
 -- from one place up to another each class is the parent of the one at the next place
 abbrev pub IsRun : List ClassRow → List ℕ → ℕ → ℕ → Type 0
@@ -19,7 +17,7 @@ pub record AreRuns (classes : List ClassRow) (places : List ℕ) (runs : Runs) :
   pub each : (p : ℕ) → p < length runs.tenants.items → IsRun classes runs.tenants.items (slice_index runs.starts.items p) p
   pub falls : (a b : ℕ) → HasParent classes a b → slice_index places b < slice_index places a
 
--- the last of the places from the first up to the other, it included, that lies in one of the spans
-abbrev pub IsLastHeld : List Span → ℕ → ℕ → Option ℕ → Type 0
-IsLastHeld spans from to (Some p) = (from ≤ p) × (p ≤ to) × Holds spans p × ((q : ℕ) → p < q → q ≤ to → Holds spans q → ⊥)
-IsLastHeld spans from to None = (q : ℕ) → from ≤ q → q ≤ to → Holds spans q → ⊥
+-- the last of the places from the first up to the other, it included, of which something holds
+abbrev pub IsLastHeld : (ℕ → Type 0) → ℕ → ℕ → Option ℕ → Type 0
+IsLastHeld At from to (Some p) = (from ≤ p) × (p ≤ to) × At p × ((q : ℕ) → p < q → q ≤ to → At q → ⊥)
+IsLastHeld At from to None = (q : ℕ) → from ≤ q → q ≤ to → At q → ⊥

@@ -102,10 +102,10 @@ pub record IsNumbering (classes : List ClassRow) (n : Numbering) : Type 0 where
 
 -- the turns of the key
 abbrev pub turns_of : Paths → ℕ → List Turn
-turns_of paths key = list_at paths.turns (position (λ x. key == x) paths.keys.keys)
+turns_of paths key = list_at paths.turns (position (λ x. key == x) paths.keys)
 
 -- look-ups of all keys from all classes, by the rows that each class has for itself and by the numbers of the classes
 pub record TellPaths (classes : List ClassRow) (own : ℕ → ℕ → Option ℕ) (numbers : List ℕ) (paths : Paths) : Type 0 where
-  pub len : length paths.turns ≡ length paths.keys.keys
+  pub len : length paths.turns ≡ length paths.keys
   pub rising : (key : ℕ) → IsNonDecreasingBy (λ t. t.at) (turns_of paths key)
   pub exact : (c key : ℕ) → c < length classes → Upwards classes (λ c r. r ≡ own c key) c (turned None (turns_of paths key) (slice_index numbers c))

@@ -7,19 +7,20 @@ ghost use Rattle.class_tree.specs.KeySpans.{member_of_field, member_of_method};
 
 use class_rules::{ClassRow, FieldRow, MethodRow};
 use std::alloc::{AllocError, Global};
-use std::collections::HashMap;
+use std::collections::BTreeMap;
 
-/// A key that a class declares.
-#[derive(Clone, Copy, Debug, PartialEq, Eq, Hash)]
+/// A key that a class declares. They are ordered by class, and within a class by key.
+#[derive(Clone, Copy, Debug, PartialEq, Eq, PartialOrd, Ord)]
 pub struct Member {
     pub class: u32,
     pub key: u32,
 }
 
-/// For a class and a key the first row that was added.
+/// For a class and a key the first row that was added. A look-up takes time with the logarithm of how
+/// many rows there are, whichever numbers their classes and keys have.
 #[derive(Drop)]
 pub struct FirstRows {
-    rows: HashMap<Member, u32>,
+    rows: BTreeMap<Member, u32>,
 }
 
 impl FirstRows {
@@ -27,7 +28,7 @@ impl FirstRows {
         ensures { (c k : ℕ) → row_at result c k ≡ None }
     {
         FirstRows {
-            rows: HashMap::new(alloc),
+            rows: BTreeMap::new(alloc),
         }
     }
 

@@ -1,18 +1,21 @@
 ghost use Rattle.std.specs.Prelude.{◌≡◌, ◌<◌, ◌↔◌, length, All, Contains, IfOk, slice_index};
 ghost use Rattle.class_tree.specs.declared.first_rows.Member.{Member};
-ghost use Rattle.class_tree.specs.Holders.{AreHolders, IsInterface, holders_of};
+ghost use Rattle.class_tree.specs.Holders.{AreHolders, IsInterface, few_of, holders_of};
 
 use super::first_rows::Member;
 use super::key_spans::{classes_by_key, keys_of};
 use class_order::Groups;
 use class_rules::ClassRow;
-use indexmap::IndexSet;
+use number_sets::SortedSet;
 use std::alloc::{AllocError, Global};
 
-/// For each key the interfaces that have a method of it.
+// So many interfaces are few: a look-up may go over them one by one.
+const FEW: usize = 4;
+
+/// For each key the interfaces that have a member of it. The key is found by halves.
 #[derive(Drop)]
 pub struct Holders {
-    keys: IndexSet<u32>,
+    keys: SortedSet,
     interfaces: Groups<u32>,
 }
 
@@ -61,15 +64,24 @@ impl Holders {
         Ok(Holders { keys, interfaces })
     }
 
-    /// The interfaces with a method of this key. One with more such methods may stand there more
+    /// The interfaces with a member of this key. One with more such members may stand there more
     /// than once.
     pub fn of(&self, key: u32) -> &[u32]
-        requires { length self.now.interfaces ≡ length self.now.keys.keys }
+        requires { length self.now.interfaces ≡ length self.now.keys }
         ensures { result.now ≡ holders_of self.now key }
     {
-        match self.keys.get_index_of(&key) {
+        match self.keys.index_of(key) {
             Some(at) => self.interfaces.get(at),
             None => &[],
         }
+    }
+
+    /// The interfaces with a member of this key, where these are few, and none where they are more.
+    pub fn few(&self, key: u32) -> &[u32]
+        requires { length self.now.interfaces ≡ length self.now.keys }
+        ensures { result.now ≡ few_of self.now key }
+    {
+        let all = self.of(key);
+        if all.len() <= FEW { all } else { &[] }
     }
 }

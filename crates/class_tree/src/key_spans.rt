@@ -1,4 +1,4 @@
-ghost use Rattle.std.specs.Prelude.{◌≡◌, ℕ, ◌<◌, ◌↔◌, length, All, Contains, IfOk, IsTrue};
+ghost use Rattle.std.specs.Prelude.{◌≡◌, ℕ, ◌<◌, ◌↔◌, length, map, All, Contains, IfOk, IsTrue};
 ghost use Rattle.class_order.specs.Groups.{group};
 ghost use Rattle.class_tree.specs.KeySpans.{AreClassesByKey, IsKeyed, spans_of};
 ghost use Rattle.class_order.specs.Spans.{AreApart, Holds};
@@ -6,50 +6,55 @@ ghost use Rattle.class_tree.specs.Runs.{IsLastHeld};
 
 use super::first_rows::Member;
 use class_order::{Groups, Span, gathered, holds, united};
-use indexmap::IndexSet;
+use number_sets::SortedSet;
 use std::alloc::{AllocError, Global};
 
-/// For each key the places of the classes that reach one with a member of this key.
+/// For each key the places of the classes that reach one with a member of this key. The key is found by
+/// halves, and so is a place in its spans.
 #[derive(Drop)]
 pub struct KeySpans {
-    keys: IndexSet<u32>,
+    keys: SortedSet,
     spans: Groups<Span>,
 }
 
-/// The keys of the members.
-pub fn keys_of(alloc: Global, members: &[Member]) -> Result<IndexSet<u32>, AllocError>
-    ensures { IfOk result (λ keys. All (λ m. Contains keys.keys m.key) members.now) }
+// The key of each of the members.
+fn each_key(alloc: Global, members: &[Member]) -> Result<Vec<u32>, AllocError>
+    ensures { IfOk result (λ keys. keys.items ≡ map (λ m. m.key) members.now) }
 {
-    let mut keys: IndexSet<u32> = IndexSet::new(alloc);
-    for member in members {
-        keys.insert(member.key)?;
-    }
-    Ok(keys)
+    members.iter().map(|member| member.key).collect(alloc)
+}
+
+/// The keys of the members.
+pub fn keys_of(alloc: Global, members: &[Member]) -> Result<SortedSet, AllocError>
+    ensures { IfOk result (λ keys. All (λ m. Contains keys m.key) members.now) }
+{
+    let keys = each_key(alloc, members)?;
+    Ok(SortedSet::new(keys))
 }
 
 /// For each of the keys the classes of its members.
 pub fn classes_by_key(
     alloc: Global,
     members: &[Member],
-    keys: &IndexSet<u32>,
+    keys: &SortedSet,
 ) -> Result<Groups<u32>, AllocError>
-    requires { All (λ m. Contains keys.now.keys m.key) members.now }
-    ensures len { IfOk result (λ classes. length classes ≡ length keys.now.keys) }
-    ensures classes { IfOk result (AreClassesByKey members.now keys.now.keys) }
+    requires { All (λ m. Contains keys.now m.key) members.now }
+    ensures len { IfOk result (λ classes. length classes ≡ length keys.now) }
+    ensures classes { IfOk result (AreClassesByKey members.now keys.now) }
 {
     let mut classes = Groups::new(alloc, keys.len())?;
     for member in members {
-        if let Some(at) = keys.get_index_of(&member.key) {
+        if let Some(at) = keys.index_of(member.key) {
             classes.push(at, member.class)?;
         }
     }
     Ok(classes)
 }
 
-// The last of the places from `from` up to `to`, `to` included, that lies in one of the spans.
-fn last_held(spans: &[Span], from: u32, to: u32) -> Option<u32>
+/// The last of the places from `from` up to `to`, `to` included, that lies in one of the spans.
+pub fn last_held(spans: &[Span], from: u32, to: u32) -> Option<u32>
     requires { AreApart spans.now }
-    ensures { IsLastHeld spans.now from to result }
+    ensures { IsLastHeld (Holds spans.now) from to result }
 {
     let after = spans.partition_point(|span| span.start <= to);
     if after == 0 {
@@ -79,11 +84,11 @@ impl KeySpans {
 
     /// Whether a place lies in one of the spans of a key.
     pub fn holds(&self, key: u32, place: u32) -> bool
-        requires len { length self.now.spans ≡ length self.now.keys.keys }
+        requires len { length self.now.spans ≡ length self.now.keys }
         requires apart { AreApart (spans_of self.now key) }
         ensures { IsTrue result ↔ Holds (spans_of self.now key) place }
     {
-        match self.keys.get_index_of(&key) {
+        match self.keys.index_of(key) {
             Some(at) => holds(self.spans.get(at), place),
             None => false,
         }
@@ -92,11 +97,11 @@ impl KeySpans {
     /// The last of the places from `from` up to `to`, `to` included, that lies in one of the spans of
     /// a key.
     pub fn last(&self, key: u32, from: u32, to: u32) -> Option<u32>
-        requires len { length self.now.spans ≡ length self.now.keys.keys }
+        requires len { length self.now.spans ≡ length self.now.keys }
         requires apart { AreApart (spans_of self.now key) }
-        ensures { IsLastHeld (spans_of self.now key) from to result }
+        ensures { IsLastHeld (Holds (spans_of self.now key)) from to result }
     {
-        match self.keys.get_index_of(&key) {
+        match self.keys.index_of(key) {
             Some(at) => last_held(self.spans.get(at), from, to),
             None => None,
         }

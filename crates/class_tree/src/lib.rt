@@ -12,6 +12,7 @@ mod members;
 mod near;
 mod numbering;
 mod own_rows;
+mod owners;
 mod paths;
 mod runs;
 mod steps;

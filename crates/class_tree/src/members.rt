@@ -4,8 +4,7 @@ ghost use Rattle.class_tree.specs.Indexed.{AreMembers};
 ghost use Rattle.class_order.specs.Spans.{AreApart};
 
 use super::first_rows::{FirstRows, field_members, method_members};
-use super::holders::Holders;
-use super::key_spans::KeySpans;
+use super::owners::Owners;
 use class_order::{Groups, Span};
 use class_rules::{ClassRow, FieldRow, MethodRow};
 use std::alloc::{AllocError, Global};
@@ -13,11 +12,10 @@ use std::alloc::{AllocError, Global};
 /// What is kept of methods and fields.
 #[derive(Drop)]
 pub struct Members {
-    pub declared: KeySpans,
-    pub near_fields: KeySpans,
+    pub declared: Owners,
+    pub near_fields: Owners,
     pub bodies: FirstRows,
     pub interface_rows: FirstRows,
-    pub holders: Holders,
     pub own_fields: FirstRows,
 }
 
@@ -36,9 +34,10 @@ impl Members {
     ) -> Result<Self, AllocError>
         requires few_methods { length methods.now < 2 ^ 32 }
         requires few_fields { length fields.now < 2 ^ 32 }
-        requires len { length reach.now ≡ length classes.now }
+        requires reach_len { length reach.now ≡ length classes.now }
+        requires near_len { length near.now ≡ length classes.now }
         requires methods { All (λ m. m.class < length classes.now) methods.now }
-        requires fields { All (λ f. f.class < length near.now) fields.now }
+        requires fields { All (λ f. f.class < length classes.now) fields.now }
         requires reach { (c : ℕ) → AreApart (group reach.now c) }
         requires near { (c : ℕ) → AreApart (group near.now c) }
         ensures { IfOk result (AreMembers classes.now methods.now fields.now reach.now near.now) }
@@ -46,11 +45,10 @@ impl Members {
         let of_methods = method_members(alloc, methods)?;
         let of_fields = field_members(alloc, fields)?;
         Ok(Members {
-            declared: KeySpans::new(alloc, of_methods.as_slice(), reach)?,
-            near_fields: KeySpans::new(alloc, of_fields.as_slice(), near)?,
+            declared: Owners::new(alloc, classes, of_methods.as_slice(), reach, ranks)?,
+            near_fields: Owners::new(alloc, classes, of_fields.as_slice(), near, ranks)?,
             bodies: FirstRows::of_bodies(alloc, methods)?,
             interface_rows: FirstRows::of_interfaces(alloc, classes, methods)?,
-            holders: Holders::new(alloc, classes, of_methods.as_slice(), ranks)?,
             own_fields: FirstRows::of_fields(alloc, fields)?,
         })
     }

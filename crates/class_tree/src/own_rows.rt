@@ -4,7 +4,7 @@ ghost use Rattle.class_tree.specs.Turns.{AreOwn, AreRowsOf};
 
 use super::first_rows::{FirstRows, Member};
 use class_order::Groups;
-use indexmap::IndexSet;
+use number_sets::SortedSet;
 use std::alloc::{AllocError, Global};
 
 /// The first row that a class has for the key in this slot.
@@ -20,20 +20,20 @@ pub fn own_rows(
     count: usize,
     members: &[Member],
     rows: &FirstRows,
-    keys: &IndexSet<u32>,
+    keys: &SortedSet,
 ) -> Result<Groups<Own>, AllocError>
     requires few { length members.now < 2 ^ 32 }
     requires known { All (λ m. m.class < count) members.now }
     requires rows { AreRowsOf (row_at rows.now) members.now }
-    requires keys { All (λ m. Contains keys.now.keys m.key) members.now }
+    requires keys { All (λ m. Contains keys.now m.key) members.now }
     ensures len { IfOk result (λ owns. length owns ≡ count) }
-    ensures exact { IfOk result (AreOwn (row_at rows.now) keys.now.keys) }
+    ensures exact { IfOk result (AreOwn (row_at rows.now) keys.now) }
 {
     let mut owns = Groups::new(alloc, count)?;
     for (row, member) in members.iter().enumerate() {
         let row = row as u32;
         if rows.get(member.class, member.key) == Some(row) {
-            if let Some(slot) = keys.get_index_of(&member.key) {
+            if let Some(slot) = keys.index_of(member.key) {
                 owns.push(member.class as usize, Own { slot, row })?;
             }
         }

@@ -11,15 +11,15 @@ use super::turns::{Turn, row_at};
 use super::walk::{Forest, turns_by_slot};
 use class_order::Groups;
 use class_rules::ClassRow;
-use indexmap::IndexSet;
+use number_sets::SortedSet;
 use std::alloc::{AllocError, Global};
 
 /// What look-ups of all keys along the parents give. By their numbers those below a class follow it
 /// without a gap: a key has at most two turns for each class with a member of it, where the class
-/// stands and after the last below it.
+/// stands and after the last below it. The key is found by halves, and so is its turn.
 #[derive(Drop)]
 pub struct Paths {
-    keys: IndexSet<u32>,
+    keys: SortedSet,
     turns: Groups<Turn>,
 }
 
@@ -49,10 +49,10 @@ impl Paths {
 
     /// The turns of the key, in the order of the numbers: before the first a look-up gives nothing.
     pub fn turns(&self, key: u32) -> &[Turn]
-        requires { length self.now.turns ≡ length self.now.keys.keys }
+        requires { length self.now.turns ≡ length self.now.keys }
         ensures { result.now ≡ turns_of self.now key }
     {
-        match self.keys.get_index_of(&key) {
+        match self.keys.index_of(key) {
             Some(slot) => self.turns.get(slot),
             None => &[],
         }
@@ -60,7 +60,7 @@ impl Paths {
 
     /// What the look-up of the key from the class with this number gives.
     pub fn find(&self, number: u32, key: u32) -> Option<u32>
-        requires len { length self.now.turns ≡ length self.now.keys.keys }
+        requires len { length self.now.turns ≡ length self.now.keys }
         requires rising { IsNonDecreasingBy (λ t. t.at) (turns_of self.now key) }
         ensures { result ≡ turned None (turns_of self.now key) number }
     {

@@ -22,9 +22,11 @@ use std::alloc::{AllocError, Global};
 use std::marker::Model;
 
 /// The hierarchy of the classes of some rows. Contracts see it as these rows. Its look-ups take no
-/// memory. `sub` takes a search in a sorted list, `own_body` a hashed look-up, and
-/// `declared` and `on_path` one of both. So does each run of parents that `field` goes by, of which
-/// there are at most as many as the logarithm of the number of classes; then it takes as much for each
+/// memory. They search in sorted lists and ordered maps, each time in as many steps as the logarithm
+/// of how many rows there are, whichever numbers the classes and keys have. `sub` and `own_body` take
+/// one search, and `on_path` two. `declared` takes three, and one more for each interface that has the
+/// key, where these are at most four. So does each run of parents that `field` goes by, of which there
+/// are at most as many as the logarithm of the number of classes; then it takes as much for each
 /// interface on the way to the field. `resolve` and `ambiguous` go on from `on_path` to the interfaces
 /// that have a method with the key, where there are any.
 #[derive(Drop)]
@@ -35,6 +37,7 @@ pub struct Tree {
     ranks: Vec<u32>,
     places: Vec<u32>,
     reach: Groups<Span>,
+    near: Groups<Span>,
     members: Members,
     inherited: Inherited,
 }
@@ -47,7 +50,7 @@ impl Model for Tree {
 
     ghost view = { λ t. rows_in t.rows };
 
-    ghost invariant = { λ t. IsIndexed (rows_in t.rows) t.interfaces t.ranks.items t.places.items t.reach t.members t.inherited };
+    ghost invariant = { λ t. IsIndexed (rows_in t.rows) t.interfaces t.ranks.items t.places.items t.reach t.near t.members t.inherited };
 }
 
 /// The default methods that a class reaches for a key, by their rows.
@@ -138,6 +141,7 @@ fn indexed(
         ranks,
         places: numbering.numbers,
         reach,
+        near,
         members,
         inherited,
     })
@@ -176,19 +180,12 @@ impl Tree {
             .find(self.places[class as usize], key)
     }
 
-    /// Whether an interface has a method with this key, with a body or without.
-    pub fn in_interfaces(&self, key: u32) -> bool
-        ensures { IsTrue result ↔ ((interface : ℕ) × HoldsMethod self.now interface key) }
-    {
-        !self.members.holders.of(key).is_empty()
-    }
-
     /// The interfaces that have a method with this key, with a body or without. One may stand there
     /// more than once.
     pub fn holders(&self, key: u32) -> &[u32]
         ensures { (interface : ℕ) → Contains result.now interface ↔ HoldsMethod self.now interface key }
     {
-        self.members.holders.of(key)
+        self.members.declared.interfaces.of(key)
     }
 
     // The interfaces that have a method of this key, from the first on that the class reaches.
@@ -196,7 +193,7 @@ impl Tree {
         requires { class < length self.now.classes }
         ensures { AreReached self.now class key result.now }
     {
-        let holders = self.members.holders.of(key);
+        let holders = self.members.declared.interfaces.of(key);
         let mut from = 0;
         while from < holders.len() && !self.sub(class, holders[from]) {
             from += 1;
@@ -328,7 +325,7 @@ impl Tree {
     {
         self.members
             .declared
-            .holds(key, self.places[class as usize])
+            .holds(&self.reach, key, self.places[class as usize])
     }
 
     // Whether the class has a field with this key, or one of its interfaces with their own.
@@ -338,7 +335,7 @@ impl Tree {
     {
         self.members
             .near_fields
-            .holds(key, self.places[class as usize])
+            .holds(&self.near, key, self.places[class as usize])
     }
 
     // The first of the classes that has a field near.
@@ -385,7 +382,7 @@ impl Tree {
         loop {
             let place = self.places[at as usize];
             let start = runs.starts[place as usize];
-            if let Some(near) = self.members.near_fields.last(key, start, place) {
+            if let Some(near) = self.members.near_fields.last(&self.near, key, start, place) {
                 return self.field_here(runs.tenants[near as usize], key);
             }
             let first = runs.tenants[start as usize];

@@ -3,3 +3,4 @@ pub mod Staying
 pub mod Sweeping
 pub mod Swept
 pub mod Owned
+pub mod Turning

@@ -1,11 +1,9 @@
 -- The stays of interfaces, one interface and one span after the other.
-use Rattle.std.proofs.Common.{◌≡◌, ◌↔◌, ◌⊎◌, ℕ, ◌+◌, ◌<◌, ◌≤◌, Bool, true, false, if◌then◌else◌, Option, List, [], ◌∷◌, ◌++◌, length, get_or, take, sym, ap, subst, ◌∙◌, inl, inr, arith, eqb, eqb-true}
-use Rattle.std.specs.List.{Contains, list_any}
+use Rattle.std.proofs.Common.{◌≡◌, ◌↔◌, ◌⊎◌, ℕ, ◌+◌, ◌<◌, ◌≤◌, Option, List, [], ◌∷◌, ◌++◌, length, get_or, take, sym, ap, subst, ◌∙◌, inl, inr, arith}
+use Rattle.std.specs.List.{Contains}
 use Rattle.std.proofs.lemmas.List.Elements.{Contains-append_left, Contains-push, Contains-push_cases}
 use Rattle.std.proofs.lemmas.List.Sorted.{Contains-permutation, IsPermutation-sym}
 use Rattle.std.specs.List.Sorted.{IsPermutation}
-use Rattle.indexmap.proofs.CallerLemmas.{Contains-insert_key}
-use Rattle.indexmap.specs.IndexSet.{insert_key}
 use Rattle.lists.proofs.Elements.{Contains-nil, Contains-take_kept, Contains-take_last, Contains-take_more}
 use Rattle.class_rules.specs.Rows.{Rows, Step}
 use Rattle.class_order.specs.declared.spans.Span.{Span}
@@ -16,38 +14,6 @@ use Rattle.class_tree.proofs.Lowest.{held_within}
 use Rattle.class_tree.specs.Indexed.{HoldsMethod}
 use Rattle.default_turns.specs.declared.stays.Stay.{Stay}
 use Rattle.default_turns.specs.Stays.{AddsStays, AreEnded, AreStays, OwnsDefault, StaysAt}
-
--- ---- each number once
-
-added_cases : (keys : List ℕ) (k n : ℕ) → Contains (insert_key eqb keys k) n → Contains keys n ⊎ (k ≡ n)
-added_cases keys k n m = by (list_any (eqb k) keys) m
-  where
-    by : (b : Bool) → Contains (if b then keys else keys ++ k ∷ []) n → Contains keys n ⊎ (k ≡ n)
-    by true m = inl m
-    by false m = Contains-push_cases keys k n m
-
-key_kept : (keys : List ℕ) (k n : ℕ) → Contains keys n → Contains (insert_key eqb keys k) n
-key_kept keys k n m = by (list_any (eqb k) keys)
-  where
-    by : (b : Bool) → Contains (if b then keys else keys ++ k ∷ []) n
-    by true = m
-    by false = Contains-append_left keys (k ∷ []) n m
-
-pub none_yet : (numbers : List ℕ) (n : ℕ) → Contains [] n ↔ Contains (take 0 numbers) n
-none_yet numbers n = (λ m. m, λ m. m)
-
-module _ (numbers keys : List ℕ) (i d : ℕ) (h : i < length numbers) (same : (n : ℕ) → Contains keys n ↔ Contains (take i numbers) n) where
-  pub once_more : (n : ℕ) → Contains (insert_key eqb keys (get_or numbers i d)) n ↔ Contains (take (i + 1) numbers) n
-  once_more n = (
-    λ m. elim (added_cases keys (get_or numbers i d) n m) [
-      | inl old ↦ Contains-take_kept numbers i d n h ((same n).0 old)
-      | inr is ↦ subst (Contains (take (i + 1) numbers)) is (Contains-take_last numbers i d h)
-    ],
-    λ m. elim (Contains-take_more numbers i d n h m) [
-      | inl old ↦ key_kept keys (get_or numbers i d) n ((same n).1 old)
-      | inr is ↦ subst (Contains (insert_key eqb keys (get_or numbers i d))) is (Contains-insert_key eqb eqb-true keys (get_or numbers i d))
-    ],
-  )
 
 -- ---- the stays of one interface
 

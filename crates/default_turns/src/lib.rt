@@ -11,4 +11,4 @@ mod stays;
 mod sweep;
 mod turns;
 
-pub use turns::{DefaultTurn, default_turns};
+pub use turns::{DefaultTurn, default_turns, defaults_at};

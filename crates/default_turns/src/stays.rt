@@ -6,7 +6,7 @@ ghost use Rattle.default_turns.specs.Stays.{AddsStays, AreStays};
 
 use class_order::Span;
 use class_tree::{Layout, Tree};
-use indexmap::IndexSet;
+use number_sets::SortedSet;
 use std::alloc::{AllocError, Global};
 
 /// An interface with a method of the key is reached from the places from `start` up to `end`, without `end`.
@@ -46,15 +46,12 @@ fn add_stays(
     Ok(())
 }
 
-// Each of the numbers once.
-fn each_once(alloc: Global, numbers: &[u32]) -> Result<IndexSet<u32>, AllocError>
-    ensures { IfOk result (λ set. (n : ℕ) → Contains set.keys n ↔ Contains numbers.now n) }
+// Each of the numbers once, in ascending order.
+fn each_once(alloc: Global, numbers: &[u32]) -> Result<SortedSet, AllocError>
+    ensures { IfOk result (λ set. (n : ℕ) → Contains set n ↔ Contains numbers.now n) }
 {
-    let mut set = IndexSet::new(alloc);
-    for number in numbers {
-        set.insert(*number)?;
-    }
-    Ok(set)
+    let numbers = Vec::from_slice(alloc, numbers)?;
+    Ok(SortedSet::new(numbers))
 }
 
 // Those of all interfaces with a method of the key.

@@ -5,7 +5,7 @@ ghost use Rattle.class_tree.specs.Defaults.{HasDefault};
 ghost use Rattle.class_tree.specs.Indexed.{HoldsMethod};
 ghost use Rattle.class_tree.specs.Layouts.{LaysOut};
 ghost use Rattle.default_turns.specs.Stays.{AreStays, IsLastThere};
-ghost use Rattle.default_turns.specs.Turns.{AddsTurn, TellDefaults};
+ghost use Rattle.default_turns.specs.Turns.{AddsTurn, TellDefaults, defaults_at};
 
 use super::stays::{Stay, stays_of};
 use super::sweep::{entered, shown};
@@ -103,4 +103,18 @@ pub fn default_turns(
     let stays = stays_of(alloc, tree, layout, key)?;
     let turns = turns_of(alloc, tree, stays.as_slice())?;
     Ok(turns)
+}
+
+/// The default methods that are reached at a place, by the turns of a key, which stand in order: those of the last turn at the place or before it. It takes
+/// the logarithm of how many turns there are.
+pub fn defaults_at(turns: &[DefaultTurn], place: u32) -> Defaults
+    requires { IsNonDecreasingBy (λ t. t.at) turns.now }
+    ensures { result ≡ defaults_at turns.now place }
+{
+    let after = turns.partition_point(|turn| turn.at <= place);
+    if after > 0 {
+        turns[after - 1].defaults
+    } else {
+        Defaults::Nothing
+    }
 }

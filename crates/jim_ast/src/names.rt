@@ -12,7 +12,7 @@ use std::collections::BTreeMap;
 use std::marker::Model;
 
 /// The number of a name among a program's names, from 0 in the order in which they came.
-#[derive(Clone, Copy, Debug, PartialEq, Eq, Hash)]
+#[derive(Clone, Copy, Debug, PartialEq, Eq, PartialOrd, Ord)]
 pub struct NameId(pub u32);
 
 /// An ordered set of texts, which contracts see as the list of their bytes, no text twice.

@@ -15,8 +15,8 @@ use Rattle.lists.proofs.Places.{slice_get-set_other, slice_get-set_same}
 use Rattle.lists.proofs.Places.{slice_get-below}
 use Rattle.object_ranges.specs.declared.chosen.Choice.{Choice}
 use Rattle.object_ranges.specs.declared.selection.Selection.{Selection}
-use Rattle.object_ranges.specs.Chosen.{AreChosen}
 use Rattle.object_ranges.specs.Marks.{Stands}
+use Rattle.object_ranges.proofs.Serving.{AreChosen}
 use Rattle.link_rules.specs.Targets.{IsInstantiableAt}
 use Rattle.link_rules.specs.World.{World}
 use Rattle.link_calls.specs.Receivers.{AreChoices, AreMarks}

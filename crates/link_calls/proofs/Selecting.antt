@@ -1,6 +1,6 @@
 -- What calls run, class by class.
 use Rattle.std.proofs.Common.{◌≡◌, ℕ, zero, suc, ◌<◌, ◌≤◌, ◌+◌, ◌⊎◌, Bool, true, false, Option, Some, None, List, [], ◌∷◌, length, refl, sym, ap, subst, ◌∙◌, slice_get, inl, inr, arith, IsTrue, Result, Ok, Err, IfOk}
-use Rattle.std.specs.Prelude.{AllPairs, ◌↔◌}
+use Rattle.std.specs.Prelude.{AllPairs, ◌↔◌, slice_index}
 use Rattle.std.proofs.Math.Nat.{eq-or-lt_of_le}
 use Rattle.std.proofs.lemmas.List.Quantifiers.{all_pairs_push}
 use Rattle.std.proofs.lemmas.Option.{slice_get-get_or}
@@ -9,6 +9,8 @@ use Rattle.class_tree.specs.declared.tree.Defaults.{Defaults}
 use Rattle.class_tree.specs.declared.tree.Defaults.TheVariants.{Nothing as NoDefault, One as OneDefault, Several as SeveralDefaults}
 use Rattle.class_tree.specs.Defaults.{AreDefaults}
 use Rattle.class_tree.proofs.Lowest.{selected_one, two_ambiguous}
+use Rattle.default_turns.specs.declared.turns.DefaultTurn.{DefaultTurn}
+use Rattle.default_turns.specs.Turns.{defaults_at}
 use Rattle.object_ranges.specs.Selections.{selection_of}
 use Rattle.class_rules.specs.Rows.{Rows, Sub}
 use Rattle.class_rules.proofs.LawFacts.{path_one}
@@ -23,7 +25,9 @@ use Rattle.link_rules.specs.World.{World}
 use Rattle.link_calls.specs.declared.finding.Found.{Found}
 use Rattle.object_ranges.specs.declared.selection.Selection.{Selection}
 use Rattle.object_ranges.specs.declared.selection.Selection.TheVariants.{Method, Nothing, Several}
+use Rattle.link_calls.specs.declared.receivers.Receivers.{Receivers}
 use Rattle.link_calls.specs.Known.{HasAtMost, IsFound}
+use Rattle.link_calls.specs.Receivers.{AreDefaultsOf, AreReceivers}
 use Rattle.link_calls.specs.Selected.{AreSelectedBy, IsSelected, IsSelection, SelectsNone}
 
 -- a number is below another, or not
@@ -53,6 +57,13 @@ selection_told rows class key (Some row) defaults path are = on_path path
 selection_told rows class key None NoDefault off none = selects_nothing rows class key off none
 selection_told rows class key None (OneDefault row) off one = selected_one rows class key row off one
 selection_told rows class key None SeveralDefaults off two = two_ambiguous rows class key off two
+
+-- what is selected where nothing is found along the parents, by the turns of default methods
+pub told_at : (w : World) (r : Receivers) (class key : ℕ) (turns : List DefaultTurn) (s : Selection) → AreReceivers w r → AreDefaultsOf w r key turns
+    → class < length r.layout.places.now → OnPath w.rows class key None → s ≡ selection_of None (defaults_at turns (slice_index r.layout.places.now class)) → IsSelection w.rows class key s
+told_at w r class key turns s are told known off is =
+    let here : class < length w.rows.classes = omega (arith, known, are.laid.placed.len) in
+    subst (IsSelection w.rows class key) (sym is) (selection_told w.rows class key None (defaults_at turns (slice_index r.layout.places.now class)) off (told.exact class here))
 
 -- what the receiver selects is what is found from its class
 pub selected_from : (w : World) (class key receiver : ℕ) (s : Selection) → IsInstantiableAt w receiver → Sub w.rows receiver class → IsSelection w.rows receiver key s

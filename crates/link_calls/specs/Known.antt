@@ -1,6 +1,8 @@
 -- What is known of calls on objects.
-use Rattle.std.specs.Prelude.{◌≡◌, ◌↔◌, ℕ, ◌==◌, ◌&&◌, Bool, List, [], ◌∷◌, Option, Some, None, IfSome, IsTrue}
-use Rattle.std.specs.HashMap as hash
+use Rattle.std.specs.Prelude.{◌≡◌, ◌↔◌, ℕ, List, [], ◌∷◌, Option, Some, None, IfSome, IsTrue}
+use Rattle.std.specs.BTreeMap as tree
+use Rattle.std.specs.Ordering.{nat_cmp, ordering_then}
+use Rattle.std.specs.declared.cmp.Ordering.{Ordering}
 use Rattle.jim_ast.specs.declared.syntax.Mode.{Mode}
 use Rattle.jim_ast.specs.declared.syntax.Mode.TheVariants.{Virtual}
 use Rattle.link_rules.specs.Faults.{FindsSeveral}
@@ -20,12 +22,13 @@ pub record IsFound (w : World) (mode : Mode) (class key : ℕ) (found : Found) :
   pub targets : AreTargetRows w mode class key found.rows.items
   pub is_several : IsTrue found.several ↔ FindsSeveral w mode class key
 
-abbrev pub is_same_pair : Asked → Asked → Bool
-is_same_pair a b = (a.class == b.class) && (a.key == b.key)
+-- pairs in order, by their classes and then by their keys
+abbrev pub pair_cmp : Asked → Asked → Ordering
+pair_cmp a b = ordering_then (nat_cmp a.class b.class) (nat_cmp a.key b.key)
 
 -- what is known of a class and a key
 abbrev pub known_at : Known → ℕ → ℕ → Option Found
-known_at known class key = hash.get is_same_pair known.found (record { class = class; key = key })
+known_at known class key = tree.get pair_cmp known.found (record { class = class; key = key })
 
 -- what is known is what a call on an object runs
 abbrev pub AreKnown : World → Known → Type 0

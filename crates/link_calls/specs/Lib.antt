@@ -1,3 +1,4 @@
 pub mod Known
+pub mod Seen
 pub mod Selected
 pub mod Receivers

@@ -1,10 +1,13 @@
 -- The classes that may have objects, by their places, and those that are looked at for a call.
-use Rattle.std.specs.Prelude.{◌≡◌, ◌<◌, ℕ, IfSome, List, Option, length, nat_eq, slice_index, Contains}
-use Rattle.std.specs.HashMap as hash
+use Rattle.std.specs.Prelude.{◌≡◌, ◌<◌, ℕ, IfSome, List, Option, length, slice_index, Contains}
+use Rattle.std.specs.BTreeMap as tree
 use Rattle.std.specs.List.Sorted.{IsNonDecreasingBy}
+use Rattle.std.specs.Ordering.{nat_cmp}
 use Rattle.class_rules.specs.Rows.{Rows, Sub}
 use Rattle.class_order.specs.Groups.{group}
 use Rattle.class_tree.specs.Layouts.{LaysOut}
+use Rattle.default_turns.specs.declared.turns.DefaultTurn.{DefaultTurn}
+use Rattle.default_turns.specs.Turns.{TellDefaults}
 use Rattle.object_ranges.specs.declared.chosen.Choice.{Choice}
 use Rattle.object_ranges.specs.declared.parts.Part.{Part}
 use Rattle.object_ranges.specs.declared.selection.Selection.{Selection}
@@ -14,8 +17,10 @@ use Rattle.object_ranges.specs.Parts.{AreInOrder, TellParts}
 use Rattle.link_rules.specs.Targets.{IsInstantiableAt}
 use Rattle.link_rules.specs.World.{World}
 use Rattle.link_calls.specs.declared.receivers.Receivers.{Receivers}
-use Rattle.link_calls.specs.declared.targets.LeastTable.{LeastTable}
-use Rattle.link_calls.specs.declared.targets.PartTable.{PartTable}
+use Rattle.link_calls.specs.declared.tables.DefaultTable.{DefaultTable}
+use Rattle.link_calls.specs.declared.tables.KeyTables.{KeyTables}
+use Rattle.link_calls.specs.declared.tables.LeastTable.{LeastTable}
+use Rattle.link_calls.specs.declared.tables.PartTable.{PartTable}
 use Rattle.link_calls.specs.Selected.{IsSelection}
 
 -- the classes that may have objects stand at their places, and no others
@@ -30,6 +35,14 @@ pub record AreReceivers (w : World) (r : Receivers) : Type 0 where
   pub laid : LaysOut w.rows r.layout
   pub marks : AreMarks w r.layout.places.now r.objects
 
+-- the turns of the key's default methods, which tell those that each class reaches
+abbrev pub AreDefaultsOf : World → Receivers → ℕ → List DefaultTurn → Type 0
+AreDefaultsOf w r key turns = TellDefaults w.rows r.layout.places.now key turns
+
+-- the turns that are kept for the key
+abbrev pub AreKnownDefaults : World → Receivers → DefaultTable → Type 0
+AreKnownDefaults w r table = (key : ℕ) → IfSome (tree.get nat_cmp table.turns key) (λ turns. AreDefaultsOf w r key turns.items)
+
 -- the parts of the key: they tell what is selected from the classes that may have objects
 pub record ArePartsOf (w : World) (r : Receivers) (key : ℕ) (parts : List Part) : Type 0 where
   pub in_order : AreInOrder parts
@@ -39,7 +52,12 @@ pub record ArePartsOf (w : World) (r : Receivers) (key : ℕ) (parts : List Part
 
 -- the parts that are kept for the key
 abbrev pub AreKnownParts : World → Receivers → PartTable → Type 0
-AreKnownParts w r table = (key : ℕ) → IfSome (hash.get nat_eq table.parts key) (λ parts. ArePartsOf w r key parts.items)
+AreKnownParts w r table = (key : ℕ) → IfSome (tree.get nat_cmp table.parts key) (λ parts. ArePartsOf w r key parts.items)
+
+-- what is kept for keys
+pub record AreKnownByKey (w : World) (r : Receivers) (keys : KeyTables) : Type 0 where
+  pub defaults : AreKnownDefaults w r keys.defaults
+  pub parts : AreKnownParts w r keys.parts
 
 -- the least classes that may have objects, by the spans of the class
 abbrev pub AreLeastsOf : Receivers → ℕ → List (Option ℕ) → Type 0
@@ -47,7 +65,7 @@ AreLeastsOf r class leasts = AreLeasts r.objects (group r.layout.reach.now class
 
 -- the least classes that are kept for the class
 abbrev pub AreKnownLeasts : Receivers → LeastTable → Type 0
-AreKnownLeasts r table = (class : ℕ) → IfSome (hash.get nat_eq table.leasts class) (λ leasts. AreLeastsOf r class leasts)
+AreKnownLeasts r table = (class : ℕ) → IfSome (tree.get nat_cmp table.leasts class) (λ leasts. AreLeastsOf r class leasts)
 
 -- what is selected from the class; and where it is something, so it is from that of a choice, which is no later
 pub record HasChoice (rows : Rows) (key : ℕ) (choices : List Choice) (class : ℕ) : Type 0 where

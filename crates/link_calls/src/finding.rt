@@ -1,15 +1,18 @@
 //! What is found for a call.
-ghost use Rattle.std.specs.Prelude.{◌≡◌, ◌<◌, ℕ, IfOk, length};
+ghost use Rattle.std.specs.Prelude.{◌≡◌, ◌<◌, ℕ, IfOk, None, length};
+ghost use Rattle.std.specs.List.Sorted.{IsNonDecreasingBy};
+ghost use Rattle.class_rules.specs.Lookups.{OnPath};
 ghost use Rattle.jim_ast.specs.declared.syntax.Mode.{Mode as AMode};
 ghost use Rattle.jim_ast.specs.declared.syntax.Mode.TheVariants.{Special, Static, Virtual};
 ghost use Rattle.object_ranges.specs.Parts.{AreInOrder};
 ghost use Rattle.link_rules.specs.World.{World as AWorld};
 ghost use Rattle.link_calls.specs.Known.{HasAtMost, IsFound};
-ghost use Rattle.link_calls.specs.Receivers.{AreLeastsOf, ArePartsOf, AreReceivers};
+ghost use Rattle.link_calls.specs.Receivers.{AreDefaultsOf, AreKnownDefaults, AreLeastsOf, ArePartsOf, AreReceivers};
 
 use super::receivers::Receivers;
-use super::selection::select;
-use indexmap::IndexSet;
+use super::row_set::RowSet;
+use super::tables::DefaultTable;
+use default_turns::DefaultTurn;
 use link_classes::Classes;
 use lists::NoMemory;
 use object_ranges::{Minima, Part, Selection};
@@ -60,25 +63,56 @@ pub(crate) fn by_path(
     at_one(alloc, classes.tree().on_path(class, key), false)
 }
 
-// What a special call runs: what is selected from the class that it names.
-pub(crate) fn by_name(
+// What a special call runs where its class has no method along its parents: the default method that it reaches, if there is one.
+fn by_defaults(
     alloc: Global,
-    classes: &Classes,
+    receivers: &Receivers,
+    turns: &[DefaultTurn],
     class: u32,
-    key: u32,
 ) -> Result<Found, NoMemory>
-    requires { class < length classes.now.world.classes }
-    ensures { IfOk result (IsFound classes.now.world Special class key) }
+    requires class { class < length receivers.now.layout.places.now }
+    requires turns { IsNonDecreasingBy (λ t. t.at) turns.now }
+    ensures { (w : AWorld) (key : ℕ) → AreReceivers w receivers.now → AreDefaultsOf w receivers.now key turns.now → OnPath w.rows class key None
+        → IfOk result (IsFound w Special class key) }
 {
-    match select(classes, class, key) {
+    match receivers.select(turns, class) {
         Selection::Method(row) => at_one(alloc, Some(row), false),
         Selection::Several => at_one(alloc, None, true),
         Selection::Nothing => at_one(alloc, None, false),
     }
 }
 
+// What a special call runs: the method along the parents of the class that it names, or else what the turns of default methods tell. These are worked out
+// once for a key.
+pub(crate) fn by_name(
+    alloc: Global,
+    classes: &Classes,
+    receivers: &Receivers,
+    defaults: &mut DefaultTable,
+    class: u32,
+    key: u32,
+) -> Result<Found, NoMemory>
+    requires class { class < length classes.now.world.classes }
+    requires receivers { AreReceivers classes.now.world receivers.now }
+    requires defaults { AreKnownDefaults classes.now.world receivers.now defaults.old }
+    ensures found { IfOk result (IsFound classes.now.world Special class key) }
+    ensures kept { AreKnownDefaults classes.now.world receivers.now defaults.new }
+{
+    if let Some(row) = classes.tree().on_path(class, key) {
+        return at_one(alloc, Some(row), false);
+    }
+    if let Some(turns) = defaults.get(key) {
+        return by_defaults(alloc, receivers, turns, class);
+    }
+    let turns = receivers.defaults(alloc, classes, key)?;
+    let found = by_defaults(alloc, receivers, turns.as_slice(), class)?;
+    defaults.put(key, turns)?;
+    Ok(found)
+}
+
 // What a call on an object runs: what the objects below the class select. It takes a search for each part of the key that selects something, or for each
-// span of places below the class where these are fewer; and then time with the choices, one for each of these parts in which an object below may stand.
+// span of places below the class where these are fewer; and then time with the choices, one for each of these parts in which an object below may stand,
+// and with the logarithm of how many there are.
 pub(crate) fn by_objects(
     alloc: Global,
     receivers: &Receivers,
@@ -92,17 +126,17 @@ pub(crate) fn by_objects(
     ensures { (w : AWorld) (key : ℕ) → AreReceivers w receivers.now → ArePartsOf w receivers.now key parts.now → IfOk result (IsFound w Virtual class key) }
 {
     let choices = receivers.chosen(alloc, parts, leasts, class)?;
-    let mut rows = IndexSet::new(alloc);
+    let mut rows = RowSet::new(alloc);
     let mut several = false;
     for choice in choices.as_slice() {
         match choice.selection {
-            Selection::Method(row) => {
-                rows.insert(row)?;
-            }
+            Selection::Method(row) => rows.add(row)?,
             Selection::Several => several = true,
             Selection::Nothing => {}
         }
     }
-    let rows = Vec::from_slice(alloc, rows.as_slice())?;
-    Ok(Found { rows, several })
+    Ok(Found {
+        rows: rows.into_vec(),
+        several,
+    })
 }

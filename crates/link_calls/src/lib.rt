@@ -4,7 +4,8 @@
 mod fields;
 mod finding;
 mod receivers;
-mod selection;
+mod row_set;
+mod tables;
 mod targets;
 
 pub use fields::find_field;

@@ -1,15 +1,20 @@
 //! The classes that may have objects, by their places.
-ghost use Rattle.std.specs.Prelude.{◌<◌, ℕ, IfOk, length};
+ghost use Rattle.std.specs.Prelude.{◌≡◌, ◌<◌, ℕ, IfOk, None, length, slice_index};
+ghost use Rattle.std.specs.List.Sorted.{IsNonDecreasingBy};
 ghost use Rattle.class_order.specs.Tables.{HavePlaces};
 ghost use Rattle.link_rules.specs.World.{World as AWorld};
+ghost use Rattle.default_turns.specs.Turns.{defaults_at};
 ghost use Rattle.object_ranges.specs.Parts.{AreInOrder};
-ghost use Rattle.link_calls.specs.Receivers.{AreChoices, AreLeastsOf, AreMarks, ArePartsOf, AreReceivers};
+ghost use Rattle.object_ranges.specs.Selections.{selection_of};
+ghost use Rattle.link_calls.specs.Receivers.{AreChoices, AreDefaultsOf, AreLeastsOf, AreMarks, ArePartsOf, AreReceivers};
 
 use class_tree::Layout;
-use default_turns::default_turns;
+use default_turns::{DefaultTurn, default_turns, defaults_at};
 use link_classes::Classes;
 use lists::NoMemory;
-use object_ranges::{Choice, Minima, Part, choices_in, leasts_in, parts_of};
+use object_ranges::{
+    Choice, Minima, Part, Selection, choices_in, leasts_in, parts_of, selection_of,
+};
 use std::alloc::Global;
 
 /// The classes that may have objects, at their places.
@@ -44,19 +49,43 @@ impl<'a> Receivers<'a> {
         Ok(Receivers { layout, objects })
     }
 
-    /// The places between which classes select the same for the key.
-    pub(crate) fn parts(
+    /// The turns of the default methods of the key.
+    pub(crate) fn defaults(
         &self,
         alloc: Global,
         classes: &Classes,
         key: u32,
-    ) -> Result<Vec<Part>, NoMemory>
+    ) -> Result<Vec<DefaultTurn>, NoMemory>
         requires { AreReceivers classes.now.world self.now }
-        ensures { IfOk result (λ parts. ArePartsOf classes.now.world self.now key parts.items) }
+        ensures { IfOk result (λ turns. AreDefaultsOf classes.now.world self.now key turns.items) }
+    {
+        let turns = default_turns(alloc, classes.tree(), self.layout, key)?;
+        Ok(turns)
+    }
+
+    /// What is selected from a class where the look-up along its parents gives no row, by the turns of the key's default methods.
+    pub(crate) fn select(&self, defaults: &[DefaultTurn], class: u32) -> Selection
+        requires class { class < length self.now.layout.places.now }
+        requires defaults { IsNonDecreasingBy (λ t. t.at) defaults.now }
+        ensures { result ≡ selection_of None (defaults_at defaults.now (slice_index self.now.layout.places.now class)) }
+    {
+        let place = self.layout.places[class as usize];
+        selection_of(None, defaults_at(defaults, place))
+    }
+
+    /// The places between which classes select the same for the key, by the turns of its default methods.
+    pub(crate) fn parts(
+        &self,
+        alloc: Global,
+        defaults: &[DefaultTurn],
+        key: u32,
+    ) -> Result<Vec<Part>, NoMemory>
+        requires { (w : AWorld) × AreReceivers w self.now × AreDefaultsOf w self.now key defaults.now }
+        ensures { (w : AWorld) → AreReceivers w self.now → AreDefaultsOf w self.now key defaults.now
+            → IfOk result (λ parts. ArePartsOf w self.now key parts.items) }
     {
         let turns = self.layout.methods.turns(key);
-        let defaults = default_turns(alloc, classes.tree(), self.layout, key)?;
-        let parts = parts_of(alloc, turns, defaults.as_slice(), &self.objects)?;
+        let parts = parts_of(alloc, turns, defaults, &self.objects)?;
         Ok(parts)
     }
 

@@ -1,34 +1,34 @@
 //! The methods that calls may run.
 ghost use Rattle.std.specs.Prelude.{◌≡◌, ◌<◌, All, IfOk, IfSome, length};
 ghost use Rattle.link_rules.specs.Targets.{AreTargetRows};
-ghost use Rattle.jim_ast.specs.declared.syntax.Mode.TheVariants.{Virtual};
+ghost use Rattle.jim_ast.specs.declared.syntax.Mode.TheVariants.{Special, Virtual};
 ghost use Rattle.link_calls.specs.Known.{AreKnown, IsFound};
-ghost use Rattle.link_calls.specs.Receivers.{AreKnownLeasts, AreKnownParts, AreLeastsOf, ArePartsOf, AreReceivers};
-ghost use Rattle.link_calls.specs.declared.receivers.Receivers.{Receivers as SomeReceivers};
+ghost use Rattle.link_calls.specs.Receivers.{AreKnownByKey, AreKnownDefaults, AreLeastsOf, ArePartsOf, AreReceivers};
 ghost use Rattle.link_rules.specs.World.{AreRows, World as AWorld};
 ghost use Rattle.link_rules.specs.Classes.{methods_of};
 
 use super::finding::{Found, by_name, by_objects, by_path};
 use super::receivers::Receivers;
+use super::tables::{DefaultTable, KeyTables, LeastTable};
 use jim_ast::Mode;
 use link_classes::Classes;
 use lists::NoMemory;
 use object_ranges::{Minima, Part};
 use std::alloc::Global;
-use std::collections::HashMap;
+use std::collections::BTreeMap;
 use std::marker::Model;
 
 /// The class and the key that a call on an object names.
-#[derive(Clone, Copy, Debug, PartialEq, Eq, Hash)]
+#[derive(Clone, Copy, Debug, PartialEq, Eq, PartialOrd, Ord)]
 struct Asked {
     class: u32,
     key: u32,
 }
 
-/// What is known of calls on objects.
+/// What is known of calls on objects. A look-up takes the logarithm of how many pairs are known, whichever they are.
 #[derive(Drop)]
 struct Known {
-    found: HashMap<Asked, Found>,
+    found: BTreeMap<Asked, Found>,
 }
 
 impl Known {
@@ -37,7 +37,7 @@ impl Known {
         ensures { (w : AWorld) → AreKnown w result }
     {
         Known {
-            found: HashMap::new(alloc),
+            found: BTreeMap::new(alloc),
         }
     }
 
@@ -57,73 +57,6 @@ impl Known {
     }
 }
 
-/// The parts of the keys that calls on objects name.
-#[derive(Drop)]
-struct PartTable {
-    parts: HashMap<u32, Vec<Part>>,
-}
-
-impl PartTable {
-    // No key has been named.
-    fn new(alloc: Global) -> Self
-        ensures { (w : AWorld) (r : SomeReceivers) → AreKnownParts w r result }
-    {
-        PartTable {
-            parts: HashMap::new(alloc),
-        }
-    }
-
-    // The parts of the key, where they are known.
-    fn get(&self, key: u32) -> Option<&[Part]>
-        ensures { (w : AWorld) (r : SomeReceivers) → AreKnownParts w r self.now → IfSome result (λ parts. ArePartsOf w r key parts.now) }
-    {
-        match self.parts.get(&key) {
-            Some(parts) => Some(parts.as_slice()),
-            None => None,
-        }
-    }
-
-    // Keeps the parts of the key.
-    fn put(&mut self, key: u32, parts: Vec<Part>) -> Result<(), NoMemory>
-        ensures { (w : AWorld) (r : SomeReceivers) → AreKnownParts w r self.old → ArePartsOf w r key parts.items → AreKnownParts w r self.new }
-    {
-        self.parts.insert(key, parts)?;
-        Ok(())
-    }
-}
-
-/// The least classes by the spans of the classes that calls on objects name.
-#[derive(Drop)]
-struct LeastTable {
-    leasts: HashMap<u32, Minima>,
-}
-
-impl LeastTable {
-    // No class has been named.
-    fn new(alloc: Global) -> Self
-        ensures { (r : SomeReceivers) → AreKnownLeasts r result }
-    {
-        LeastTable {
-            leasts: HashMap::new(alloc),
-        }
-    }
-
-    // The least classes by the spans of the class, where they are known.
-    fn get(&self, class: u32) -> Option<&Minima>
-        ensures { (r : SomeReceivers) → AreKnownLeasts r self.now → IfSome result (λ leasts. AreLeastsOf r class leasts.now) }
-    {
-        self.leasts.get(&class)
-    }
-
-    // Keeps those of the class.
-    fn put(&mut self, class: u32, leasts: Minima) -> Result<(), NoMemory>
-        ensures { (r : SomeReceivers) → AreKnownLeasts r self.old → AreLeastsOf r class leasts → AreKnownLeasts r self.new }
-    {
-        self.leasts.insert(class, leasts)?;
-        Ok(())
-    }
-}
-
 /// The methods that calls may run, by class and key: what calls on objects may run is worked out once for each pair. Contracts see what is
 /// linked.
 #[derive(Drop)]
@@ -131,7 +64,7 @@ pub struct Targets<'a> {
     alloc: Global,
     classes: &'a Classes<'a>,
     receivers: Receivers<'a>,
-    parts: PartTable,
+    keys: KeyTables,
     leasts: LeastTable,
     known: Known,
 }
@@ -139,14 +72,36 @@ pub struct Targets<'a> {
 impl<'a> Model for Targets<'a> {
     ghost use Rattle.link_classes.specs.Classes.{ClassTable};
     ghost use Rattle.link_calls.specs.Known.{AreKnown};
-    ghost use Rattle.link_calls.specs.Receivers.{AreKnownLeasts, AreKnownParts, AreReceivers};
+    ghost use Rattle.link_calls.specs.Receivers.{AreKnownByKey, AreKnownLeasts, AreReceivers};
 
     ghost Value = { ClassTable };
 
     ghost view = { λ t. t.classes.now };
 
-    ghost invariant = { λ t. AreReceivers t.classes.now.world t.receivers × AreKnownParts t.classes.now.world t.receivers t.parts × AreKnownLeasts t.receivers t.leasts
+    ghost invariant = { λ t. AreReceivers t.classes.now.world t.receivers × AreKnownByKey t.classes.now.world t.receivers t.keys × AreKnownLeasts t.receivers t.leasts
         × AreKnown t.classes.now.world t.known };
+}
+
+// The parts of a key, by its turns of default methods: these are worked out where they aren't known.
+fn made_parts(
+    alloc: Global,
+    classes: &Classes,
+    receivers: &Receivers,
+    defaults: &mut DefaultTable,
+    key: u32,
+) -> Result<Vec<Part>, NoMemory>
+    requires receivers { AreReceivers classes.now.world receivers.now }
+    requires defaults { AreKnownDefaults classes.now.world receivers.now defaults.old }
+    ensures parts { IfOk result (λ parts. ArePartsOf classes.now.world receivers.now key parts.items) }
+    ensures kept { AreKnownDefaults classes.now.world receivers.now defaults.new }
+{
+    if let Some(turns) = defaults.get(key) {
+        return receivers.parts(alloc, turns, key);
+    }
+    let turns = receivers.defaults(alloc, classes, key)?;
+    let parts = receivers.parts(alloc, turns.as_slice(), key)?;
+    defaults.put(key, turns)?;
+    Ok(parts)
 }
 
 // What a call on an object runs, by the least classes of the spans of the class that it names.
@@ -154,23 +109,23 @@ fn by_leasts(
     alloc: Global,
     classes: &Classes,
     receivers: &Receivers,
-    parts: &mut PartTable,
+    keys: &mut KeyTables,
     leasts: &Minima,
     asked: Asked,
 ) -> Result<Found, NoMemory>
     requires class { asked.class < length classes.now.world.classes }
     requires receivers { AreReceivers classes.now.world receivers.now }
-    requires parts { AreKnownParts classes.now.world receivers.now parts.old }
+    requires keys { AreKnownByKey classes.now.world receivers.now keys.old }
     requires leasts { AreLeastsOf receivers.now asked.class leasts.now }
     ensures found { IfOk result (IsFound classes.now.world Virtual asked.class asked.key) }
-    ensures kept { AreKnownParts classes.now.world receivers.now parts.new }
+    ensures kept { AreKnownByKey classes.now.world receivers.now keys.new }
 {
-    if let Some(known) = parts.get(asked.key) {
+    if let Some(known) = keys.parts.get(asked.key) {
         return by_objects(alloc, receivers, known, leasts, asked.class);
     }
-    let made = receivers.parts(alloc, classes, asked.key)?;
+    let made = made_parts(alloc, classes, receivers, &mut keys.defaults, asked.key)?;
     let found = by_objects(alloc, receivers, made.as_slice(), leasts, asked.class)?;
-    parts.put(asked.key, made)?;
+    keys.parts.put(asked.key, made)?;
     Ok(found)
 }
 
@@ -191,7 +146,7 @@ impl<'a> Targets<'a> {
             alloc,
             classes,
             receivers,
-            parts: PartTable::new(alloc),
+            keys: KeyTables::new(alloc),
             leasts: LeastTable::new(alloc),
             known: Known::new(alloc),
         })
@@ -217,7 +172,7 @@ impl<'a> Targets<'a> {
                 alloc,
                 classes,
                 &self.receivers,
-                &mut self.parts,
+                &mut self.keys,
                 leasts,
                 asked,
             );
@@ -227,7 +182,7 @@ impl<'a> Targets<'a> {
             alloc,
             classes,
             &self.receivers,
-            &mut self.parts,
+            &mut self.keys,
             &leasts,
             asked,
         )?;
@@ -250,6 +205,22 @@ impl<'a> Targets<'a> {
         Ok(copy)
     }
 
+    // What a special call runs.
+    fn of_class(&mut self, class: u32, key: u32) -> Result<Found, NoMemory>
+        requires { class < length self.old.world.classes }
+        ensures found { IfOk result (IsFound self.old.world Special class key) }
+        ensures same { self.new ≡ self.old }
+    {
+        by_name(
+            self.alloc,
+            self.classes,
+            &self.receivers,
+            &mut self.keys.defaults,
+            class,
+            key,
+        )
+    }
+
     /// What a call of this mode, class and key may run, and whether several default methods are there for it: the caller's own.
     pub fn found(&mut self, mode: Mode, class: u32, key: u32) -> Result<Found, NoMemory>
         requires { class < length self.old.world.classes }
@@ -260,7 +231,7 @@ impl<'a> Targets<'a> {
         tell_rows(self.classes);
         match mode {
             Mode::Static => by_path(self.alloc, self.classes, class, key),
-            Mode::Special => by_name(self.alloc, self.classes, class, key),
+            Mode::Special => self.of_class(class, key),
             Mode::Virtual | Mode::Interface => self.of_objects(class, key),
         }
     }

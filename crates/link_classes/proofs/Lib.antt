@@ -2,6 +2,7 @@ pub mod EarlierNames
 pub mod FirstMembers
 pub mod FirstRefusals
 pub mod Growing
+pub mod KeyOrders
 pub mod KeyTests
 pub mod Known
 pub mod Naming

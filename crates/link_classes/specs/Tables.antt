@@ -1,11 +1,11 @@
 -- Tables from keys to the numbers of the first members that have them.
 use Rattle.std.specs.Prelude.{ℕ, List, Option, Some, None}
-use Rattle.indexmap.specs.IndexMap.{get}
+use Rattle.std.specs.BTreeMap.{get}
 use Rattle.lists.specs.Lists.{IsLeast}
 use Rattle.link_rules.specs.Classes.{DeclaredField, DeclaredMethod}
 use Rattle.link_rules.specs.Keys.{HasFieldKey, HasMethodKey}
-use Rattle.link_classes.specs.contracts.keys.FieldKeyInPartialEq.TheImpl as field_key_eq
-use Rattle.link_classes.specs.contracts.keys.MethodKeyInPartialEq.TheImpl as method_key_eq
+use Rattle.link_classes.specs.contracts.keys.FieldKeyInOrd.TheImpl as field_key_ord
+use Rattle.link_classes.specs.contracts.keys.MethodKeyInOrd.TheImpl as method_key_ord
 use Rattle.link_classes.specs.declared.keys.FieldKeyIn.{FieldKeyIn}
 use Rattle.link_classes.specs.declared.keys.MethodKeyIn.{MethodKeyIn}
 use Rattle.link_classes.specs.declared.tables.FieldKeys.{FieldKeys}
@@ -19,10 +19,10 @@ IsFirst P None = (n : ℕ) → P n → ⊥
 
 -- the number that is kept with a key
 abbrev pub method_at : MethodKeys → MethodKeyIn → Option ℕ
-method_at t k = get (method_key_eq.ghosts).eq t.numbers k
+method_at t k = get (method_key_ord.ghosts).cmp t.numbers k
 
 abbrev pub field_at : FieldKeys → FieldKeyIn → Option ℕ
-field_at t k = get (field_key_eq.ghosts).eq t.numbers k
+field_at t k = get (field_key_ord.ghosts).cmp t.numbers k
 
 -- for each key that names can have, the first of these methods with it
 abbrev pub KnowsMethods : List (List ℕ) → List DeclaredMethod → MethodKeys → Type 0

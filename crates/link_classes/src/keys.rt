@@ -11,7 +11,7 @@ use lists::NoMemory;
 use std::alloc::Global;
 
 /// A type without its brackets, a class by the number of its name among all names.
-#[derive(Clone, Copy, Debug, PartialEq, Eq, Hash)]
+#[derive(Clone, Copy, Debug, PartialEq, Eq, PartialOrd, Ord)]
 pub enum BaseIn {
     Void,
     Boolean,
@@ -28,14 +28,15 @@ pub enum BaseIn {
 }
 
 /// A type, a class by the number of its name among all names.
-#[derive(Clone, Copy, Debug, PartialEq, Eq, Hash)]
+#[derive(Clone, Copy, Debug, PartialEq, Eq, PartialOrd, Ord)]
 pub struct TypeIn {
     pub base: BaseIn,
     pub dims: u8,
 }
 
 /// A method's name, the types of its parameters and of its result, and whether it is static, with names by their numbers among all names.
-#[derive(Drop, PartialEq, Eq, Hash)]
+/// They are compared in this order, so mostly one number is.
+#[derive(Drop, PartialEq, Eq, PartialOrd, Ord)]
 pub struct MethodKeyIn {
     pub name: NameId,
     pub params: Vec<TypeIn>,
@@ -43,8 +44,8 @@ pub struct MethodKeyIn {
     pub is_static: bool,
 }
 
-/// A field's name and type, and whether it is static, with names by their numbers among all names.
-#[derive(Clone, Copy, Debug, PartialEq, Eq, Hash)]
+/// A field's name and type, and whether it is static, with names by their numbers among all names. They are compared in this order.
+#[derive(Clone, Copy, Debug, PartialEq, Eq, PartialOrd, Ord)]
 pub struct FieldKeyIn {
     pub name: NameId,
     pub ty: TypeIn,

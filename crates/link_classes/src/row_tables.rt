@@ -20,7 +20,7 @@ pub struct RowTables<'a> {
 }
 
 impl<'a> RowTables<'a> {
-    /// The rows of these classes. Each name and each key is hashed once.
+    /// The rows of these classes. Each name and each key is looked up once.
     pub fn new(alloc: Global, order: &ClassOrder<'a>) -> Result<Self, NoMemory>
         requires { IsOrder order.now }
         ensures { IfOk result (AreRowTables order.now) }

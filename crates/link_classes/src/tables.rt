@@ -7,20 +7,20 @@ ghost use Rattle.link_classes.specs.Keyed.{IsFieldKeyIn, IsFieldKeyWithin, IsMet
 ghost use Rattle.link_classes.specs.Tables.{IsFirst, KnowsFields, KnowsMethods, field_at, method_at};
 
 use super::keys::{FieldKeyIn, MethodKeyIn};
-use indexmap::IndexMap;
 use lists::NoMemory;
 use std::alloc::Global;
+use std::collections::BTreeMap;
 
-/// The numbers of the keys of methods.
+/// The numbers of the keys of methods. A look-up compares a key with some logarithm of those that are kept, whatever names an input has: nothing is hashed.
 #[derive(Drop)]
 pub struct MethodKeys {
-    numbers: IndexMap<MethodKeyIn, u32>,
+    numbers: BTreeMap<MethodKeyIn, u32>,
 }
 
-/// The numbers of the keys of fields.
+/// The numbers of the keys of fields. A look-up compares a key with some logarithm of those that are kept, whatever names an input has: nothing is hashed.
 #[derive(Drop)]
 pub struct FieldKeys {
-    numbers: IndexMap<FieldKeyIn, u32>,
+    numbers: BTreeMap<FieldKeyIn, u32>,
 }
 
 impl MethodKeys {
@@ -29,7 +29,7 @@ impl MethodKeys {
         ensures { (texts : List (List ℕ)) → KnowsMethods texts [] result }
     {
         MethodKeys {
-            numbers: IndexMap::new(alloc),
+            numbers: BTreeMap::new(alloc),
         }
     }
 
@@ -64,7 +64,7 @@ impl FieldKeys {
         ensures { (texts : List (List ℕ)) → KnowsFields texts [] result }
     {
         FieldKeys {
-            numbers: IndexMap::new(alloc),
+            numbers: BTreeMap::new(alloc),
         }
     }
 

@@ -9,4 +9,5 @@ pub mod RuleLists
 pub mod Scans
 pub mod Steps
 pub mod StmtParts
+pub mod Unselected
 pub mod Within

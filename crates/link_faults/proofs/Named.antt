@@ -3,10 +3,9 @@ use Rattle.std.proofs.Common.{◌≡◌, ℕ, Bool, true, false, not, ◌<◌, �
 use Rattle.std.specs.Prelude.{◌↔◌}
 use Rattle.std.proofs.lemmas.Bool.{false≢true}
 use Rattle.std.proofs.lemmas.List.{get_or-map}
-use Rattle.class_rules.specs.Lookups.{FieldOf, OnPath, Resolve}
+use Rattle.class_rules.specs.Lookups.{FieldOf, OnPath}
 use Rattle.class_rules.specs.Rows.{Rows, Sub}
 use Rattle.class_rules.proofs.LawFacts.{look_up_one, path_one}
-use Rattle.class_rules.proofs.Selected.{selection_one}
 use Rattle.jim_ast.specs.declared.names.NameId.{NameId}
 use Rattle.lists.proofs.Places.{slice_get-below}
 use Rattle.lists.proofs.Joined.{first_one}
@@ -107,6 +106,3 @@ none_found Finds one (Some row) true finds e = absurd (true≢false e)
 
 pub path_none : (rows : Rows) (class key : ℕ) (o : Option ℕ) (b : Bool) → OnPath rows class key o → is_some o ≡ not b → IsTrue b ↔ OnPath rows class key None
 path_none rows class key o b finds e = none_found (OnPath rows class key) (λ r s p q. path_one rows class key r s p q) o b finds e
-
-pub resolve_none : (rows : Rows) (class key : ℕ) (o : Option ℕ) (b : Bool) → Resolve rows class key o → is_some o ≡ not b → IsTrue b ↔ Resolve rows class key None
-resolve_none rows class key o b finds e = none_found (Resolve rows class key) (λ r s p q. selection_one rows class key r s p q) o b finds e

@@ -1,11 +1,12 @@
 //! What a call names and may run, and the rules on it.
-ghost use Rattle.std.specs.Prelude.{◌≡◌, ◌<◌, ◌↔◌, ℕ, None, All, IfOk, IsTrue, length};
-ghost use Rattle.class_rules.specs.Lookups.{OnPath, Resolve};
+ghost use Rattle.std.specs.Prelude.{◌≡◌, ◌<◌, ◌↔◌, [], ℕ, None, All, IfOk, IsTrue, length};
+ghost use Rattle.class_rules.specs.Lookups.{OnPath};
 ghost use Rattle.lists.specs.Lists.{Has};
 ghost use Rattle.jim_ast.specs.declared.syntax.Mode.TheVariants.{Special};
 ghost use Rattle.link_rules.specs.Classes.{methods_of};
 ghost use Rattle.link_rules.specs.Conditions.{AreWithin, method_sig_names};
-ghost use Rattle.link_rules.specs.Faults.{FindsNone};
+ghost use Rattle.link_rules.specs.Faults.{FindsNone, FindsSeveral};
+ghost use Rattle.link_rules.specs.Targets.{MayRun};
 ghost use Rattle.link_classes.specs.Classes.{IsKnown};
 ghost use Rattle.link_classes.specs.Seen.{seen_method};
 ghost use Rattle.link_faults.specs.Callees.{IsCalleeOf};
@@ -63,32 +64,37 @@ fn is_off_path(classes: &Classes, class: u32, key: u32) -> bool
     classes.tree().on_path(class, key).is_none()
 }
 
-// Whether no method is selected from the class.
-fn resolves_none(classes: &Classes, class: u32, key: u32) -> bool
-    requires { class < length classes.now.world.classes }
-    ensures { IsTrue result ↔ Resolve classes.now.world.rows class key None }
-{
-    classes.tree().resolve(class, key).is_none()
-}
+impl Callee {
+    // Whether nothing was found for the call: also not several default methods.
+    fn is_nothing(&self) -> bool
+        ensures { IsTrue result ↔ ((self.now.rows.items ≡ []) × (IsTrue self.now.several → ⊥)) }
+    {
+        self.rows.is_empty() && !self.several
+    }
 
-// Whether no method is there to be selected from the class: also not several of which none is.
-fn selects_none(classes: &Classes, class: u32, key: u32) -> bool
-    requires { class < length classes.now.world.classes }
-    ensures { IsTrue result ↔ FindsNone classes.now.world Special class key }
-{
-    resolves_none(classes, class, key) && !classes.tree().ambiguous(class, key)
-}
+    // Whether no method is there to be selected from the class of a special call: also not several of which none is.
+    fn selects_none(&self, classes: &Classes) -> bool
+        requires class { self.now.class < length classes.now.world.classes }
+        requires rows { (row : ℕ) → Has self.now.rows.items row ↔ MayRun classes.now.world Special self.now.class self.now.key row }
+        requires several { IsTrue self.now.several ↔ FindsSeveral classes.now.world Special self.now.class self.now.key }
+        ensures { IsTrue result ↔ FindsNone classes.now.world Special self.now.class self.now.key }
+    {
+        is_off_path(classes, self.class, self.key) && self.is_nothing()
+    }
 
-// Whether a call of this mode finds no method.
-pub(crate) fn finds_none(classes: &Classes, mode: Mode, class: u32, key: u32) -> bool
-    requires { class < length classes.now.world.classes }
-    ensures { IsTrue result ↔ FindsNone classes.now.world mode class key }
-{
-    match mode {
-        Mode::Special => selects_none(classes, class, key),
-        Mode::Static => is_off_path(classes, class, key),
-        Mode::Virtual => !classes.tree().declared(class, key),
-        Mode::Interface => !classes.tree().declared(class, key),
+    /// Whether a call of this mode, of which this is the callee, finds no method.
+    pub(crate) fn finds_none(&self, classes: &Classes, mode: Mode) -> bool
+        requires class { self.now.class < length classes.now.world.classes }
+        requires rows { (row : ℕ) → Has self.now.rows.items row ↔ MayRun classes.now.world mode self.now.class self.now.key row }
+        requires several { IsTrue self.now.several ↔ FindsSeveral classes.now.world mode self.now.class self.now.key }
+        ensures { IsTrue result ↔ FindsNone classes.now.world mode self.now.class self.now.key }
+    {
+        match mode {
+            Mode::Special => self.selects_none(classes),
+            Mode::Static => is_off_path(classes, self.class, self.key),
+            Mode::Virtual => !classes.tree().declared(self.class, self.key),
+            Mode::Interface => !classes.tree().declared(self.class, self.key),
+        }
     }
 }
 

@@ -3,7 +3,7 @@ ghost use Rattle.std.specs.Prelude.{◌↔◌, ◌≡◌, IsTrue};
 ghost use Rattle.link_rules.specs.declared.refusal.LinkKind.TheVariants as rule;
 ghost use Rattle.link_faults.specs.AtSite.{AccessesUndeclared, CallsThread, CallsUndeclared, HasBadCount, IsFirstAmong, IsFirstRule, IsSite, Keeps, MakesThread, MakesUndeclared, Refuses, rules_of_stmts, rules_of_targets};
 
-use super::callees::{Callee, finds_none, has_native};
+use super::callees::{Callee, has_native};
 use super::checks::{
     assigns_void, has_wrong_count, is_bad_identity, is_dynamic, is_ret, is_unsized,
 };
@@ -166,9 +166,7 @@ impl<'a, 'c> Site<'a, 'c> {
         ensures { IsTrue result ↔ Refuses self.now rule.UndeclaredCallee }
     {
         match (&self.call, &self.callee) {
-            (Some(call), Some(callee)) => {
-                finds_none(self.classes, call.mode, callee.class, callee.key)
-            }
+            (Some(call), Some(callee)) => callee.finds_none(self.classes, call.mode),
             _ => false,
         }
     }

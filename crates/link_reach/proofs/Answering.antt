@@ -24,21 +24,21 @@ use Rattle.link_reach.proofs.Paths.{initialized_class, initialized_led, reached_
 use Rattle.link_reach.proofs.Searching.{led_within}
 
 module _ (w : World) (bounded : IsBounded w) (s : Search) (is : IsSearched w s)
-    (all_methods : s.methods_done ≡ length s.found.methods.keys) (all_classes : s.classes_done ≡ length s.found.classes.keys) where
+    (all_methods : s.methods_done ≡ length s.found.methods) (all_classes : s.classes_done ≡ length s.found.classes) where
   led_on : (a b : Node) → IsFound s.found a → Leads w a b → IsFound s.found b
-  led_on (method number) b found l = is.closed.of_methods found.0 number (let h = slice_get-below s.found.methods.keys found.0 number found.1 in omega (arith, h, all_methods)) found.1 b l
-  led_on (class c) b found l = is.closed.of_classes found.0 c (let h = slice_get-below s.found.classes.keys found.0 c found.1 in omega (arith, h, all_classes)) found.1 b l
+  led_on (method number) b found l = is.closed.of_methods found.0 number (let h = slice_get-below s.found.methods found.0 number found.1 in omega (arith, h, all_methods)) found.1 b l
+  led_on (class c) b found l = is.closed.of_classes found.0 c (let h = slice_get-below s.found.classes found.0 c found.1 in omega (arith, h, all_classes)) found.1 b l
 
   -- all that is led to is found
   led_found : (a : Node) → IsLedTo w a → IsFound s.found a
   led_found b (begins l) = is.closed.begun b l
   led_found b (goes_on {a} led l) = led_on a b (led_found a led) l
 
-  reached_found : (row : ℕ) → row < length (methods_of w.classes) → Reached w row → Has s.found.methods.keys row
+  reached_found : (row : ℕ) → row < length (methods_of w.classes) → Reached w row → Has s.found.methods row
   reached_found row below reached = elim (reached_led w row reached) [ inl root ↦ absurd (omega (arith, below, root)) | inr led ↦ led_found (method row) led ]
 
   -- the methods in order are those that may be reached
-  pub are_reached : (n : ℕ) (rows : List ℕ) → n ≡ length (methods_of w.classes) → AreThose (Has s.found.methods.keys) n rows → AreReached w rows
+  pub are_reached : (n : ℕ) (rows : List ℕ) → n ≡ length (methods_of w.classes) → AreThose (Has s.found.methods) n rows → AreReached w rows
   are_reached n rows e those = record {
     ordered = those.ordered;
     each = λ row. (
@@ -48,7 +48,7 @@ module _ (w : World) (bounded : IsBounded w) (s : Search) (is : IsSearched w s)
   }
 
   -- the classes in order are those to be initialized
-  pub are_initialized : (initialized : List ℕ) → AreThose (IsStarted w s.found.classes.keys) (length w.classes) initialized → AreInitialized w initialized
+  pub are_initialized : (initialized : List ℕ) → AreThose (IsStarted w s.found.classes) (length w.classes) initialized → AreInitialized w initialized
   are_initialized initialized those = record {
     ordered = those.ordered;
     each = λ c. (
@@ -57,10 +57,10 @@ module _ (w : World) (bounded : IsBounded w) (s : Search) (is : IsSearched w s)
     );
   }
 
-  done_row : (row : ℕ) → Has s.found.methods.keys row → Has (take s.methods_done s.found.methods.keys) row
-  done_row row h = subst (λ (xs : List ℕ). Has xs row) (sym (take_all s.methods_done s.found.methods.keys (omega (arith, all_methods)))) h
+  done_row : (row : ℕ) → Has s.found.methods row → Has (take s.methods_done s.found.methods) row
+  done_row row h = subst (λ (xs : List ℕ). Has xs row) (sym (take_all s.methods_done s.found.methods (omega (arith, all_methods)))) h
 
-  row_found : (row : ℕ) (m : DeclaredMethod) → slice_get (methods_of w.classes) row ≡ Some m → Reached w row → Has (take s.methods_done s.found.methods.keys) row
+  row_found : (row : ℕ) (m : DeclaredMethod) → slice_get (methods_of w.classes) row ≡ Some m → Reached w row → Has (take s.methods_done s.found.methods) row
   row_found row m there reached = done_row row (reached_found row (slice_get-below (methods_of w.classes) row m there) reached)
 
   -- one list of initialized classes
@@ -70,7 +70,7 @@ module _ (w : World) (bounded : IsBounded w) (s : Search) (is : IsSearched w s)
 
   module _ (passed : (kind : LinkKind) (number : ℕ) → RefusesWhole w kind number → ⊥) where
     -- no rule refuses anything
-    pub is_accepted : (initialized : List ℕ) → IsFirstIn w (take s.methods_done s.found.methods.keys) None → AreInitialized w initialized
+    pub is_accepted : (initialized : List ℕ) → IsFirstIn w (take s.methods_done s.found.methods) None → AreInitialized w initialized
         → HasNoFault w (root_of w initialized) → IsAccepted w
     is_accepted initialized none are no_fault (whole kind number) refuses = passed kind number refuses
     is_accepted initialized none are no_fault (within number index kind) (m, inl (reached, there), refuses) = none number m (row_found number m there reached) there index kind refuses
@@ -79,11 +79,11 @@ module _ (w : World) (bounded : IsBounded w) (s : Search) (is : IsSearched w s)
         no_fault index kind (subst (λ xs. RefusesAt w (root_of w xs) index kind) same (subst (λ z. RefusesAt w z index kind) is_root refuses))
 
     -- the first refusal is in a method
-    pub is_first_method : (r : FaultIn) → IsFirstOf w (take s.methods_done s.found.methods.keys) r → IsFirst w (within r.number r.fault.index r.fault.kind)
+    pub is_first_method : (r : FaultIn) → IsFirstOf w (take s.methods_done s.found.methods) r → IsFirst w (within r.number r.fault.index r.fault.kind)
     is_first_method r f = record { refuses = (f.method, inl (stands w (method r.number) (is.sound (method r.number) here), f.is_method), f.refuses.refuses); first = first }
       where
-        here : Has s.found.methods.keys r.number
-        here = subst (λ (xs : List ℕ). Has xs r.number) (take_all s.methods_done s.found.methods.keys (omega (arith, all_methods))) f.there
+        here : Has s.found.methods r.number
+        here = subst (λ (xs : List ℕ). Has xs r.number) (take_all s.methods_done s.found.methods (omega (arith, all_methods))) f.there
 
         below : r.number < length (methods_of w.classes)
         below = slice_get-below (methods_of w.classes) r.number f.method f.is_method
@@ -101,7 +101,7 @@ module _ (w : World) (bounded : IsBounded w) (s : Search) (is : IsSearched w s)
         first (within number index kind) (m, inr (at_root, others, are_too, is_root), refuses) (inr (same, before)) = omega (arith, same, at_root, below)
 
     -- the first refusal is in the root
-    pub is_first_root : (initialized : List ℕ) (fault : Fault) (n : ℕ) → n ≡ root_number w → IsFirstIn w (take s.methods_done s.found.methods.keys) None → AreInitialized w initialized
+    pub is_first_root : (initialized : List ℕ) (fault : Fault) (n : ℕ) → n ≡ root_number w → IsFirstIn w (take s.methods_done s.found.methods) None → AreInitialized w initialized
         → IsFirstFault w (root_of w initialized) fault → IsFirst w (within n fault.index fault.kind)
     is_first_root initialized fault n e none are f = record { refuses = (root_of w initialized, inr (e, initialized, are, refl), f.refuses); first = first }
       where

@@ -1,9 +1,6 @@
 -- What the steps of the search add.
-use Rattle.std.proofs.Common.{◌≡◌, ℕ, suc, ◌⊎◌, ◌↔◌, zero, Bool, true, false, true≢false, Option, Some, None, Result, Ok, Err, OnOk, MatchOption, List, [], ◌∷◌, ◌++◌, refl, sym, ap, subst, ◌∙◌, inl, inr, slice_get, arith, eqb}
-use Rattle.std.specs.Cmp.{unsigned_Decides}
+use Rattle.std.proofs.Common.{◌≡◌, ℕ, suc, ◌⊎◌, ◌↔◌, zero, Bool, true, false, true≢false, Option, Some, None, Result, Ok, Err, OnOk, MatchBool, MatchOption, IsTrue, List, [], ◌∷◌, ◌++◌, refl, sym, ap, subst, ◌∙◌, inl, inr, slice_get, arith}
 use Rattle.std.specs.List.{Contains}
-use Rattle.std.specs.Set.{is_member}
-use Rattle.std.proofs.lemmas.Map.Made.{is_member-Decides}
 use Rattle.std.specs.Option.{is_some, option_to_list}
 use Rattle.std.proofs.lemmas.List.{append-nil, append_assoc}
 use Rattle.std.proofs.lemmas.Option.{slice_get-get_or}
@@ -67,6 +64,18 @@ adds_more added old mid new x all one = record {
     grown : new ≡ old ++ behind
     grown = (behind_by one).1
 
+-- both words for an element of a list
+pub has_contains : (xs : List ℕ) (x : ℕ) → Has xs x → Contains xs x
+has_contains xs x h = Contains-at xs h.0 x h.1
+
+pub contains_has : (xs : List ℕ) (x : ℕ) → Contains xs x → Has xs x
+contains_has xs x c = (c.0, slice_get-get_or xs c.0 x c.1 ∙ ap Some c.2)
+
+-- a number that is put into the set is added
+pub adds_put : (old new : List ℕ) (x : ℕ) (is_new : Bool) → MatchBool is_new ((new ≡ old ++ x ∷ []) × (Contains old x → ⊥)) ((new ≡ old) × Contains old x) → Adds old x new
+adds_put old new x true (grown, none) = inr ((λ h. none (has_contains old x h)), grown)
+adds_put old new x false (same, there) = inl (contains_has old x there, same)
+
 -- the facts of nodes are the same
 pub finds_same : (P Q : Node → Type 0) (old new : Found) → ((a : Node) → P a → Q a) → ((a : Node) → Q a → P a) → Finds P old new → Finds Q old new
 finds_same P Q old new to from f = record {
@@ -83,9 +92,9 @@ pub finds_both : (P Q R : Node → Type 0) (old mid new : Found) → ((a : Node)
 finds_both P Q R old mid new to from f g = record {
   each = λ a. (there a, back a);
   methods_behind = f.methods_behind ++ g.methods_behind;
-  methods_grown = g.methods_grown ∙ ap (λ (xs : List ℕ). xs ++ g.methods_behind) f.methods_grown ∙ append_assoc old.methods.keys f.methods_behind g.methods_behind;
+  methods_grown = g.methods_grown ∙ ap (λ (xs : List ℕ). xs ++ g.methods_behind) f.methods_grown ∙ append_assoc old.methods f.methods_behind g.methods_behind;
   classes_behind = f.classes_behind ++ g.classes_behind;
-  classes_grown = g.classes_grown ∙ ap (λ (xs : List ℕ). xs ++ g.classes_behind) f.classes_grown ∙ append_assoc old.classes.keys f.classes_behind g.classes_behind;
+  classes_grown = g.classes_grown ∙ ap (λ (xs : List ℕ). xs ++ g.classes_behind) f.classes_grown ∙ append_assoc old.classes f.classes_behind g.classes_behind;
 }
   where
     there : (a : Node) → IsFound new a → IsFound old a ⊎ R a
@@ -100,7 +109,7 @@ finds_both P Q R old mid new to from f g = record {
 
 -- the lists of an examined method were added
 pub finds_examined : (w : World) (m : DeclaredMethod) (e : Examined) (old new : Found) → IsExamined w m e
-    → AddsAll e.rows.items old.methods.keys new.methods.keys → AddsAll e.touched.items old.classes.keys new.classes.keys → Finds (FromMethod w m) old new
+    → AddsAll e.rows.items old.methods new.methods → AddsAll e.touched.items old.classes new.classes → Finds (FromMethod w m) old new
 finds_examined w m e old new is rows touched = record {
   each = λ a. (there a, back a);
   methods_behind = rows.behind;
@@ -155,13 +164,6 @@ pub leads_class : (w : World) (c : ℕ) (a : Node) → Leads w (class c) a → A
 leads_class w c (method row) l = inr l
 leads_class w c (class above) s = inl s
 
--- both words for an element of a list
-pub has_contains : (xs : List ℕ) (x : ℕ) → Has xs x → Contains xs x
-has_contains xs x h = Contains-at xs h.0 x h.1
-
-pub contains_has : (xs : List ℕ) (x : ℕ) → Contains xs x → Has xs x
-contains_has xs x c = (c.0, slice_get-get_or xs c.0 x c.1 ∙ ap Some c.2)
-
 has_option : (o : Option ℕ) (x : ℕ) → Has (option_to_list o) x → o ≡ Some x
 has_option None x h = cc (h.1)
 has_option (Some y) x h = at h.0 h.1
@@ -175,15 +177,15 @@ option_has o x e = rw e (0, refl)
 
 -- the parent and the interfaces of a class are what is above it
 pub finds_above : (w : World) (c : ℕ) (old mid new : Found) (parent : Option ℕ) → ((b : ℕ) → (parent ≡ Some b) ↔ HasParent w.rows.classes c b)
-    → old.methods.keys ≡ mid.methods.keys → mid.methods.keys ≡ new.methods.keys
-    → AddsAll (option_to_list parent) old.classes.keys mid.classes.keys → AddsAll (interfaces_of w.rows.implements c) mid.classes.keys new.classes.keys
+    → old.methods ≡ mid.methods → mid.methods ≡ new.methods
+    → AddsAll (option_to_list parent) old.classes mid.classes → AddsAll (interfaces_of w.rows.implements c) mid.classes new.classes
     → Finds (Above w c) old new
 finds_above w c old mid new parent is_parent same same_too one all = record {
   each = λ a. (there a, back a);
   methods_behind = [];
-  methods_grown = sym (append-nil old.methods.keys ∙ same ∙ same_too);
+  methods_grown = sym (append-nil old.methods ∙ same ∙ same_too);
   classes_behind = one.behind ++ all.behind;
-  classes_grown = all.grown ∙ ap (λ (xs : List ℕ). xs ++ all.behind) one.grown ∙ append_assoc old.classes.keys one.behind all.behind;
+  classes_grown = all.grown ∙ ap (λ (xs : List ℕ). xs ++ all.behind) one.grown ∙ append_assoc old.classes one.behind all.behind;
 }
   where
     there : (a : Node) → IsFound new a → IsFound old a ⊎ Above w c a
@@ -208,9 +210,9 @@ pub finds_no_initializer : (w : World) (c : ℕ) (old : Found) → ((row : ℕ) 
 finds_no_initializer w c old none = record {
   each = λ a. ((λ h. inl h), back a);
   methods_behind = [];
-  methods_grown = sym (append-nil old.methods.keys);
+  methods_grown = sym (append-nil old.methods);
   classes_behind = [];
-  classes_grown = sym (append-nil old.classes.keys);
+  classes_grown = sym (append-nil old.classes);
 }
   where
     back : (a : Node) → IsFound old a ⊎ InitializedBy w c a → IsFound old a
@@ -221,13 +223,13 @@ finds_no_initializer w c old none = record {
 
 -- the rows of the root that initializes the class were added
 pub finds_initializer : (w : World) (c initializer : ℕ) (e : Examined) (old new : Found) → DeclaresBody w c initializer_key initializer → IsExamined w (root_of w (c ∷ [])) e
-    → AddsAll e.rows.items old.methods.keys new.methods.keys → old.classes.keys ≡ new.classes.keys → Finds (InitializedBy w c) old new
+    → AddsAll e.rows.items old.methods new.methods → old.classes ≡ new.classes → Finds (InitializedBy w c) old new
 finds_initializer w c initializer e old new declares is rows same = record {
   each = λ a. (there a, back a);
   methods_behind = rows.behind;
   methods_grown = rows.grown;
   classes_behind = [];
-  classes_grown = sym (append-nil old.classes.keys ∙ same);
+  classes_grown = sym (append-nil old.classes ∙ same);
 }
   where
     there : (a : Node) → IsFound new a → IsFound old a ⊎ InitializedBy w c a
@@ -246,8 +248,8 @@ finds_class w c old mid new f g = finds_both (Above w c) (InitializedBy w c) (Le
 
 -- the same where the last step may want memory
 
-pub finds_examined_ok : {E : Type 0} (e : Examined) (old new : Found) (r : Result Unit E) → AddsAll e.rows.items old.methods.keys new.methods.keys
-    → OnOk r (AddsAll e.touched.items old.classes.keys new.classes.keys)
+pub finds_examined_ok : {E : Type 0} (e : Examined) (old new : Found) (r : Result Unit E) → AddsAll e.rows.items old.methods new.methods
+    → OnOk r (AddsAll e.touched.items old.classes new.classes)
     → OnOk r ((w : World) (m : DeclaredMethod) → IsExamined w m e → Finds (FromMethod w m) old new)
 finds_examined_ok e old new (Ok x) rows touched = λ w m is. finds_examined w m e old new is rows touched
 finds_examined_ok e old new (Err x) rows touched = cc
@@ -258,14 +260,14 @@ finds_class_ok w c old mid new (Ok x) f g = finds_class w c old mid new f g
 finds_class_ok w c old mid new (Err x) f g = cc
 
 pub finds_above_ok : {E : Type 0} (w : World) (c : ℕ) (old mid new : Found) (parent : Option ℕ) (r : Result Unit E) → ((b : ℕ) → (parent ≡ Some b) ↔ HasParent w.rows.classes c b)
-    → old.methods.keys ≡ mid.methods.keys → mid.methods.keys ≡ new.methods.keys
-    → AddsAll (option_to_list parent) old.classes.keys mid.classes.keys → OnOk r (AddsAll (interfaces_of w.rows.implements c) mid.classes.keys new.classes.keys)
+    → old.methods ≡ mid.methods → mid.methods ≡ new.methods
+    → AddsAll (option_to_list parent) old.classes mid.classes → OnOk r (AddsAll (interfaces_of w.rows.implements c) mid.classes new.classes)
     → OnOk r (Finds (Above w c) old new)
 finds_above_ok w c old mid new parent (Ok x) is_parent same same_too one all = finds_above w c old mid new parent is_parent same same_too one all
 finds_above_ok w c old mid new parent (Err x) is_parent same same_too one all = cc
 
 pub finds_initializer_ok : {E : Type 0} (w : World) (c initializer : ℕ) (e : Examined) (old new : Found) (r : Result Unit E) → DeclaresBody w c initializer_key initializer → IsExamined w (root_of w (c ∷ [])) e
-    → OnOk r (AddsAll e.rows.items old.methods.keys new.methods.keys) → old.classes.keys ≡ new.classes.keys → OnOk r (Finds (InitializedBy w c) old new)
+    → OnOk r (AddsAll e.rows.items old.methods new.methods) → old.classes ≡ new.classes → OnOk r (Finds (InitializedBy w c) old new)
 finds_initializer_ok w c initializer e old new (Ok x) declares is rows same = finds_initializer w c initializer e old new declares is rows same
 finds_initializer_ok w c initializer e old new (Err x) declares is rows same = cc
 
@@ -276,7 +278,7 @@ finds_root_ok w e old new (Ok x) is finds = finds_method w (root_number w) (root
 finds_root_ok w e old new (Err x) is finds = cc
 
 -- nothing is found yet but what the root leads to
-pub searched_begins : (w : World) (old new : Found) → old.methods.keys ≡ [] → old.classes.keys ≡ [] → Finds (Leads w (method (root_number w))) old new
+pub searched_begins : (w : World) (old new : Found) → old.methods ≡ [] → old.classes ≡ [] → Finds (Leads w (method (root_number w))) old new
     → IsSearched w (record { found = new; methods_done = 0; classes_done = 0; first = None })
 searched_begins w old new no_methods no_classes f = record {
   sound = λ a h. elim ((f.each a).0 h) [ inl was ↦ absurd (empty a was) | inr l ↦ begins l ];
@@ -309,8 +311,8 @@ pub judged_same : (w : World) (row : ℕ) (one other : DeclaredMethod) → IsRow
 judged_same w row one other is is_too fault judged = let same : one ≡ other = cc in subst (λ m. MatchOption fault (HasNoFault w m) (IsFirstFault w m)) same judged
 
 -- what a test of a set tells
-pub has_if : (keys : List ℕ) (k : ℕ) (b : Bool) → b ≡ is_member eqb keys k → b ≡ true → Has keys k
-has_if keys k b is holds = contains_has keys k ((is_member-Decides unsigned_Decides keys k).0 (sym is ∙ holds))
+pub has_if : (numbers : List ℕ) (n : ℕ) (b : Bool) → IsTrue b ↔ Contains numbers n → b ≡ true → Has numbers n
+has_if numbers n b is holds = contains_has numbers n (is.0 holds)
 
-pub has_not : (keys : List ℕ) (k : ℕ) (b : Bool) → b ≡ is_member eqb keys k → b ≡ false → Has keys k → ⊥
-has_not keys k b is no_more h = true≢false (sym ((is_member-Decides unsigned_Decides keys k).1 (has_contains keys k h)) ∙ sym is ∙ no_more)
+pub has_not : (numbers : List ℕ) (n : ℕ) (b : Bool) → IsTrue b ↔ Contains numbers n → b ≡ false → Has numbers n → ⊥
+has_not numbers n b is fails h = true≢false (sym (is.1 (has_contains numbers n h)) ∙ fails)

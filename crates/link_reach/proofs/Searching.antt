@@ -87,17 +87,17 @@ module _ (w : World) (s : Search) (is : IsSearched w s) (new : Found) where
     keep : (b : Node) → IsFound s.found b → IsFound new b
     keep b was = (f.each b).1 (inl was)
 
-    methods_kept : (i number : ℕ) → i < s.methods_done → slice_get new.methods.keys i ≡ Some number → (b : Node) → Leads w (method number) b → IsFound new b
+    methods_kept : (i number : ℕ) → i < s.methods_done → slice_get new.methods i ≡ Some number → (b : Node) → Leads w (method number) b → IsFound new b
     methods_kept i number below there b l =
         keep b (is.closed.of_methods i number below (old_at _ _ f.methods_behind i number f.methods_grown (omega (arith, below, is.methods_there)) there) b l)
 
-    classes_kept : (i c : ℕ) → i < s.classes_done → slice_get new.classes.keys i ≡ Some c → (b : Node) → Leads w (class c) b → IsFound new b
+    classes_kept : (i c : ℕ) → i < s.classes_done → slice_get new.classes i ≡ Some c → (b : Node) → Leads w (class c) b → IsFound new b
     classes_kept i c below there b l =
         keep b (is.closed.of_classes i c below (old_at _ _ f.classes_behind i c f.classes_grown (omega (arith, below, is.classes_there)) there) b l)
 
   -- a method was visited
-  pub searched_method : (row : ℕ) (first : Option FaultIn) → slice_get s.found.methods.keys s.methods_done ≡ Some row → Finds (Leads w (method row)) s.found new
-      → IsFirstIn w (take s.methods_done s.found.methods.keys ++ row ∷ []) first
+  pub searched_method : (row : ℕ) (first : Option FaultIn) → slice_get s.found.methods s.methods_done ≡ Some row → Finds (Leads w (method row)) s.found new
+      → IsFirstIn w (take s.methods_done s.found.methods ++ row ∷ []) first
       → IsSearched w (record { found = new; methods_done = s.methods_done + 1; classes_done = s.classes_done; first = first })
   searched_method row first there f firsts = record {
     sound = sound_more (method row) (s.methods_done, there) f;
@@ -106,7 +106,7 @@ module _ (w : World) (s : Search) (is : IsSearched w s) (new : Found) where
       of_methods = λ i number below here b l. elim (at_most i s.methods_done below) [
         | inl before ↦ methods_kept (method row) f i number before here b l
         | inr same ↦
-            let e : slice_get new.methods.keys s.methods_done ≡ Some number = subst (λ z. slice_get new.methods.keys z ≡ Some number) same here in
+            let e : slice_get new.methods s.methods_done ≡ Some number = subst (λ z. slice_get new.methods z ≡ Some number) same here in
             let still = new_at _ _ f.methods_behind s.methods_done row f.methods_grown there in
             let one : number ≡ row = cc (e, still) in
             (f.each b).1 (inr (subst (λ z. Leads w (method z) b) one l))
@@ -114,12 +114,12 @@ module _ (w : World) (s : Search) (is : IsSearched w s) (new : Found) where
       of_classes = classes_kept (method row) f;
     };
     first = subst (λ (xs : List ℕ). IsFirstIn w xs first) (sym (take_grown _ _ f.methods_behind s.methods_done row f.methods_grown there)) firsts;
-    methods_there = let still = slice_get-below new.methods.keys s.methods_done row (new_at _ _ f.methods_behind s.methods_done row f.methods_grown there) in omega (arith, still);
+    methods_there = let still = slice_get-below new.methods s.methods_done row (new_at _ _ f.methods_behind s.methods_done row f.methods_grown there) in omega (arith, still);
     classes_there = longer_list _ _ f.classes_behind s.classes_done f.classes_grown is.classes_there;
   }
 
   -- a class was visited
-  pub searched_class : (c : ℕ) → slice_get s.found.classes.keys s.classes_done ≡ Some c → Finds (Leads w (class c)) s.found new
+  pub searched_class : (c : ℕ) → slice_get s.found.classes s.classes_done ≡ Some c → Finds (Leads w (class c)) s.found new
       → IsSearched w (record { found = new; methods_done = s.methods_done; classes_done = s.classes_done + 1; first = s.first })
   searched_class c there f = record {
     sound = sound_more (class c) (s.classes_done, there) f;
@@ -129,15 +129,15 @@ module _ (w : World) (s : Search) (is : IsSearched w s) (new : Found) where
       of_classes = λ i d below here b l. elim (at_most i s.classes_done below) [
         | inl before ↦ classes_kept (class c) f i d before here b l
         | inr same ↦
-            let e : slice_get new.classes.keys s.classes_done ≡ Some d = subst (λ z. slice_get new.classes.keys z ≡ Some d) same here in
+            let e : slice_get new.classes s.classes_done ≡ Some d = subst (λ z. slice_get new.classes z ≡ Some d) same here in
             let still = new_at _ _ f.classes_behind s.classes_done c f.classes_grown there in
             let one : d ≡ c = cc (e, still) in
             (f.each b).1 (inr (subst (λ z. Leads w (class z) b) one l))
       ];
     };
-    first = subst (λ (xs : List ℕ). IsFirstIn w xs s.first) (sym (ap (take s.methods_done) f.methods_grown ∙ take-append-le s.methods_done s.found.methods.keys f.methods_behind is.methods_there)) is.first;
+    first = subst (λ (xs : List ℕ). IsFirstIn w xs s.first) (sym (ap (take s.methods_done) f.methods_grown ∙ take-append-le s.methods_done s.found.methods f.methods_behind is.methods_there)) is.first;
     methods_there = longer_list _ _ f.methods_behind s.methods_done f.methods_grown is.methods_there;
-    classes_there = let still = slice_get-below new.classes.keys s.classes_done c (new_at _ _ f.classes_behind s.classes_done c f.classes_grown there) in omega (arith, still);
+    classes_there = let still = slice_get-below new.classes s.classes_done c (new_at _ _ f.classes_behind s.classes_done c f.classes_grown there) in omega (arith, still);
   }
 
 -- fewer may still be done
@@ -149,24 +149,24 @@ class_done w s t same e below = omega (arith, e, same, below)
 
 -- the methods that are found are no more than those of the program, and so are the classes
 module _ (w : World) (bounded : IsBounded w) (s : Search) (is : IsSearched w s) where
-  pub method_within : (i row : ℕ) → slice_get s.found.methods.keys i ≡ Some row → row < length (methods_of w.classes)
+  pub method_within : (i row : ℕ) → slice_get s.found.methods i ≡ Some row → row < length (methods_of w.classes)
   method_within i row there = led_within w bounded (method row) (is.sound (method row) (i, there))
 
-  pub class_within : (i c : ℕ) → slice_get s.found.classes.keys i ≡ Some c → c < length w.classes
+  pub class_within : (i c : ℕ) → slice_get s.found.classes i ≡ Some c → c < length w.classes
   class_within i c there = led_within w bounded (class c) (is.sound (class c) (i, there))
 
-  pub methods_left : (row : ℕ) → IsDistinct eqb s.found.methods.keys → slice_get s.found.methods.keys s.methods_done ≡ Some row → s.methods_done < length (methods_of w.classes)
+  pub methods_left : (row : ℕ) → IsDistinct eqb s.found.methods → slice_get s.found.methods s.methods_done ≡ Some row → s.methods_done < length (methods_of w.classes)
   methods_left row distinct there =
-      let few = few_distinct s.found.methods.keys (length (methods_of w.classes)) distinct method_within in
-      omega (arith, few, slice_get-below s.found.methods.keys s.methods_done row there)
+      let few = few_distinct s.found.methods (length (methods_of w.classes)) distinct method_within in
+      omega (arith, few, slice_get-below s.found.methods s.methods_done row there)
 
-  pub classes_left : (c : ℕ) → IsDistinct eqb s.found.classes.keys → slice_get s.found.classes.keys s.classes_done ≡ Some c → s.classes_done < length w.classes
+  pub classes_left : (c : ℕ) → IsDistinct eqb s.found.classes → slice_get s.found.classes s.classes_done ≡ Some c → s.classes_done < length w.classes
   classes_left c distinct there =
-      let few = few_distinct s.found.classes.keys (length w.classes) distinct class_within in
-      omega (arith, few, slice_get-below s.found.classes.keys s.classes_done c there)
+      let few = few_distinct s.found.classes (length w.classes) distinct class_within in
+      omega (arith, few, slice_get-below s.found.classes s.classes_done c there)
 
   -- a method of a class is one of those that are linked
-  pub method_there : (i row : ℕ) → slice_get s.found.methods.keys i ≡ Some row → (m : DeclaredMethod) × (slice_get (methods_of w.classes) row ≡ Some m)
+  pub method_there : (i row : ℕ) → slice_get s.found.methods i ≡ Some row → (m : DeclaredMethod) × (slice_get (methods_of w.classes) row ≡ Some m)
   method_there i row there = slice_get-there (methods_of w.classes) row (method_within i row there)
 
 -- no more is found

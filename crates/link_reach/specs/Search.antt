@@ -12,8 +12,8 @@ use Rattle.link_reach.specs.Graph.{IsLedTo, Leads, Node, Runs, TouchesClass, met
 
 -- the node is found
 abbrev pub IsFound : Found → Node → Type 0
-IsFound f (method number) = Has f.methods.keys number
-IsFound f (class c) = Has f.classes.keys c
+IsFound f (method number) = Has f.methods number
+IsFound f (class c) = Has f.classes c
 
 -- those that weren't there came behind the others
 pub record AddsAll (added old new : List ℕ) : Type 0 where
@@ -25,9 +25,9 @@ pub record AddsAll (added old new : List ℕ) : Type 0 where
 pub record Finds (P : Node → Type 0) (old new : Found) : Type 0 where
   pub each : (a : Node) → IsFound new a ↔ (IsFound old a ⊎ P a)
   pub methods_behind : List ℕ
-  pub methods_grown : new.methods.keys ≡ old.methods.keys ++ methods_behind
+  pub methods_grown : new.methods ≡ old.methods ++ methods_behind
   pub classes_behind : List ℕ
-  pub classes_grown : new.classes.keys ≡ old.classes.keys ++ classes_behind
+  pub classes_grown : new.classes ≡ old.classes ++ classes_behind
 
 -- what a method runs and touches
 abbrev pub FromMethod : World → DeclaredMethod → Node → Type 0
@@ -51,8 +51,8 @@ IsSound w f = (a : Node) → IsFound f a → IsLedTo w a
 -- what the first so many methods and classes lead to is found, and what the root leads to
 pub record IsClosedTo (w : World) (f : Found) (methods classes : ℕ) : Type 0 where
   pub begun : (a : Node) → Leads w (method (root_number w)) a → IsFound f a
-  pub of_methods : (i number : ℕ) → i < methods → slice_get f.methods.keys i ≡ Some number → (a : Node) → Leads w (method number) a → IsFound f a
-  pub of_classes : (i c : ℕ) → i < classes → slice_get f.classes.keys i ≡ Some c → (a : Node) → Leads w (class c) a → IsFound f a
+  pub of_methods : (i number : ℕ) → i < methods → slice_get f.methods i ≡ Some number → (a : Node) → Leads w (method number) a → IsFound f a
+  pub of_classes : (i c : ℕ) → i < classes → slice_get f.classes i ≡ Some c → (a : Node) → Leads w (class c) a → IsFound f a
 
 -- a method that a call may run is one of those that are linked, and so is a class above one
 pub record IsBounded (w : World) : Type 0 where
@@ -63,9 +63,9 @@ pub record IsBounded (w : World) : Type 0 where
 pub record IsSearched (w : World) (s : Search) : Type 0 where
   pub sound : IsSound w s.found
   pub closed : IsClosedTo w s.found s.methods_done s.classes_done
-  pub first : IsFirstIn w (take s.methods_done s.found.methods.keys) s.first
-  pub methods_there : s.methods_done ≤ length s.found.methods.keys
-  pub classes_there : s.classes_done ≤ length s.found.classes.keys
+  pub first : IsFirstIn w (take s.methods_done s.found.methods) s.first
+  pub methods_there : s.methods_done ≤ length s.found.methods
+  pub classes_there : s.classes_done ≤ length s.found.classes
 
 -- how many nodes may still be done
 abbrev pub left_of : World → Search → ℕ

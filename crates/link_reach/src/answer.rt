@@ -10,12 +10,12 @@ ghost use Rattle.link_reach.specs.Search.{IsBounded, IsSearched};
 ghost use Rattle.link_reach.specs.Reaches.{AreReached, AreThose, IsStarted};
 
 use super::search::{Search, search_all};
-use indexmap::IndexSet;
 use link_calls::Targets;
 use link_classes::{Classes, root_method};
 use link_faults::{Fault, examine};
 use link_rules::LinkKind;
 use lists::NoMemory;
+use number_sets::MarkedSet;
 use std::alloc::{AllocError, Global};
 
 /// What a run may reach.
@@ -51,12 +51,12 @@ impl From<AllocError> for NotReached {
 }
 
 // The numbers below a count that are in the set, in order.
-fn in_order(alloc: Global, found: &IndexSet<u32>, count: u32) -> Result<Vec<u32>, NoMemory>
-    ensures { IfOk result (λ rows. AreThose (Has found.now.keys) count rows.items) }
+fn in_order(alloc: Global, found: &MarkedSet, count: u32) -> Result<Vec<u32>, NoMemory>
+    ensures { IfOk result (λ rows. AreThose (Has found.now) count rows.items) }
 {
     let mut rows = Vec::new(alloc);
     for number in 0..count {
-        if found.contains(&number) {
+        if found.contains(number) {
             rows.push(number)?;
         }
     }
@@ -64,12 +64,12 @@ fn in_order(alloc: Global, found: &IndexSet<u32>, count: u32) -> Result<Vec<u32>
 }
 
 // The classes that are asked for and have an initializer, in order.
-fn started(alloc: Global, classes: &Classes, asked: &IndexSet<u32>) -> Result<Vec<u32>, NoMemory>
-    ensures { IfOk result (λ started. AreThose (IsStarted classes.now.world asked.now.keys) (length classes.now.world.classes) started.items) }
+fn started(alloc: Global, classes: &Classes, asked: &MarkedSet) -> Result<Vec<u32>, NoMemory>
+    ensures { IfOk result (λ started. AreThose (IsStarted classes.now.world asked.now) (length classes.now.world.classes) started.items) }
 {
     let mut started = Vec::new(alloc);
     for number in 0..classes.class_count() {
-        if asked.contains(&number) && classes.initializer(number).is_some() {
+        if asked.contains(number) && classes.initializer(number).is_some() {
             started.push(number)?;
         }
     }
@@ -97,8 +97,8 @@ fn answer(alloc: Global, targets: &mut Targets, search: &Search) -> Result<Reach
     requires passed { (kind : AKind) (number : ℕ) → RefusesWhole targets.old.world kind number → ⊥ }
     requires bounded { IsBounded targets.old.world }
     requires searched { IsSearched targets.old.world search.now }
-    requires methods { search.now.methods_done ≡ length search.now.found.methods.keys }
-    requires classes { search.now.classes_done ≡ length search.now.found.classes.keys }
+    requires methods { search.now.methods_done ≡ length search.now.found.methods }
+    requires classes { search.now.classes_done ≡ length search.now.found.classes }
     ensures same { targets.new ≡ targets.old }
     ensures reached { IfOk result (λ r. AreReached targets.old.world r.rows.items) }
     ensures initialized { IfOk result (λ r. AreInitialized targets.old.world r.initialized.items) }

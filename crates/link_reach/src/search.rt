@@ -1,6 +1,5 @@
 //! The search for all that may be reached, from the root on.
-ghost use Rattle.std.specs.Prelude.{◌≡◌, ◌<◌, ◌+◌, ◌≤◌, ◌^◌, [], ◌∷◌, ℕ, List, IfOk, OnOk, Ok, MatchOption, true, false, length, nat_eq, slice_get};
-ghost use Rattle.std.specs.List.{IsDistinct};
+ghost use Rattle.std.specs.Prelude.{◌≡◌, ◌<◌, ◌+◌, [], IfOk, OnOk, Ok, MatchOption, true, false, length};
 ghost use Rattle.std.specs.Option.{option_to_list};
 ghost use Rattle.link_rules.specs.Classes.{DeclaredMethod, methods_of};
 ghost use Rattle.link_rules.specs.Root.{root_number};
@@ -11,32 +10,24 @@ ghost use Rattle.link_reach.specs.Graph.{Leads, method, class};
 ghost use Rattle.link_reach.specs.Search.{Above, AddsAll, Finds, FromMethod, InitializedBy, IsBounded, IsSearched, left_of};
 
 use super::firsts::{FaultIn, earlier};
-use indexmap::IndexSet;
 use link_calls::Targets;
 use link_classes::{Classes, root_method};
 use link_faults::{Examined, Fault, examine};
 use lists::NoMemory;
+use number_sets::MarkedSet;
 use std::alloc::Global;
 
-/// The methods that a run may reach, by their rows, and the classes that they ask for, in the order in which they were found.
+/// The methods that a run may reach, by their rows, and the classes that they ask for, in the order in which they were found. A look-up takes one step,
+/// whichever numbers are there; a set takes a byte for each method or class up to the largest.
 #[derive(Drop)]
 pub struct Found {
-    pub methods: IndexSet<u32>,
-    pub classes: IndexSet<u32>,
-}
-
-// The number at this place of the set, in which no number stands twice.
-fn number_at(set: &IndexSet<u32>, at: usize) -> Option<u32>
-    ensures value { result ≡ slice_get set.now.keys at }
-    ensures distinct { IsDistinct nat_eq set.now.keys }
-    ensures few { length set.now.keys < 2 ^ 63 }
-{
-    set.as_slice().get(at).copied()
+    pub methods: MarkedSet,
+    pub classes: MarkedSet,
 }
 
 // Adds the numbers that aren't there.
-fn add_all(set: &mut IndexSet<u32>, numbers: &[u32]) -> Result<(), NoMemory>
-    ensures { OnOk result (AddsAll numbers.now set.old.keys set.new.keys) }
+fn add_all(set: &mut MarkedSet, numbers: &[u32]) -> Result<(), NoMemory>
+    ensures { OnOk result (AddsAll numbers.now set.old set.new) }
 {
     for number in numbers {
         set.insert(*number)?;
@@ -45,8 +36,8 @@ fn add_all(set: &mut IndexSet<u32>, numbers: &[u32]) -> Result<(), NoMemory>
 }
 
 // Adds the number, if there is one.
-fn add_one(set: &mut IndexSet<u32>, number: Option<u32>) -> Result<(), NoMemory>
-    ensures { OnOk result (AddsAll (option_to_list number) set.old.keys set.new.keys) }
+fn add_one(set: &mut MarkedSet, number: Option<u32>) -> Result<(), NoMemory>
+    ensures { OnOk result (AddsAll (option_to_list number) set.old set.new) }
 {
     match number {
         Some(number) => add_all(set, &[number]),
@@ -153,8 +144,8 @@ impl Search {
         ensures searched { IfOk result (IsSearched targets.old.world) }
     {
         let mut found = Found {
-            methods: IndexSet::new(alloc),
-            classes: IndexSet::new(alloc),
+            methods: MarkedSet::new(alloc),
+            classes: MarkedSet::new(alloc),
         };
         visit_root(alloc, targets, &mut found)?;
         Ok(Search {
@@ -172,9 +163,9 @@ impl Search {
         ensures same { targets.new ≡ targets.old }
         ensures searched { OnOk result (IsSearched targets.old.world self.new) }
         ensures turned { result ≡ Ok true → left_of targets.old.world self.new < left_of targets.old.world self.old }
-        ensures ended { result ≡ Ok false → (self.new ≡ self.old) × (self.old.methods_done ≡ length self.old.found.methods.keys) }
+        ensures ended { result ≡ Ok false → (self.new ≡ self.old) × (self.old.methods_done ≡ length self.old.found.methods) }
     {
-        let Some(row) = number_at(&self.found.methods, self.methods_done) else {
+        let Some(row) = self.found.methods.get(self.methods_done) else {
             return Ok(false);
         };
         let fault = visit_method(alloc, targets, &mut self.found, row)?;
@@ -190,9 +181,9 @@ impl Search {
         ensures same { targets.new ≡ targets.old }
         ensures searched { OnOk result (IsSearched targets.old.world self.new) }
         ensures turned { result ≡ Ok true → left_of targets.old.world self.new < left_of targets.old.world self.old }
-        ensures ended { result ≡ Ok false → (self.new ≡ self.old) × (self.old.classes_done ≡ length self.old.found.classes.keys) }
+        ensures ended { result ≡ Ok false → (self.new ≡ self.old) × (self.old.classes_done ≡ length self.old.found.classes) }
     {
-        let Some(number) = number_at(&self.found.classes, self.classes_done) else {
+        let Some(number) = self.found.classes.get(self.classes_done) else {
             return Ok(false);
         };
         visit_class(alloc, targets, &mut self.found, number)?;
@@ -213,8 +204,8 @@ pub fn search_all(alloc: Global, targets: &mut Targets) -> Result<Search, NoMemo
     ensures same { targets.new ≡ targets.old }
     ensures searched { IfOk result (IsSearched targets.old.world) }
     ensures bounded { IsBounded targets.old.world }
-    ensures methods { IfOk result (λ s. s.methods_done ≡ length s.found.methods.keys) }
-    ensures classes { IfOk result (λ s. s.classes_done ≡ length s.found.classes.keys) }
+    ensures methods { IfOk result (λ s. s.methods_done ≡ length s.found.methods) }
+    ensures classes { IfOk result (λ s. s.classes_done ≡ length s.found.classes) }
 {
     tell_bounds(targets.classes());
     let mut search = Search::begin(alloc, targets)?;

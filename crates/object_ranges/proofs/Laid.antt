@@ -1,14 +1,16 @@
 -- Parts in order, and what is told of them when one more comes.
-use Rattle.std.proofs.Common.{◌≡◌, ℕ, ◌+◌, ◌<◌, ◌≤◌, ◌⊎◌, Option, List, [], ◌∷◌, ◌++◌, length, length-append, get_or, sym, ap, subst, ◌∙◌, inl, inr, arith}
+use Rattle.std.proofs.Common.{◌≡◌, ◌≢◌, ℕ, ◌+◌, ◌<◌, ◌≤◌, ◌⊎◌, Option, Some, List, [], ◌∷◌, ◌++◌, length, length-append, get_or, slice_get, sym, ap, subst, ◌∙◌, inl, inr, arith}
 use Rattle.std.specs.List.{All}
 use Rattle.std.proofs.Math.Seq.{get_or-append_seam}
 use Rattle.std.proofs.lemmas.List.{get_or_append_left}
 use Rattle.std.proofs.lemmas.List.Elements.{All-contains, All-push, Contains-append_left, Contains-push, Contains-push_cases}
-use Rattle.lists.proofs.Elements.{Contains-nil}
+use Rattle.std.proofs.lemmas.Option.{slice_get_within}
+use Rattle.lists.proofs.Elements.{Contains-nil, slice_get-append_below}
+use Rattle.lists.proofs.Places.{slice_get-append_left, slice_get-push, slice_get-pushed}
 use Rattle.object_ranges.specs.declared.parts.Part.{Part}
 use Rattle.object_ranges.specs.Marks.{Stands}
 use Rattle.object_ranges.specs.declared.selection.Selection.{Selection}
-use Rattle.object_ranges.specs.Parts.{AreInOrder, ArePartsTo, IsIn, SelectAlike}
+use Rattle.object_ranges.specs.Parts.{AreInOrder, ArePartsTo, HasClass, IsIn, NeighboursDiffer, SelectAlike}
 
 below_or : (a b : ℕ) → (a < b) ⊎ (b ≤ a)
 below_or a b = grind arith
@@ -59,6 +61,30 @@ module _ (parts : List Part) (t : Part) (a : AreInOrder (parts ++ t ∷ [])) whe
         omega (arith, a.apart i j d lt (omega (arith, h, length-append parts (t ∷ []))), x, y);
   }
 
+-- ---- neighbours
+
+pub differ_push : (parts : List Part) (t : Part) → NeighboursDiffer parts
+    → ((i : ℕ) (part : Part) → i + 1 ≡ length parts → slice_get parts i ≡ Some part → part.selection ≢ t.selection) → NeighboursDiffer (parts ++ t ∷ [])
+differ_push parts t differ last i part next at_part at_next = elim (slice_get-pushed parts t (i + 1) next at_next) [
+  | inl was ↦ differ i part next (sym (slice_get-append_below parts (t ∷ []) i (omega (arith, slice_get_within parts (i + 1) next was))) ∙ at_part) was
+  | inr is ↦ λ same. last i part is.0 (sym (slice_get-append_below parts (t ∷ []) i (omega (arith, is.0))) ∙ at_part) (same ∙ ap (λ (u : Part). u.selection) is.1)
+]
+
+-- a last part that selects otherwise
+pub last_differs : (parts : List Part) (last t : Part) → last.selection ≢ t.selection
+    → (i : ℕ) (part : Part) → i + 1 ≡ length (parts ++ last ∷ []) → slice_get (parts ++ last ∷ []) i ≡ Some part → part.selection ≢ t.selection
+last_differs parts last t differ i part at_end at_part = elim (slice_get-pushed parts last i part at_part) [
+  | inl was ↦ absurd (omega (arith, at_end, length-append parts (last ∷ []), slice_get_within parts i part was))
+  | inr is ↦ λ same. differ (ap (λ (u : Part). u.selection) (sym is.1) ∙ same)
+]
+
+module _ (parts : List Part) (t : Part) (differ : NeighboursDiffer (parts ++ t ∷ [])) where
+  pub differ_init : NeighboursDiffer parts
+  differ_init i part next at_part at_next = differ i part next (slice_get-append_left parts (t ∷ []) i part at_part) (slice_get-append_left parts (t ∷ []) (i + 1) next at_next)
+
+  pub differ_last : (i : ℕ) (part : Part) → i + 1 ≡ length parts → slice_get parts i ≡ Some part → part.selection ≢ t.selection
+  differ_last i part last at_part = differ i part t (slice_get-append_left parts (t ∷ []) i part at_part) (ap (slice_get (parts ++ t ∷ [])) last ∙ slice_get-push parts t)
+
 -- ---- one part more
 
 pub parts_none : (marks : List (Option ℕ)) (select : ℕ → Selection) → ArePartsTo marks select 0 []
@@ -67,6 +93,8 @@ parts_none marks select = record {
   up_to = λ k d h. absurd (omega (arith, h));
   right = λ part m. absurd (Contains-nil part m);
   all = λ place class lt s. absurd (omega (arith, lt));
+  has_class = λ part m. absurd (Contains-nil part m);
+  differ = λ i part next at_part at_next. absurd (omega (arith, slice_get_within {A = Part} [] i part at_part));
 }
 
 module _ (marks : List (Option ℕ)) (select : ℕ → Selection) (part : Part) (filled : part.start ≤ part.end) (gives : SelectAlike marks select part)
@@ -81,11 +109,14 @@ module _ (marks : List (Option ℕ)) (select : ℕ → Selection) (part : Part) 
       | inl earlier ↦ s.all place class earlier st
       | inr here ↦ absurd (empty place class (here, lt) st)
     ];
+    has_class = s.has_class;
+    differ = s.differ;
   }
 
   -- it comes behind the others
-  pub parts_pushed : ArePartsTo marks select part.end (old ++ part ∷ [])
-  parts_pushed = record {
+  pub parts_pushed : HasClass marks part → ((i : ℕ) (last : Part) → i + 1 ≡ length old → slice_get old i ≡ Some last → last.selection ≢ part.selection)
+      → ArePartsTo marks select part.end (old ++ part ∷ [])
+  parts_pushed has differs = record {
     in_order = in_order_push old part s.in_order s.up_to filled;
     up_to = All-push (λ (u : Part). u.end ≤ part.end) old part (λ k d h. let le = s.up_to k d h in omega (arith, le, filled)) (omega arith);
     right = λ u m. elim (Contains-push_cases old part u m) [
@@ -96,6 +127,11 @@ module _ (marks : List (Option ℕ)) (select : ℕ → Selection) (part : Part) 
       | inl earlier ↦ let p = s.all place class earlier st in (p.0, Contains-append_left old (part ∷ []) p.0 p.1, p.2)
       | inr here ↦ (part, Contains-push old part, (here, lt))
     ];
+    has_class = λ u m. elim (Contains-push_cases old part u m) [
+      | inl was ↦ s.has_class u was
+      | inr is ↦ subst (HasClass marks) is has
+    ];
+    differ = differ_push old part s.differ differs;
   }
 
 -- the last part goes on
@@ -146,4 +182,11 @@ module _ (marks : List (Option ℕ)) (select : ℕ → Selection) (part : Part) 
       ])
       | inr here ↦ (wider, Contains-push front wider, (omega (arith, here, last_filled, last_end), lt))
     ];
+    has_class = λ u m. elim (Contains-push_cases front wider u m) [
+      | inl was ↦ s.has_class u (Contains-append_left front (last ∷ []) u was)
+      | inr is ↦
+          let old = s.has_class last (Contains-push front last) in
+          subst (HasClass marks) is (old.0, old.1, (old.2.0, omega (arith, old.2.1, last_end, filled)), old.3)
+    ];
+    differ = differ_push front wider (differ_init front last s.differ) (differ_last front last s.differ);
   }

@@ -1,5 +1,5 @@
 -- The least number of which a fact holds, from those of other facts.
-use Rattle.std.proofs.Common.{◌≡◌, ℕ, ◌<◌, ◌≤◌, ◌⊎◌, min, false, true≢false, Option, Some, None, refl, sym, ap, subst, inl, inr, arith}
+use Rattle.std.proofs.Common.{◌≡◌, ℕ, ◌<◌, ◌≤◌, ◌⊎◌, min, false, true, true≢false, Option, Some, None, refl, sym, ap, subst, inl, inr, arith}
 use Rattle.std.specs.Option.{is_some}
 use Rattle.object_ranges.specs.Marks.{IsLeastOf, earlier}
 
@@ -85,3 +85,8 @@ earlier_second a b n e = subst (λ x. (m : ℕ) × (m ≤ n) × (earlier a x ≡
 pub none_has : (P : ℕ → Type 0) (o : Option ℕ) → is_some o ≡ false → IsLeastOf P o → (n : ℕ) → P n → ⊥
 none_has P None e is = is
 none_has P (Some n) e is = absurd (true≢false e)
+
+-- and where there is one, some number has it
+pub some_has : (P : ℕ → Type 0) (o : Option ℕ) → is_some o ≡ true → IsLeastOf P o → (n : ℕ) × P n
+some_has P None e is = absurd (true≢false (sym e))
+some_has P (Some n) e is = (n, is.holds)

@@ -7,4 +7,5 @@ pub mod Turned
 pub mod Meeting
 pub mod Ordered
 pub mod Leasted
+pub mod Passing
 pub mod Serving

@@ -1,5 +1,5 @@
 -- The classes that are chosen for a call.
-use Rattle.std.specs.Prelude.{◌≡◌, ℕ, ◌≤◌, Option, Some, None, List, Contains, length, max, min, slice_get, slice_index_or}
+use Rattle.std.specs.Prelude.{◌≡◌, ℕ, ◌≤◌, Option, Some, None, List, [], ◌∷◌, Contains, length, max, min, slice_get, slice_index_or}
 use Rattle.class_order.specs.declared.spans.Span.{Span}
 use Rattle.class_order.specs.Spans.{Holds}
 use Rattle.lists.specs.Lists.{IsLeast}
@@ -32,19 +32,17 @@ abbrev pub IsChoiceOf : List (Option ℕ) → List Span → Part → Option Choi
 IsChoiceOf marks spans part (Some choice) = SelectsSome part.selection × (choice.selection ≡ part.selection) × IsLeast (StandsInBoth marks spans part) choice.class
 IsChoiceOf marks spans part None = SelectsSome part.selection → (class : ℕ) → StandsInBoth marks spans part class → ⊥
 
+-- the choices of the parts, in their order: one for each part that has one
+pub data AreChoicesOf (marks : List (Option ℕ)) (spans : List Span) : List Part → List Choice → Type 0 where
+  none : AreChoicesOf marks spans [] []
+  gives : {parts : List Part} {choices : List Choice} {part : Part} {choice : Choice} → IsChoiceOf marks spans part (Some choice) → AreChoicesOf marks spans parts choices
+      → AreChoicesOf marks spans (part ∷ parts) (choice ∷ choices)
+  gives_none : {parts : List Part} {choices : List Choice} {part : Part} → IsChoiceOf marks spans part None → AreChoicesOf marks spans parts choices
+      → AreChoicesOf marks spans (part ∷ parts) choices
+
 -- a choice that serves for a class from which this is selected: its class is no later, and the same is selected from it
 pub record IsServed (choices : List Choice) (class : ℕ) (selection : Selection) : Type 0 where
   pub choice : Choice
   pub there : Contains choices choice
   pub same : choice.selection ≡ selection
   pub first : choice.class ≤ class
-
--- the class of the choice stands in one of the spans, and its selection is what is selected there
-abbrev pub IsChosenIn : List (Option ℕ) → (ℕ → Selection) → List Span → Choice → Type 0
-IsChosenIn marks select spans choice = (place : ℕ) × Holds spans place × Stands marks place choice.class × (choice.selection ≡ select place)
-
--- those that are chosen in the spans: they serve for all classes there from which something is selected
-pub record AreChosen (marks : List (Option ℕ)) (select : ℕ → Selection) (spans : List Span) (choices : List Choice) : Type 0 where
-  pub some : (choice : Choice) → Contains choices choice → SelectsSome choice.selection
-  pub right : (choice : Choice) → Contains choices choice → IsChosenIn marks select spans choice
-  pub served : (place class : ℕ) → Holds spans place → Stands marks place class → SelectsSome (select place) → IsServed choices class (select place)

@@ -1,11 +1,11 @@
 //! The classes that select what a call runs.
-ghost use Rattle.std.specs.Prelude.{◌≡◌, ◌<◌, ◌≤◌, ℕ, IfOk, Some, slice_get};
+ghost use Rattle.std.specs.Prelude.{◌≡◌, ◌<◌, ◌≤◌, ℕ, Contains, IfOk, Some, slice_get};
 ghost use Rattle.class_order.specs.Spans.{AreApart, Holds};
-ghost use Rattle.object_ranges.specs.Chosen.{AreChosen, AreLeasts, IsChoiceOf, StandsInBoth, StandsInClip};
+ghost use Rattle.class_order.specs.declared.spans.Span.{Span as ASpan};
+ghost use Rattle.object_ranges.specs.Chosen.{AreChoicesOf, AreLeasts, IsChoiceOf, StandsInBoth, StandsInClip};
 ghost use Rattle.object_ranges.specs.Marks.{IsLeastOf};
-ghost use Rattle.object_ranges.specs.Parts.{AreInOrder, IsIn, TellParts};
+ghost use Rattle.object_ranges.specs.Parts.{AreInOrder, IsIn};
 ghost use Rattle.object_ranges.specs.declared.parts.Part.{Part as APart};
-ghost use Rattle.object_ranges.specs.declared.selection.Selection.{Selection as ASelection};
 
 use super::minima::{Minima, earlier};
 use super::parts::Part;
@@ -79,6 +79,8 @@ fn next_part(parts: &[Part], spans: &[Span], from: usize) -> usize
     requires parts { AreInOrder parts.now }
     requires spans { AreApart spans.now }
     ensures passed { (k place : ℕ) (part : APart) → from ≤ k → k < result → slice_get parts.now k ≡ Some part → IsIn part place → Holds spans.now place → ⊥ }
+    ensures met { (first next : APart) → slice_get parts.now from ≡ Some first → slice_get parts.now result ≡ Some next
+        → (span : ASpan) × Contains spans.now span × (first.start < span.end) × (span.start < next.end) }
     ensures on { from ≤ result }
 {
     if from >= parts.len() {
@@ -93,9 +95,9 @@ fn next_part(parts: &[Part], spans: &[Span], from: usize) -> usize
     from.max(parts.partition_point(|part| part.end <= start))
 }
 
-/// For each part that selects something and meets one of the spans, the least class that may have objects at the places of both. `leasts` has the least class
-/// of each span. It takes time with what is found, and with the number of the parts or of the spans, whichever is less: parts that meet no span are passed by
-/// searches.
+/// The choices of the parts, in their order: of each part that selects something, the least class that may have objects at the places of the part and of one
+/// of the spans, with what the part selects. Where there is no such class, or nothing is selected, the part gives nothing. `leasts` has the least class of each
+/// span. It takes time with what is found, and with the number of the parts or of the spans, whichever is less: parts that meet no span are passed by searches.
 pub fn choices_in(
     alloc: Global,
     objects: &Minima,
@@ -106,7 +108,7 @@ pub fn choices_in(
     requires parts { AreInOrder parts.now }
     requires spans { AreApart spans.now }
     requires leasts { AreLeasts objects.now spans.now leasts.now }
-    ensures { (select : ℕ → ASelection) → TellParts objects.now select parts.now → IfOk result (λ choices. AreChosen objects.now select spans.now choices.items) }
+    ensures { IfOk result (λ choices. AreChoicesOf objects.now spans.now parts.now choices.items) }
 {
     let mut choices = Vec::new(alloc);
     let mut at = 0;

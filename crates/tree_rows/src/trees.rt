@@ -549,3 +549,77 @@ fn forests(rt: HostRuntime) -> Result<(), Fail> {
     assert!(rt; forest_holds(rt.alloc())?);
     Ok(())
 }
+
+// Under the top 0 stand the classes 1 to 4, of which 1 and 3 implement the interface 5, and 2
+// implements the last of the interfaces 6 to 22.
+const SCATTERED: [ClassRow; 23] = [
+    TOP, UNDER_0, UNDER_0, UNDER_0, UNDER_0, INTERFACE, INTERFACE, INTERFACE, INTERFACE, INTERFACE,
+    INTERFACE, INTERFACE, INTERFACE, INTERFACE, INTERFACE, INTERFACE, INTERFACE, INTERFACE,
+    INTERFACE, INTERFACE, INTERFACE, INTERFACE, INTERFACE,
+];
+
+const BODILESS: [MethodRow; 2] = [
+    MethodRow {
+        class: 5,
+        key: 50,
+        body: BodyKind::Missing,
+    },
+    MethodRow {
+        class: 4,
+        key: 50,
+        body: BodyKind::Missing,
+    },
+];
+
+// One interface has the key 40, and more than few have the key 41.
+const OF_MANY: [FieldRow; 18] = [
+    FieldRow { class: 5, key: 40 },
+    FieldRow { class: 6, key: 41 },
+    FieldRow { class: 7, key: 41 },
+    FieldRow { class: 8, key: 41 },
+    FieldRow { class: 9, key: 41 },
+    FieldRow { class: 10, key: 41 },
+    FieldRow { class: 11, key: 41 },
+    FieldRow { class: 12, key: 41 },
+    FieldRow { class: 13, key: 41 },
+    FieldRow { class: 14, key: 41 },
+    FieldRow { class: 15, key: 41 },
+    FieldRow { class: 16, key: 41 },
+    FieldRow { class: 17, key: 41 },
+    FieldRow { class: 18, key: 41 },
+    FieldRow { class: 19, key: 41 },
+    FieldRow { class: 20, key: 41 },
+    FieldRow { class: 21, key: 41 },
+    FieldRow { class: 22, key: 41 },
+];
+
+fn of_scattered(alloc: Global) -> Result<Tree, TreeError>
+    ensures { IfOk result (λ tree. length tree.classes ≡ 23) }
+{
+    let implements = [(1, 5), (3, 5), (2, 22)];
+    build(alloc, &SCATTERED, &implements, &BODILESS, &OF_MANY)
+}
+
+fn is_found_of_scattered(tree: &Tree) -> bool
+    requires { length tree.now.classes ≡ 23 }
+{
+    let declared = tree.declared(1, 50) && tree.declared(3, 50) && tree.declared(4, 50);
+    let apart = !tree.declared(0, 50) && !tree.declared(2, 50) && !tree.declared(6, 50);
+    let of_one = tree.field(1, 40) == Some(0) && tree.field(3, 40) == Some(0);
+    let of_many = tree.field(2, 41) == Some(17) && tree.field(6, 41) == Some(1);
+    let nowhere = tree.field(2, 40).is_none() && tree.field(3, 41).is_none();
+    declared && apart && of_one && of_many && nowhere
+}
+
+fn scattered_holds(alloc: Global) -> Result<bool, TreeError> {
+    match of_scattered(alloc) {
+        Ok(tree) => Ok(is_found_of_scattered(&tree)),
+        Err(error) => Err(error),
+    }
+}
+
+#[test]
+fn scattered(rt: HostRuntime) -> Result<(), Fail> {
+    assert!(rt; scattered_holds(rt.alloc())?);
+    Ok(())
+}

@@ -1,15 +1,13 @@
-use Rattle.std.proofs.Common.{eqb, ◌≤◌, ◌-◌, length}
-use Rattle.indexmap.specs.IndexSet.{IsUnique}
+use Rattle.std.proofs.Common.{◌≤◌, ◌-◌, length}
 use Rattle.class_order.specs.Tables.{IsWithin}
 use Rattle.class_order.proofs.Visited.{IsSearched}
 use Rattle.class_order.proofs.walks.spread.Given as goal
 
 abbrev pub invariant-loop-class : goal.invariant-loop-class
 invariant-loop-class l = record {
-  searched : IsSearched l.steps l.fn.reached.keys l.at l.reached.keys;
-  known : IsWithin (length l.steps) l.reached.keys;
-  unique : IsUnique eqb l.reached;
-  within : l.at ≤ length l.reached.keys;
+  searched : IsSearched l.steps l.fn.reached l.at l.reached;
+  known : IsWithin (length l.steps) l.reached;
+  within : l.at ≤ length l.reached;
 }
 
 abbrev pub decreases-loop-class : goal.decreases-loop-class

@@ -11,9 +11,9 @@ pub loop-member-preserved : goal.loop-member-preserved
 loop-member-preserved c =
     let known = All-get_or (λ (m : Member). m.class < length c.args.classes.now) c.args.members.now c.loop-member.member-index _ c.loop-member-test.true c.requires in
     elim c.if-classes-member.branch [
-      | then-classes-member+in_ok-push w ↦ rw (w.found-is, w.in_ok-push.ensures.items) (one_more c.args.classes.now c.args.members.now c.loop-member.found.items c.loop-member.member-index _
+      | then-classes-member+in_ok-push w ↦ rw (w.found-is, w.in_ok-push.ensures.items) (one_more (λ (m : Member). IsInterface c.args.classes.now m.class) c.args.members.now c.loop-member.found.items c.loop-member.member-index _
           c.loop-member-test.true c.loop-member.invariant (interface_at c.args.classes.now _ _ known w.if-classes-member.true))
-      | else-classes-member w ↦ rw w.found-is (one_skipped c.args.classes.now c.args.members.now c.loop-member.found.items c.loop-member.member-index _
+      | else-classes-member w ↦ rw w.found-is (one_skipped (λ (m : Member). IsInterface c.args.classes.now m.class) c.args.members.now c.loop-member.found.items c.loop-member.member-index _
           c.loop-member-test.true c.loop-member.invariant (no_interface_at c.args.classes.now _ _ w.if-classes-member.false))
     ]
 

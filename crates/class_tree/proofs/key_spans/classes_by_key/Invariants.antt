@@ -4,6 +4,6 @@ use Rattle.class_tree.proofs.key_spans.classes_by_key.Given as goal
 
 abbrev pub invariant-loop-member : goal.invariant-loop-member
 invariant-loop-member l = record {
-  len : length l.classes ≡ length l.keys.keys;
-  classes : AreClassesByKey (take l.member-index l.members) l.keys.keys l.classes;
+  len : length l.classes ≡ length l.keys;
+  classes : AreClassesByKey (take l.member-index l.members) l.keys l.classes;
 }

@@ -25,7 +25,7 @@ push-requires c = let known = All-get_or (λ (m : Member). m.class < c.args.coun
     omega (arith, known, c.loop-row.invariant.len)
 
 pub loop-row-init : goal.loop-row-init
-loop-row-init c = rw c.in_ok-owns.ensures (record { len = length-replicate c.args.count _; exact = owns_none (row_at c.args.rows.now) c.args.members.now c.requires.rows c.args.keys.now.keys c.args.count })
+loop-row-init c = rw c.in_ok-owns.ensures (record { len = length-replicate c.args.count _; exact = owns_none (row_at c.args.rows.now) c.args.members.now c.requires.rows c.args.keys.now c.args.count })
 
 pub loop-row-preserved : goal.loop-row-preserved
 loop-row-preserved c =
@@ -34,21 +34,21 @@ loop-row-preserved c =
     let there = slice_get-get_or c.args.members.now c.loop-row.row d c.loop-row-test.true in
     let known : m.class < length c.loop-row.owns = let lt = All-get_or (λ (m : Member). m.class < c.args.count) c.args.members.now c.loop-row.row d c.loop-row-test.true c.requires.known in
     omega (arith, lt, c.loop-row.invariant.len) in
-    let has = All-get_or (λ (m : Member). Contains c.args.keys.now.keys m.key) c.args.members.now c.loop-row.row d c.loop-row-test.true c.requires.keys in
+    let has = All-get_or (λ (m : Member). Contains c.args.keys.now m.key) c.args.members.now c.loop-row.row d c.loop-row-test.true c.requires.keys in
     let read = c.get.ensures in
     elim c.if-eq.branch [
       | then-eq+in-Some+in_ok-push w ↦ rw (w.owns-is, w.in_ok-push.ensures) (record {
         len = length-set c.loop-row.owns _ _ ∙ c.loop-row.invariant.len;
-        exact = owns_more (row_at c.args.rows.now) c.args.members.now c.requires.rows c.args.keys.now.keys c.loop-row.row m there c.loop-row.owns c.loop-row.invariant.exact w.in-Some.slot
-            (sym read ∙ is_by c.get.result c.loop-row.row (sym c.eq.ensures ∙ w.if-eq.true)) (sym w.in-Some.ensures.index) known;
+        exact = owns_more (row_at c.args.rows.now) c.args.members.now c.requires.rows c.args.keys.now c.loop-row.row m there c.loop-row.owns c.loop-row.invariant.exact w.in-Some.slot
+            (sym read ∙ is_by c.get.result c.loop-row.row (sym c.eq.ensures ∙ w.if-eq.true)) (sym w.in-Some.ensures) known;
       })
-      | then-eq+in_default w ↦ let i = key_index c.args.keys.now.keys _ has in absurd (w.in_default.not-Some i.0 (w.get_index_of.ensures.index ∙ i.1))
+      | then-eq+in_default w ↦ let i = key_index c.args.keys.now _ has in absurd (w.in_default.not-Some i.0 (w.index_of.ensures ∙ i.1))
       | else-eq w ↦ rw w.owns-is (record {
         len = c.loop-row.invariant.len;
-        exact = owns_same (row_at c.args.rows.now) c.args.members.now c.requires.rows c.args.keys.now.keys c.loop-row.row m there c.loop-row.owns c.loop-row.invariant.exact
+        exact = owns_same (row_at c.args.rows.now) c.args.members.now c.requires.rows c.args.keys.now c.loop-row.row m there c.loop-row.owns c.loop-row.invariant.exact
             (λ e. is_not_by c.get.result c.loop-row.row (sym c.eq.ensures ∙ w.if-eq.false) (read ∙ e));
       })
     ]
 
 pub returns-clause-exact : goal.returns-clause-exact
-returns-clause-exact c = owns_all (row_at c.args.rows.now) c.args.members.now c.requires.rows c.args.keys.now.keys c.loop-row.row c.loop-row.owns c.loop-row-test.false c.loop-row.invariant.exact
+returns-clause-exact c = owns_all (row_at c.args.rows.now) c.args.members.now c.requires.rows c.args.keys.now c.loop-row.row c.loop-row.owns c.loop-row-test.false c.loop-row.invariant.exact

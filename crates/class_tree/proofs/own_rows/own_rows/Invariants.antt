@@ -6,5 +6,5 @@ use Rattle.class_tree.proofs.own_rows.own_rows.Given as goal
 abbrev pub invariant-loop-row : goal.invariant-loop-row
 invariant-loop-row l = record {
   len : length l.owns ≡ l.count;
-  exact : AreOwnOf (row_at l.rows) l.keys.keys l.row l.owns;
+  exact : AreOwnOf (row_at l.rows) l.keys l.row l.owns;
 }

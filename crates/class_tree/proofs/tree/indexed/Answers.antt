@@ -1,4 +1,4 @@
-use Rattle.std.proofs.Common.{◌≡◌, ℕ, ◌↔◌, List, length, subst, inl, inr, ◌<◌, ◌≤◌, ◌⊎◌, ◌∙◌, arith}
+use Rattle.std.proofs.Common.{ℕ, ◌↔◌, List, length, subst, inl, inr, ◌<◌, ◌≤◌, ◌⊎◌, ◌∙◌, arith}
 use Rattle.std.proofs.lemmas.List.Elements.{Contains-get_or}
 use Rattle.class_rules.specs.declared.rows.ClassRow.{ClassRow}
 use Rattle.class_rules.specs.Rows.{rows_of, HasInterface, HasParent, IsOwnAncestor, NamesUnknown, Step}
@@ -6,6 +6,7 @@ use Rattle.class_order.specs.Tables.{ArePlaces, IsReach, Under}
 use Rattle.class_tree.proofs.Building.{step-below, interfaces_known, reach_map, acyclic_from_places, tells_declared, tells_near}
 use Rattle.class_order.proofs.Reached.{proper_map}
 use Rattle.class_tree.proofs.Held.{tells_holders}
+use Rattle.class_tree.proofs.Owned.{owners_exact}
 use Rattle.class_tree.proofs.tree.indexed.Goals as goal
 
 pub places_of-requires-clause-known : goal.places_of-requires-clause-known
@@ -29,11 +30,11 @@ reach_spans-requires-clause-places c = rw (c.requires.len, c.as_slice-places.ens
 pub near_spans-requires-clause-places : goal.near_spans-requires-clause-places
 near_spans-requires-clause-places c = rw (c.requires.len, c.as_slice-places.ensures.value) c.in_ok-numbering.ensures.own
 
-pub new-requires-2-clause-len : goal.new-requires-2-clause-len
-new-requires-2-clause-len c = c.in_ok-reach.ensures.len ∙ c.requires.len
+pub new-requires-2-clause-reach_len : goal.new-requires-2-clause-reach_len
+new-requires-2-clause-reach_len c = c.in_ok-reach.ensures.len ∙ c.requires.len
 
-pub new-requires-2-clause-fields : goal.new-requires-2-clause-fields
-new-requires-2-clause-fields c = let len : length c.in_ok-near.near ≡ length c.args.classes.now = c.in_ok-near.ensures.len ∙ c.requires.len in rw len c.requires.named.fields
+pub new-requires-2-clause-near_len : goal.new-requires-2-clause-near_len
+new-requires-2-clause-near_len c = c.in_ok-near.ensures.len ∙ c.requires.len
 
 -- no class is its own ancestor, since ranks fall
 acyclic : (classes : List ClassRow) (implements : List (ℕ × ℕ)) (below : List (List ℕ)) (places : List ℕ) → ((a b : ℕ) → Under below a b ↔ Step classes implements a b) → ArePlaces below places
@@ -67,6 +68,8 @@ invariant_of-result c =
     let reached = reach_map (Under c.args.below.now) (Step c.args.classes.now c.args.implements.now) _ _ c.in_ok-numbering.numbering.numbers.items c.in_ok-reach.reach
     (λ a b u. (c.requires.steps a b).0 u) (λ a b s. (c.requires.steps a b).1 s) c.requires.len (rw c.as_slice-places.ensures.value at c.in_ok-reach.ensures) in
     let near = subst (λ n. IsReach (HasInterface c.args.implements.now) n c.in_ok-numbering.numbering.numbers.items c.in_ok-near.near) c.requires.len (rw c.as_slice-places.ensures.value at c.in_ok-near.ensures) in
+    let declares = c.in_ok-members.ensures.declares in
+    let near_fields = c.in_ok-members.ensures.near_fields in
     rw c.in_ok-rows.ensures (record {
       named = c.requires.named;
       hierarchy = record { known = c.requires.known; acyclic = acyclic _ _ _ _ c.requires.steps c.in_ok-ranks.ensures.places };
@@ -76,12 +79,11 @@ invariant_of-result c =
       interfaces_len = c.in_ok-interfaces.ensures.len;
       interfaces_are = c.in_ok-interfaces.ensures.lists;
       reached = reached;
-      declares = tells_declared (rows_of c.args.classes.now c.args.implements.now c.args.methods.now c.args.fields.now) _ _ _ c.requires.named reached c.in_ok-members.ensures.declares;
-      near_fields = tells_near (rows_of c.args.classes.now c.args.implements.now c.args.methods.now c.args.fields.now) _ _ _ c.requires.named near c.in_ok-members.ensures.near_fields;
+      declares = tells_declared (rows_of c.args.classes.now c.args.implements.now c.args.methods.now c.args.fields.now) _ _ _ declares.served c.requires.named reached (owners_exact _ _ _ _ declares);
+      near_fields = tells_near (rows_of c.args.classes.now c.args.implements.now c.args.methods.now c.args.fields.now) _ _ _ near_fields.served c.requires.named near (owners_exact _ _ _ _ near_fields);
       bodies = c.in_ok-members.ensures.bodies;
       interface_rows = c.in_ok-members.ensures.interface_rows;
-      holders_len = c.in_ok-members.ensures.holders.len;
-      holders = tells_holders (rows_of c.args.classes.now c.args.implements.now c.args.methods.now c.args.fields.now) _ c.in_ok-members.ensures.holders;
+      holders = tells_holders (rows_of c.args.classes.now c.args.implements.now c.args.methods.now c.args.fields.now) _ declares.interfaces;
       fields = c.in_ok-members.ensures.own_fields;
       along = c.in_ok-inherited.ensures;
     })

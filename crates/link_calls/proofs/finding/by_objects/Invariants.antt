@@ -5,4 +5,4 @@ use Rattle.link_calls.proofs.Choosing.{AreLookedAt}
 use Rattle.link_calls.proofs.finding.by_objects.Given as goal
 
 abbrev pub invariant-loop-choice : goal.invariant-loop-choice
-invariant-loop-choice l = (w : World) (key : ℕ) → AreReceivers w l.receivers → ArePartsOf w l.receivers key l.parts → AreLookedAt w l.class key l.choice-items l.choice-index l.rows.keys l.several
+invariant-loop-choice l = (w : World) (key : ℕ) → AreReceivers w l.receivers → ArePartsOf w l.receivers key l.parts → AreLookedAt w l.class key l.choice-items l.choice-index l.rows l.several

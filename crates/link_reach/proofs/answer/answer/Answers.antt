@@ -15,7 +15,7 @@ pub root_fault-requires : goal.root_fault-requires
 root_fault-requires c =
     let w = c.args.targets.now.world in
     let those = rw c.classes-classes.ensures at c.in_ok-initialized.ensures in
-    let within = started_within w c.args.search.now.found.classes.keys (length w.classes) c.in_ok-initialized.initialized.items those in
+    let within = started_within w c.args.search.now.found.classes (length w.classes) c.in_ok-initialized.initialized.items those in
     subst (λ (xs : List ℕ). All (λ k. k < length w.classes) xs) (sym c.as_slice.ensures.value) within
 
 pub returns-in-Some-2-clause-refused : goal.returns-in-Some-2-clause-refused

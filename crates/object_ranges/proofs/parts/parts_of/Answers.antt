@@ -21,4 +21,6 @@ returns-clause-told c =
     record {
       right = all.right;
       all = λ place class st. all.all place class (omega (arith, slice_get_within c.args.objects.now place _ st, c.loop-start-test.false, c.len-count.ensures)) st;
+      has_class = all.has_class;
+      differ = all.differ;
     }

@@ -2,7 +2,8 @@ use Rattle.std.proofs.Common.{ℕ, None, Option, leb, refl, sym, ◌∙◌, rule
 use Rattle.std.proofs.lemmas.List.Sorted.{IsPartitionPoint-from_clause, IsPartitionedBy-leb}
 use Rattle.class_tree.specs.declared.turns.Turn.{Turn}
 use Rattle.class_tree.specs.Turns.{turned}
-use Rattle.object_ranges.proofs.Steady.{steady_end, steady_next, told_by, told_none}
+use Rattle.default_turns.proofs.Turning.{told_by, told_none}
+use Rattle.object_ranges.proofs.Steady.{steady_end, steady_next}
 use Rattle.object_ranges.proofs.parts.row_from.Goals as goal
 use Rattle.object_ranges.proofs.parts.row_from.Goals.{then-after-gt0, else-after-gt0}
 

@@ -19,6 +19,6 @@ returns c =
     ) in
     record {
       len = c.in_ok-interfaces.ensures.len;
-      exact = holders_exact c.args.classes.now c.args.members.now new c.in_ok-keys.keys.keys c.in_ok-interfaces.interfaces
+      exact = holders_exact c.args.classes.now c.args.members.now new c.in_ok-keys.keys c.in_ok-interfaces.interfaces
           only (rw c.as_slice.ensures.value at c.in_ok-keys.ensures) (rw c.as_slice-2.ensures.value at c.in_ok-interfaces.ensures.classes);
     }

@@ -13,7 +13,7 @@ gathered-requires-clause-known c = λ k d h.
 
 pub loop-at-preserved : goal.loop-at-preserved
 loop-at-preserved c =
-    let within : c.loop-at.at < length c.loop-at.spans = omega (arith, c.loop-at-test.true, c.loop-at.invariant.len, c.len-at-end.ensures.len) in
+    let within : c.loop-at.at < length c.loop-at.spans = omega (arith, c.loop-at-test.true, c.loop-at.invariant.len, c.len-at-end.ensures) in
     rw c.put.ensures (record {
       len = length-set c.loop-at.spans _ _ ∙ c.loop-at.invariant.len;
       apart = apart_more c.loop-at.spans c.loop-at.at c.in_ok-united.field-0.items within c.loop-at.invariant.apart c.in_ok-united.ensures.apart;

@@ -5,8 +5,8 @@ use Rattle.class_tree.proofs.Slots.{forest_of, key_path, slot_rising}
 use Rattle.class_tree.proofs.paths.Paths.new.Goals as goal
 
 pub turns_by_slot-requires-clause-forest : goal.turns_by_slot-requires-clause-forest
-turns_by_slot-requires-clause-forest c = subst (IsForest c.args.classes.now c.in_ok-owns.owns c.in_ok-numbers.numbers.items) (sym c.len.ensures.len)
-    (forest_of c.args.classes.now (row_at c.args.rows.now) c.in_ok-keys.keys.keys c.in_ok-numbers.numbers.items c.args.numbering.now c.in_ok-owns.owns
+turns_by_slot-requires-clause-forest c = subst (IsForest c.args.classes.now c.in_ok-owns.owns c.in_ok-numbers.numbers.items) (sym c.len.ensures)
+    (forest_of c.args.classes.now (row_at c.args.rows.now) c.in_ok-keys.keys c.in_ok-numbers.numbers.items c.args.numbering.now c.in_ok-owns.owns
     c.in_ok-owns.ensures.exact c.in_ok-owns.ensures.len (c.in_ok-numbers.ensures.items ∙ c.as_slice.ensures.value) c.requires.numbering)
 
 pub turns_by_slot-requires-clause-within : goal.turns_by_slot-requires-clause-within
@@ -21,13 +21,13 @@ turns_by_slot-requires-clause-placed c = λ i k e. rw (c.as_slice-order.ensures.
 pub returns : goal.returns
 returns c =
     let own = row_at c.args.rows.now in
-    let f = forest_of c.args.classes.now own c.in_ok-keys.keys.keys c.in_ok-numbers.numbers.items c.args.numbering.now c.in_ok-owns.owns
+    let f = forest_of c.args.classes.now own c.in_ok-keys.keys c.in_ok-numbers.numbers.items c.args.numbering.now c.in_ok-owns.owns
     c.in_ok-owns.ensures.exact c.in_ok-owns.ensures.len (c.in_ok-numbers.ensures.items ∙ c.as_slice.ensures.value) c.requires.numbering in
     record {
-      len = c.in_ok-turns.ensures.len ∙ c.len.ensures.len;
-      rising = λ key. slot_rising c.args.classes.now own c.args.members.now c.in_ok-keys.keys.keys c.in_ok-numbers.numbers.items c.in_ok-owns.owns c.in_ok-turns.turns
+      len = c.in_ok-turns.ensures.len ∙ c.len.ensures;
+      rising = λ key. slot_rising c.args.classes.now own c.args.members.now c.in_ok-keys.keys c.in_ok-numbers.numbers.items c.in_ok-owns.owns c.in_ok-turns.turns
           c.requires.rows c.in_ok-owns.ensures.exact c.in_ok-keys.ensures f c.in_ok-turns.ensures.rising _;
       exact = λ k key h. rw (c.in_ok-numbers.ensures.items ∙ c.as_slice.ensures.value) at
-          (key_path c.args.classes.now own c.args.members.now c.in_ok-keys.keys.keys c.in_ok-numbers.numbers.items c.in_ok-owns.owns c.in_ok-turns.turns
+          (key_path c.args.classes.now own c.args.members.now c.in_ok-keys.keys c.in_ok-numbers.numbers.items c.in_ok-owns.owns c.in_ok-turns.turns
           c.requires.rows c.in_ok-owns.ensures.exact c.in_ok-keys.ensures f c.in_ok-turns.ensures.told k key h);
     }

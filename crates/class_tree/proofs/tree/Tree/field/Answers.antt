@@ -5,8 +5,8 @@ use Rattle.class_tree.proofs.TreeFacts.{place_read, row_parent, row_no_parent, s
 use Rattle.class_tree.proofs.tree.Tree.field.Goals as goal
 use Rattle.class_tree.proofs.tree.Tree.field.Goals.{In-Some, In_default, In-Some-parent, In-None}
 
-pub last-requires-clause-apart : goal.last-requires-clause-apart
-last-requires-clause-apart c = c.self.invariant.near_fields.apart c.args.key
+pub last-requires : goal.last-requires
+last-requires c = c.self.invariant.near_fields.served
 
 pub field_here-requires : goal.field_here-requires
 field_here-requires c =
@@ -19,7 +19,7 @@ returns-in-Some c =
     let ix = rw c.self.view_is at c.self.invariant in
     let place = place_read _ c.loop-near.at _ (omega (arith, ix.placed.len, c.loop-near.invariant.within)) c.index-place.ensures in
     let last = c.in-Some.ensures in
-    c.loop-near.invariant.goes_on c.field_here.result (field_at c.args.self.now _ _ ix.along.runs c.loop-near.at _ _ c.loop-near.invariant.within place c.index-start.ensures _ _ ix.ranked ix.placed ix.near_fields c.args.key
+    c.loop-near.invariant.goes_on c.field_here.result (field_at c.args.self.now _ _ ix.along.runs c.loop-near.at _ _ c.loop-near.invariant.within place c.index-start.ensures _ _ _ ix.ranked ix.placed ix.near_fields c.args.key
     c.in-Some.near _ c.index.ensures last.0 last.1 last.2 last.3 c.field_here.result c.field_here.ensures.here c.field_here.ensures.near)
 
 pub index-requires-in-loop-near : goal.index-requires-in-loop-near
@@ -49,7 +49,7 @@ loop-near-preserved c =
     let named : HasParent c.args.self.now.classes c.index-first.result.now c.in-Some-parent.parent = row_parent _ _ _ _ _ c.self.view_is first c.index-in-loop-near.ensures c.in-Some-parent.is in
     record {
       within = step-above _ ix.hierarchy _ _ (inl named);
-      goes_on = λ r above. c.loop-near.invariant.goes_on r (field_above c.args.self.now _ _ ix.along.runs c.loop-near.at _ _ c.loop-near.invariant.within place c.index-start.ensures _ _ ix.ranked ix.placed ix.near_fields c.args.key
+      goes_on = λ r above. c.loop-near.invariant.goes_on r (field_above c.args.self.now _ _ ix.along.runs c.loop-near.at _ _ c.loop-near.invariant.within place c.index-start.ensures _ _ _ ix.ranked ix.placed ix.near_fields c.args.key
           _ c.index-first.ensures c.in_default.ensures _ named r above);
     }
 
@@ -60,5 +60,5 @@ returns-in-None c =
     let low = start_low c.args.self.now _ _ ix.along.runs c.loop-near.at _ _ c.loop-near.invariant.within place c.index-start.ensures in
     let first = tenant_known c.args.self.now _ _ ix.along.runs c.loop-near.at _ _ c.loop-near.invariant.within place c.index-start.ensures c.index-start.result.now _ low c.index-first.ensures in
     let named : HasNoParent c.args.self.now.classes c.index-first.result.now = row_no_parent _ _ _ _ c.self.view_is first c.index-in-loop-near.ensures c.in-None.is in
-    c.loop-near.invariant.goes_on None (field_ended c.args.self.now _ _ ix.along.runs c.loop-near.at _ _ c.loop-near.invariant.within place c.index-start.ensures _ _ ix.ranked ix.placed ix.near_fields c.args.key
+    c.loop-near.invariant.goes_on None (field_ended c.args.self.now _ _ ix.along.runs c.loop-near.at _ _ c.loop-near.invariant.within place c.index-start.ensures _ _ _ ix.ranked ix.placed ix.near_fields c.args.key
     _ c.index-first.ensures c.in_default.ensures named)

@@ -7,7 +7,7 @@ use Rattle.class_tree.proofs.tree.Tree.reached.Goals as goal
 pub sub-requires-clause-b : goal.sub-requires-clause-b
 sub-requires-clause-b c =
     let ix = rw c.self.view_is at c.self.invariant in
-    let all = listed c.args.self.now c.self.inside.members.holders c.args.key c.of-holders.result.now c.of-holders.ensures ix.holders in
+    let all = listed c.args.self.now c.self.inside.members.declared.interfaces c.args.key c.of-holders.result.now c.of-holders.ensures ix.holders in
     held_within c.args.self.now _ c.args.key (listed_held c.args.self.now c.args.key c.of-holders.result.now all c.loop-from.from c.loop-from-test.true)
 
 pub loop-from-preserved : goal.loop-from-preserved
@@ -20,6 +20,6 @@ loop-from-preserved c = record {
 pub returns : goal.returns
 returns c =
     let ix = rw c.self.view_is at c.self.invariant in
-    let all = listed c.args.self.now c.self.inside.members.holders c.args.key c.of-holders.result.now c.of-holders.ensures ix.holders in
+    let all = listed c.args.self.now c.self.inside.members.declared.interfaces c.args.key c.of-holders.result.now c.of-holders.ensures ix.holders in
     rw (take_rest c.of-holders.result.now c.loop-from.from)
     (reached_from c.args.self.now c.args.class c.args.key c.loop-from.from c.of-holders.result.now all c.loop-from.invariant.before)

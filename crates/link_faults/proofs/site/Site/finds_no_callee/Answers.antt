@@ -4,6 +4,14 @@ use Rattle.link_faults.specs.Sites.{IsUndeclaredCall}
 use Rattle.link_faults.proofs.Placed.{of_call, site_callee, undeclared_call_by}
 use Rattle.link_faults.proofs.site.Site.finds_no_callee.Goals as goal
 
+pub finds_none-requires-clause-rows : goal.finds_none-requires-clause-rows
+finds_none-requires-clause-rows c =
+    (site_callee c.args.self.now c.requires c.in-Some-Some.call c.in-Some-Some.callee c.in-Some-Some.is-0 c.in-Some-Some.is-1).rows
+
+pub finds_none-requires-clause-several : goal.finds_none-requires-clause-several
+finds_none-requires-clause-several c =
+    (site_callee c.args.self.now c.requires c.in-Some-Some.call c.in-Some-Some.callee c.in-Some-Some.is-0 c.in-Some-Some.is-1).is_several
+
 pub returns-in-Some-Some : goal.returns-in-Some-Some
 returns-in-Some-Some c =
     let x = c.args.self.now in
