@@ -272,6 +272,13 @@ def fields_behind_interfaces(count):
     return accesses(count, made + f'class C implements I{count - 1} {{ }}\n', 'C')
 
 
+def fields_of_two_interfaces(count):
+    """The same, where the first of the chain implements two interfaces with these fields."""
+    made = f'interface J {{ {static_fields(count)} }}\ninterface K {{ {static_fields(count)} }}\ninterface I0 implements J, K {{ }}\n'
+    made += ''.join(f'interface I{i} implements I{i - 1} {{ }}\n' for i in range(1, count))
+    return accesses(count, made + f'class C implements I{count - 1} {{ }}\n', 'C')
+
+
 def calls_on_a_chain(count):
     """Calls that name each class of a chain, of which the first has the method."""
     made, last = chain(count, ' { void m() { return; } }')
@@ -289,6 +296,13 @@ def keys_of_an_interface(count):
     made = 'class A { ' + ''.join(f'void m{i}() {{ return; }}\n' for i in range(count)) + ' }\n'
     made += 'interface I { ' + ''.join(f'void m{i}();\n' for i in range(count)) + ' }\n'
     made += ''.join(f'class C{i} extends A{" implements I" * (i % 2)} {{ }}\n' for i in range(count))
+    return main_of('I x;', 'x = new C1;\n' + ''.join(f'interfaceinvoke x.<I: void m{i}()>();\n' for i in range(count)), made)
+
+
+def defaults_of_an_interface(count):
+    """Calls of many default methods of an interface that every second of the classes below one implements."""
+    made = 'class A { }\n' + ''.join(f'class C{i} extends A{" implements I" * (i % 2)} {{ }}\n' for i in range(count))
+    made += 'interface I { ' + ''.join(f'void m{i}() {{ return; }}\n' for i in range(count)) + ' }\n'
     return main_of('I x;', 'x = new C1;\n' + ''.join(f'interfaceinvoke x.<I: void m{i}()>();\n' for i in range(count)), made)
 
 
@@ -332,6 +346,16 @@ def hidden_from_each(count):
     return hidden(count, ' implements X{}', 'interface X{} {{ void m(); }}\n')
 
 
+def hidden_by_all(count):
+    """The same, where all those without a body are below one interface, and this is below all those with one: each hides each."""
+    every = ', '.join(f'D{i}' for i in range(count))
+    made = ''.join(f'interface D{i} {{ void m() {{ return; }} }}\n' for i in range(count)) + f'interface X implements {every} {{ }}\n'
+    made += ''.join(f'interface H{i} implements X {{ void m(); }}\n' for i in range(count))
+    every = ', '.join(f'H{i}' for i in range(count))
+    made += f'abstract class A implements {every} {{ abstract void m(); }}\nclass C extends A {{ }}\n'
+    return main_of('A x;', 'x = new C; virtualinvoke x.<A: void m()>();\n', made)
+
+
 def open_ended(head, piece):
     return lambda size: head + piece * ((size - len(head)) // len(piece))
 
@@ -365,15 +389,18 @@ SHAPES = {
     'fields over interfaces': (repeated(175_000)(fields_above_interfaces), RUN),
     'fields of an interface': (repeated(200_000)(fields_of_an_interface), RUN),
     'fields behind interfaces': (repeated(160_000)(fields_behind_interfaces), RUN),
+    'fields of two interfaces': (repeated(150_000)(fields_of_two_interfaces), RUN),
     'calls on a chain': (repeated(200_000)(calls_on_a_chain), RUN),
     'keys on a chain': (repeated(140_000)(keys_on_a_chain), RUN),
     'keys of an interface': (repeated(110_000)(keys_of_an_interface), RUN),
+    'defaults of an interface': (repeated(150_000)(defaults_of_an_interface), RUN),
     'every second class': (repeated(300_000)(every_second), RUN),
     'every second of many': (repeated(300_000)(every_second_of_many), RUN),
     'under a chain': (repeated(200_000)(every_second_of_a_chain), RUN),
     'interfaces side by side': (repeated(160_000)(side_by_side), RUN),
     'hidden interfaces': (repeated(100_000)(hidden), RUN),
     'hidden from each': (repeated(80_000)(hidden_from_each), RUN),
+    'hidden by all': (repeated(160_000)(hidden_by_all), RUN),
     'open comment': (open_ended('/*', '* '), RUN),
     'open line': (open_ended('//', 'x'), RUN),
     'open text': (open_ended('"', '\\"'), RUN),

@@ -125,6 +125,12 @@ module _ (rows : Rows) (places : List ℕ) (table : List (List Span)) (o : Owner
       let parts = and_parts (p.1.class == class) (p.1.key == key) p.3 in
       (p.0, p.1, p.2, eqb-true p.1.class class parts.0, eqb-true p.1.key key parts.1)
 
+  -- what owns a field is a class with a member
+  pub field_member : (class key row : ℕ) → own_field rows.fields class key ≡ Some row → (m : Member) × Contains (map member_of_field rows.fields) m × (m.key ≡ key) × (m.class ≡ class) × (class < length rows.classes)
+  field_member class key row e =
+      let f = field_row class key row e in
+      (member_of_field f.1, Contains-mapped member_of_field rows.fields f.0 f.1 f.2, f.4, f.3, omega (arith, field_owner f.0 f.1 f.2, f.3))
+
   row_field : (i : ℕ) (f : FieldRow) → slice_get rows.fields i ≡ Some f → (row : ℕ) × (own_field rows.fields f.class f.key ≡ Some row)
   row_field i f e = by (own_field rows.fields f.class f.key) refl
     where

@@ -11,3 +11,4 @@ pub mod Owned
 pub mod Lowest
 pub mod Running
 pub mod FieldRuns
+pub mod SoleFields

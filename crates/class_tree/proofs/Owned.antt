@@ -2,21 +2,23 @@
 use Rattle.std.proofs.Common.{◌≡◌, ℕ, ◌+◌, ◌<◌, ◌⊎◌, ◌↔◌, Bool, true, false, true≢false, nat_eq, Decides, cond, leb, Option, Some, None, List, [], length, get_or, slice_get, take, refl, sym, ap, subst, ◌∙◌, inl, inr, arith}
 use Rattle.std.specs.List.{Contains, IsAnyAnswer}
 use Rattle.std.specs.Option.{option_or, unwrap_or}
-use Rattle.std.proofs.lemmas.List.Elements.{contains_decides, Decides-contains}
+use Rattle.std.proofs.lemmas.List.Elements.{Contains-get_or, contains_decides, Decides-contains}
 use Rattle.std.proofs.lemmas.Option.{slice_get_within}
 use Rattle.std.specs.Cmp.{unsigned_Decides}
 use Rattle.class_tree.specs.declared.first_rows.Member.{Member}
 use Rattle.class_tree.specs.declared.holders.Holders.{Holders}
+use Rattle.class_tree.specs.declared.owners.KeyOwners.{KeyOwners}
 use Rattle.class_tree.specs.declared.owners.Owners.{Owners}
 use Rattle.class_rules.specs.declared.rows.ClassRow.{ClassRow}
 use Rattle.class_order.specs.declared.spans.Span.{Span}
 use Rattle.class_order.specs.Groups.{group}
 use Rattle.class_order.specs.Spans.{Holds, HoldsAny}
 use Rattle.class_tree.specs.Holders.{AreHolders, IsInterface, few_of, holders_of}
-use Rattle.class_tree.specs.KeySpans.{HoldsKey}
-use Rattle.class_tree.specs.Owners.{AreOwners, HoldsOther, HoldsOwner}
+use Rattle.class_tree.specs.KeySpans.{HoldsKey, spans_of}
+use Rattle.class_tree.specs.Owners.{AreOwners, HoldsOther, HoldsOwner, IsSole}
 use Rattle.class_tree.specs.Runs.{IsLastHeld}
-use Rattle.lists.proofs.Elements.{Contains-nil, Contains-take_more, Contains-take_kept, Contains-take_last}
+use Rattle.class_order.proofs.Placed.{taken_at}
+use Rattle.lists.proofs.Elements.{Contains-at, Contains-nil, Contains-take_more, Contains-take_kept, Contains-take_last}
 
 -- ---- owners that are interfaces, and others
 
@@ -48,6 +50,19 @@ few_held h k c m = elim (few_or h k) [
   | inr none ↦ absurd (Contains-nil c (subst (λ xs. Contains xs c) none m))
 ]
 
+-- where a place is that of a class that reaches an owner, the spans of others hold it, or the owner is one of few interfaces
+pub owner_or : (classes : List ClassRow) (members : List Member) (table : List (List Span)) (o : Owners) → AreOwners classes members table o → (k p : ℕ) (m : Member) → Contains members m → m.key ≡ k → Holds (group table m.class) p
+    → Holds (spans_of o.others k) p ⊎ Contains (few_of o.interfaces k) m.class
+owner_or classes members table o are k p m u e held = elim (few_or o.interfaces k) [
+  | inl same ↦ elim (interface_or classes m.class) [
+    | inl is ↦
+        let member : m ≡ record { class = m.class; key = k } = λ j. record { class = m.class; key = e j } in
+        inr (subst (λ xs. Contains xs m.class) (sym same) ((are.interfaces.exact k m.class).1 (is, subst (Contains members) member u)))
+    | inr isnt ↦ inl ((are.others k p).1 (m, u, e, (λ few. isnt ((are.interfaces.exact k m.class).0 (few_held o.interfaces k m.class few)).0), held))
+  ]
+  | inr none ↦ inl ((are.others k p).1 (m, u, e, (λ few. Contains-nil m.class (subst (λ xs. Contains xs m.class) none few)), held))
+]
+
 -- all together hold for a key what its members do
 pub owners_exact : (classes : List ClassRow) (members : List Member) (table : List (List Span)) (o : Owners) → AreOwners classes members table o → (k p : ℕ) → HoldsOwner table o k p ↔ HoldsKey members table k p
 owners_exact classes members table o are k p = (to, from)
@@ -57,15 +72,7 @@ owners_exact classes members table o are k p = (to, from)
     to (inr (c, listed, held)) = (record { class = c; key = k }, ((are.interfaces.exact k c).0 (few_held o.interfaces k c listed)).1, refl, held)
 
     from : HoldsKey members table k p → HoldsOwner table o k p
-    from (m, u, e, held) = elim (few_or o.interfaces k) [
-      | inl same ↦ elim (interface_or classes m.class) [
-        | inl is ↦
-            let member : m ≡ record { class = m.class; key = k } = λ j. record { class = m.class; key = e j } in
-            inr (m.class, subst (λ xs. Contains xs m.class) (sym same) ((are.interfaces.exact k m.class).1 (is, subst (Contains members) member u)), held)
-        | inr isnt ↦ inl ((are.others k p).1 (m, u, e, (λ few. isnt ((are.interfaces.exact k m.class).0 (few_held o.interfaces k m.class few)).0), held))
-      ]
-      | inr none ↦ inl ((are.others k p).1 (m, u, e, (λ few. Contains-nil m.class (subst (λ xs. Contains xs m.class) none few)), held))
-    ]
+    from (m, u, e, held) = elim (owner_or classes members table o are k p m u e held) [ inl other ↦ inl other | inr few ↦ inr (m.class, few, held) ]
 
 -- the spans of the members that are in none of few interfaces
 pub others_exact : (members found : List Member) (table : List (List Span)) (h : Holders) (k p : ℕ) → ((m : Member) → Contains found m ↔ Contains members m × (Contains (few_of h m.key) m.class → ⊥))
@@ -143,3 +150,66 @@ last_next At table classes i d from to last found h so_far one = last_map (λ p.
     back : (p : ℕ) → At p ⊎ HoldsAny table (take (i + 1) classes) p → (At p ⊎ HoldsAny table (take i classes) p) ⊎ Holds (group table (get_or classes i d)) p
     back p (inl held) = inl (inl held)
     back p (inr any) = elim ((any_more table classes i d p h).0 any) [ inl old ↦ inl (inr old) | inr new ↦ inr new ]
+
+-- ---- the one owner that is reached
+
+-- the one of the classes whose spans hold the place, if any
+abbrev pub IsSoleOf : List (List Span) → List ℕ → ℕ → Option ℕ → Type 0
+IsSoleOf table classes p None = (c : ℕ) → Contains classes c → Holds (group table c) p → ⊥
+IsSoleOf table classes p (Some b) = Contains classes b × Holds (group table b) p × ((c : ℕ) → Contains classes c → Holds (group table c) p → c ≡ b)
+
+module _ (table : List (List Span)) (classes : List ℕ) (i d p : ℕ) (h : i < length classes) where
+  -- one more that doesn't hold it
+  pub sole_kept : (r : Option ℕ) → IsSoleOf table (take i classes) p r → (Holds (group table (get_or classes i d)) p → ⊥) → IsSoleOf table (take (i + 1) classes) p r
+  sole_kept None none isnt = λ c m held. elim (Contains-take_more classes i d c h m) [
+    | inl old ↦ none c old held
+    | inr is ↦ isnt (subst (λ k. Holds (group table k) p) (sym is) held)
+  ]
+  sole_kept (Some b) (listed, at, only) isnt = (
+    Contains-take_kept classes i d b h listed,
+    at,
+    λ c m held. elim (Contains-take_more classes i d c h m) [
+      | inl old ↦ only c old held
+      | inr is ↦ absurd (isnt (subst (λ k. Holds (group table k) p) (sym is) held))
+    ],
+  )
+
+  -- one more that does, where it was none or the same
+  pub sole_more : (r : Option ℕ) → IsSoleOf table (take i classes) p r → Holds (group table (get_or classes i d)) p → ((b : ℕ) → r ≡ Some b → b ≡ get_or classes i d) → IsSoleOf table (take (i + 1) classes) p (Some (get_or classes i d))
+  sole_more None none held same = (
+    Contains-take_last classes i d h,
+    held,
+    λ c m at. elim (Contains-take_more classes i d c h m) [
+      | inl old ↦ absurd (none c old at)
+      | inr is ↦ sym is
+    ],
+  )
+  sole_more (Some b) (listed, there, only) held same = (
+    Contains-take_last classes i d h,
+    held,
+    λ c m at. elim (Contains-take_more classes i d c h m) [
+      | inl old ↦ only c old at ∙ same b refl
+      | inr is ↦ sym is
+    ],
+  )
+
+-- where two hold it, there is no sole owner
+pub sole_two : (o : KeyOwners) (i d p first : ℕ) → i < length o.few.now → (r : Option ℕ) → r ≡ Some first → IsSoleOf o.table.now (take i o.few.now) p r → Holds (group o.table.now (get_or o.few.now i d)) p
+    → (first ≡ get_or o.few.now i d → ⊥) → (owner : ℕ) → (None ≡ Some owner) ↔ IsSole o p owner
+sole_two o i d p first h r is so_far held apart owner = (λ e. cc, λ s. absurd (by (subst (IsSoleOf o.table.now (take i o.few.now) p) is so_far) s))
+  where
+    by : IsSoleOf o.table.now (take i o.few.now) p (Some first) → IsSole o p owner → ⊥
+    by (listed, there, only) s =
+        let t = taken_at o.few.now i first (omega (arith, h)) listed in
+        apart (s.only first (Contains-at o.few.now t.0 first t.2) there ∙ sym (s.only _ (Contains-get_or o.few.now i d h) held))
+
+-- what is found among all of them is the sole owner
+pub sole_is : (o : KeyOwners) (p : ℕ) → (Holds o.united.now p → ⊥) → (r : Option ℕ) → IsSoleOf o.table.now o.few.now p r → (owner : ℕ) → (r ≡ Some owner) ↔ IsSole o p owner
+sole_is o p no_other None none owner = (λ e. cc, λ s. absurd (none owner s.listed s.held))
+sole_is o p no_other (Some b) (listed, held, only) owner = (
+  λ e. subst (IsSole o p) (some_is e) (record { no_other = no_other; listed = listed; held = held; only = only }),
+  λ s. ap Some (s.only b listed held),
+)
+  where
+    some_is : Some b ≡ Some owner → b ≡ owner
+    some_is e = cc

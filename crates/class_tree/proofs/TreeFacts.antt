@@ -66,15 +66,15 @@ split_at : {X : Type 0} (xs : List X) (j : ℕ) (x : X) → slice_get xs j ≡ S
 split_at xs j x e = sym (take-append-drop j xs) ∙ ap (λ ys. take j xs ++ ys) (drop-cons xs j x (slice_get_within xs j x e) ∙ ap (λ y. y ∷ drop (suc j) xs) (get_or_from_slice_get xs j x x e))
 
 module _ (rows : Rows) (ranks : List ℕ) (p : AreRanked rows ranks) where
-  falls : (c i : ℕ) → Contains (interfaces_of rows.implements c) i → get_or ranks i 0 < get_or ranks c 0
+  pub falls : (c i : ℕ) → Contains (interfaces_of rows.implements c) i → get_or ranks i 0 < get_or ranks c 0
   falls c i m = p.falls c i (inr (interface_named rows.implements c i m))
 
   -- paths of interfaces, by the rows and by the lists
-  to_lists : {c d : ℕ} → Path (HasInterface rows.implements) c d → Path (λ a b. Contains (interfaces_of rows.implements a) b) c d
+  pub to_lists : {c d : ℕ} → Path (HasInterface rows.implements) c d → Path (λ a b. Contains (interfaces_of rows.implements a) b) c d
   to_lists here = here
   to_lists (step {a} {b} m q) = step (interface_listed rows.implements a b m) (to_lists q)
 
-  to_rows : {c d : ℕ} → Path (λ a b. Contains (interfaces_of rows.implements a) b) c d → Path (HasInterface rows.implements) c d
+  pub to_rows : {c d : ℕ} → Path (λ a b. Contains (interfaces_of rows.implements a) b) c d → Path (HasInterface rows.implements) c d
   to_rows here = here
   to_rows (step {a} {b} m q) = step (interface_named rows.implements a b m) (to_rows q)
 

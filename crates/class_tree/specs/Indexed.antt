@@ -1,5 +1,6 @@
 -- What a tree keeps of its rows.
 use Rattle.std.specs.Prelude.{◌≡◌, ℕ, ◌<◌, ◌^◌, ◌↔◌, List, Some, Contains, length, map, slice_get, slice_index}
+use Rattle.class_tree.specs.declared.field_owners.FieldOwners.{FieldOwners}
 use Rattle.class_tree.specs.declared.owners.Owners.{Owners}
 use Rattle.class_tree.specs.declared.kept.KeptRows.{KeptRows}
 use Rattle.class_tree.specs.declared.members.Members.{Members}
@@ -12,7 +13,7 @@ use Rattle.class_tree.specs.FirstRows.{row_at}
 use Rattle.class_order.specs.Groups.{group}
 use Rattle.class_tree.specs.Holders.{IsInterface, holders_of}
 use Rattle.class_tree.specs.KeySpans.{member_of_field, member_of_method}
-use Rattle.class_tree.specs.Owners.{AreOwners, AreServed, HoldsOwner}
+use Rattle.class_tree.specs.Owners.{AreOwners, AreReady, AreServed, HoldsOwner, IsHeld, IsSole}
 use Rattle.class_rules.specs.Lookups.{own_body, own_field, own_row, Declared, IsHolder}
 use Rattle.class_rules.specs.Paths.{Path}
 use Rattle.class_rules.specs.Rows.{Rows, rows_of, NameClasses, NamesUnknown, IsOwnAncestor, Step, HasInterface, interfaces_of}
@@ -74,8 +75,10 @@ pub record IsIndexed (rows : Rows) (interfaces : List (List ℕ)) (ranks places 
   pub interfaces_len : length interfaces ≡ length rows.classes
   pub interfaces_are : (a : ℕ) → group interfaces a ≡ interfaces_of rows.implements a
   pub reached : IsReach (Step rows.classes rows.implements) (length rows.classes) places reach
+  pub reached_near : IsReach (HasInterface rows.implements) (length rows.classes) places near
   pub declares : TellsOf (Declared rows) (length rows.classes) places reach members.declared
   pub near_fields : TellsOf (HasFieldNear rows) (length rows.classes) places near members.near_fields
+  pub field_owners : AreOwners rows.classes (map member_of_field rows.fields) near members.near_fields
   pub bodies : (c k : ℕ) → row_at members.bodies c k ≡ own_body rows.methods c k
   pub interface_rows : (c k : ℕ) → IsInterface rows.classes c → row_at members.interface_rows c k ≡ own_row rows.methods c k
   pub holders : (b k : ℕ) → Contains (holders_of members.declared.interfaces k) b ↔ HoldsMethod rows b k
@@ -88,3 +91,11 @@ pub record IsFirstNear (rows : Rows) (classes : List ℕ) (key class : ℕ) : Ty
   pub there : slice_get classes index ≡ Some class
   pub near : HasFieldNear rows class key
   pub first : (k c : ℕ) → k < index → slice_get classes k ≡ Some c → HasFieldNear rows c key → ⊥
+
+-- the place of a class is held where it has a field with the key near, and a sole owner there is the only class with such a field that interfaces lead to
+pub record TellFields (rows : Rows) (f : FieldOwners) : Type 0 where
+  pub ready : AreReady f.owners
+  pub len : length f.places.now ≡ length rows.classes
+  pub exact : (a : ℕ) → a < length rows.classes → IsHeld f.owners (slice_index f.places.now a) ↔ HasFieldNear rows a f.key
+  pub sole : (a b : ℕ) → a < length rows.classes → IsSole f.owners (slice_index f.places.now a) b
+      → (owner row : ℕ) → Path (HasInterface rows.implements) a owner → own_field rows.fields owner f.key ≡ Some row → owner ≡ b

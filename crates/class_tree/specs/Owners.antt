@@ -1,6 +1,7 @@
 -- For each key the places of the classes that reach an owner of it: a class with a member of this key.
-use Rattle.std.specs.Prelude.{◌≡◌, ℕ, ◌<◌, ◌⊎◌, ◌↔◌, List, Contains, length}
+use Rattle.std.specs.Prelude.{◌≡◌, ℕ, ◌<◌, ◌⊎◌, ◌↔◌, List, All, Contains, length}
 use Rattle.class_tree.specs.declared.first_rows.Member.{Member}
+use Rattle.class_tree.specs.declared.owners.KeyOwners.{KeyOwners}
 use Rattle.class_tree.specs.declared.owners.Owners.{Owners}
 use Rattle.class_rules.specs.declared.rows.ClassRow.{ClassRow}
 use Rattle.class_order.specs.declared.spans.Span.{Span}
@@ -31,3 +32,20 @@ pub record AreOwners (classes : List ClassRow) (members : List Member) (table : 
   pub served : AreServed table o
   pub others : (k p : ℕ) → Holds (spans_of o.others k) p ↔ HoldsOther members table o.interfaces k p
   pub interfaces : AreHolders classes members o.interfaces
+
+-- the place lies in one of the spans that are united, or of those that the table has for the few interfaces
+abbrev pub IsHeld : KeyOwners → ℕ → Type 0
+IsHeld o p = Holds o.united.now p ⊎ HoldsAny o.table.now o.few.now p
+
+-- spans are apart, and the table has a list for each of the few interfaces
+pub record AreReady (o : KeyOwners) : Type 0 where
+  pub united : AreApart o.united.now
+  pub known : All (λ c. c < length o.table.now) o.few.now
+  pub apart : (c : ℕ) → AreApart (group o.table.now c)
+
+-- the place lies in the spans of this one of the few interfaces, and of no other owner
+pub record IsSole (o : KeyOwners) (p owner : ℕ) : Type 0 where
+  pub no_other : Holds o.united.now p → ⊥
+  pub listed : Contains o.few.now owner
+  pub held : Holds (group o.table.now owner) p
+  pub only : (c : ℕ) → Contains o.few.now c → Holds (group o.table.now c) p → c ≡ owner

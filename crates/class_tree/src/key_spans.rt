@@ -1,16 +1,16 @@
-ghost use Rattle.std.specs.Prelude.{◌≡◌, ℕ, ◌<◌, ◌↔◌, length, map, All, Contains, IfOk, IsTrue};
+ghost use Rattle.std.specs.Prelude.{◌≡◌, ℕ, ◌<◌, ◌↔◌, length, map, All, Contains, IfOk};
 ghost use Rattle.class_order.specs.Groups.{group};
 ghost use Rattle.class_tree.specs.KeySpans.{AreClassesByKey, IsKeyed, spans_of};
 ghost use Rattle.class_order.specs.Spans.{AreApart, Holds};
 ghost use Rattle.class_tree.specs.Runs.{IsLastHeld};
 
 use super::first_rows::Member;
-use class_order::{Groups, Span, gathered, holds, united};
+use class_order::{Groups, Span, gathered, united};
 use number_sets::SortedSet;
 use std::alloc::{AllocError, Global};
 
 /// For each key the places of the classes that reach one with a member of this key. The key is found by
-/// halves, and so is a place in its spans.
+/// halves.
 #[derive(Drop)]
 pub struct KeySpans {
     keys: SortedSet,
@@ -82,28 +82,14 @@ impl KeySpans {
         Ok(KeySpans { keys, spans })
     }
 
-    /// Whether a place lies in one of the spans of a key.
-    pub fn holds(&self, key: u32, place: u32) -> bool
-        requires len { length self.now.spans ≡ length self.now.keys }
-        requires apart { AreApart (spans_of self.now key) }
-        ensures { IsTrue result ↔ Holds (spans_of self.now key) place }
+    /// The spans of a key.
+    pub fn of(&self, key: u32) -> &[Span]
+        requires { length self.now.spans ≡ length self.now.keys }
+        ensures { result.now ≡ spans_of self.now key }
     {
         match self.keys.index_of(key) {
-            Some(at) => holds(self.spans.get(at), place),
-            None => false,
-        }
-    }
-
-    /// The last of the places from `from` up to `to`, `to` included, that lies in one of the spans of
-    /// a key.
-    pub fn last(&self, key: u32, from: u32, to: u32) -> Option<u32>
-        requires len { length self.now.spans ≡ length self.now.keys }
-        requires apart { AreApart (spans_of self.now key) }
-        ensures { IsLastHeld (Holds (spans_of self.now key)) from to result }
-    {
-        match self.keys.index_of(key) {
-            Some(at) => last_held(self.spans.get(at), from, to),
-            None => None,
+            Some(at) => self.spans.get(at),
+            None => &[],
         }
     }
 }

@@ -2,6 +2,7 @@
 #![tactic(auto)]
 
 mod errors;
+mod field_owners;
 mod first_rows;
 mod holders;
 mod inherited;

@@ -1,9 +1,10 @@
-ghost use Rattle.std.specs.Prelude.{◌≡◌, ℕ, ◌<◌, ◌↔◌, length, All, Contains, IfOk, IsTrue};
+ghost use Rattle.std.specs.Prelude.{◌≡◌, ℕ, ◌<◌, ◌↔◌, length, All, Contains, Some, IfOk, IsTrue};
 ghost use Rattle.class_order.specs.Groups.{group};
 ghost use Rattle.class_order.specs.Spans.{AreApart, HoldsAny};
 ghost use Rattle.class_tree.specs.declared.first_rows.Member.{Member};
 ghost use Rattle.class_tree.specs.Holders.{few_of};
-ghost use Rattle.class_tree.specs.Owners.{AreOwners, AreServed, HoldsOwner};
+ghost use Rattle.class_tree.specs.KeySpans.{spans_of};
+ghost use Rattle.class_tree.specs.Owners.{AreOwners, AreReady, AreServed, IsHeld, IsSole};
 ghost use Rattle.class_tree.specs.Runs.{IsLastHeld};
 
 use super::first_rows::Member;
@@ -19,7 +20,8 @@ use std::alloc::{AllocError, Global};
 /// be reached from as many spans of places as there are classes: where few own a key, these are
 /// copied for no key, but looked up in the table of all classes, one interface after the other. Where
 /// more than few do, which takes as many members a key, their spans are united too, so that no
-/// look-up goes over many.
+/// look-up goes over many. The owners of a key are found by two searches, once for all that is asked
+/// of them.
 #[derive(Drop)]
 pub struct Owners {
     others: KeySpans,
@@ -81,27 +83,77 @@ impl Owners {
         })
     }
 
-    /// Whether a place is that of a class that reaches an owner of the key, by the table that this was
+    /// The owners of a key, which is found by halves in two lists. The table is the one that this was
     /// made from.
-    pub fn holds(&self, table: &Groups<Span>, key: u32, place: u32) -> bool
+    pub fn of<'a>(&'a self, table: &'a Groups<Span>, key: u32) -> KeyOwners<'a>
         requires { AreServed table.now self.now }
-        ensures { IsTrue result ↔ HoldsOwner table.now self.now key place }
+        ensures ready { AreReady result }
+        ensures table { result.table.now ≡ table.now }
+        ensures united { result.united.now ≡ spans_of self.now.others key }
+        ensures few { result.few.now ≡ few_of self.now.interfaces key }
     {
-        self.others.holds(key, place) || any_holds(table, self.interfaces.few(key), place)
+        KeyOwners {
+            table,
+            united: self.others.of(key),
+            few: self.interfaces.few(key),
+        }
+    }
+}
+
+/// The owners of one key. Each question takes one search among the spans that are united, and one for
+/// each of the few interfaces, which are at most four.
+#[derive(Clone, Copy)]
+pub struct KeyOwners<'a> {
+    /// For each class the places of those from which it is reached.
+    pub table: &'a Groups<Span>,
+    /// The places of the classes that reach an owner that isn't one of the few interfaces.
+    pub united: &'a [Span],
+    /// The interfaces that own the key, where they are few.
+    pub few: &'a [u32],
+}
+
+impl<'a> KeyOwners<'a> {
+    /// Whether a place is that of a class that reaches an owner.
+    pub fn holds(&self, place: u32) -> bool
+        requires { AreReady self.now }
+        ensures { IsTrue result ↔ IsHeld self.now place }
+    {
+        holds(self.united, place) || any_holds(self.table, self.few, place)
     }
 
     /// The last of the places from `from` up to `to`, `to` included, that is that of a class that
-    /// reaches an owner of the key, by the table that this was made from.
-    pub fn last(&self, table: &Groups<Span>, key: u32, from: u32, to: u32) -> Option<u32>
-        requires { AreServed table.now self.now }
-        ensures { IsLastHeld (HoldsOwner table.now self.now key) from to result }
+    /// reaches an owner.
+    pub fn last(&self, from: u32, to: u32) -> Option<u32>
+        requires { AreReady self.now }
+        ensures { IsLastHeld (IsHeld self.now) from to result }
     {
-        let mut last = self.others.last(key, from, to);
-        for interface in self.interfaces.few(key) {
+        let mut last = last_held(self.united, from, to);
+        for interface in self.few {
             // Of the places before the last one found none counts any more.
-            let spans = table.get(*interface as usize);
+            let spans = self.table.get(*interface as usize);
             last = last_held(spans, last.unwrap_or(from), to).or(last);
         }
         last
+    }
+
+    /// The one owner that the class of a place reaches, where it is one of the few interfaces and no
+    /// other one is reached.
+    pub fn sole(&self, place: u32) -> Option<u32>
+        requires { AreReady self.now }
+        ensures { (owner : ℕ) → (result ≡ Some owner) ↔ IsSole self.now place owner }
+    {
+        if holds(self.united, place) {
+            return None;
+        }
+        let mut sole = None;
+        for interface in self.few {
+            if holds(self.table.get(*interface as usize), place) {
+                match sole {
+                    Some(first) if first != *interface => return None,
+                    _ => sole = Some(*interface),
+                }
+            }
+        }
+        sole
     }
 }

@@ -1,6 +1,6 @@
 ghost use Rattle.std.specs.Prelude.{◌≡◌, ℕ, ◌^◌, ◌<◌, ◌↔◌, length, All, Contains, IsTrue, IfOk, IfNone, IfSome, Some, Err};
 ghost use Rattle.class_tree.specs.Defaults.{AreDefaults, HasDefault, IsDefaultFrom};
-ghost use Rattle.class_tree.specs.Indexed.{AreReached, HasFieldNear, HoldsMethod, IsFirstNear};
+ghost use Rattle.class_tree.specs.Indexed.{AreReached, HasFieldNear, HoldsMethod, IsFirstNear, TellFields};
 ghost use Rattle.class_tree.specs.Layouts.{LaysOut};
 ghost use Rattle.lists.specs.Lists.{IsLeast};
 ghost use Rattle.class_rules.specs.Rows.{rows_of, NameClasses, NamesUnknown, IsOwnAncestor, Step, Sub, HasParent, interfaces_of};
@@ -8,6 +8,7 @@ ghost use Rattle.class_order.specs.Tables.{IsFinishing, Under};
 ghost use Rattle.class_rules.specs.Lookups.{own_body, Declared, FieldHere, FieldOf, IsAmbiguous, IsDefault, IsHolder, IsLowestHolder, OnPath, Resolve};
 
 use super::errors::TreeError;
+use super::field_owners::FieldOwners;
 use super::inherited::Inherited;
 use super::kept::KeptRows;
 use super::layout::Layout;
@@ -25,10 +26,15 @@ use std::marker::Model;
 /// memory. They search in sorted lists and ordered maps, each time in as many steps as the logarithm
 /// of how many rows there are, whichever numbers the classes and keys have. `sub` and `own_body` take
 /// one search, and `on_path` two. `declared` takes three, and one more for each interface that has the
-/// key, where these are at most four. So does each run of parents that `field` goes by, of which there
-/// are at most as many as the logarithm of the number of classes; then it takes as much for each
-/// interface on the way to the field. `resolve` and `ambiguous` go on from `on_path` to the interfaces
-/// that have a method with the key, where there are any.
+/// key, where these are at most four. `field` looks the owners of its key up once, which takes two
+/// searches. Each run of parents that it goes by, of which there are at most as many as the logarithm
+/// of the number of classes, takes one among the places of those that reach an owner, and one more for
+/// each of the few interfaces. Where interfaces lead to one owner alone, and this is one of at most
+/// four interfaces with the key, the next search finds the field there, however long the way is. Only
+/// where they lead to more owners, or to a class that is named as an interface and is none, or more
+/// than four interfaces have the key, it goes step by step, and takes as many searches as for a run
+/// for each interface that it looks at. `resolve` and `ambiguous` go on from `on_path` to the
+/// interfaces that have a method with the key, where there are any.
 #[derive(Drop)]
 pub struct Tree {
     rows: KeptRows,
@@ -325,45 +331,51 @@ impl Tree {
     {
         self.members
             .declared
-            .holds(&self.reach, key, self.places[class as usize])
+            .of(&self.reach, key)
+            .holds(self.places[class as usize])
     }
 
     // Whether the class has a field with this key, or one of its interfaces with their own.
-    fn has_field_near(&self, class: u32, key: u32) -> bool
-        requires { class < length self.now.classes }
-        ensures { IsTrue result ↔ HasFieldNear self.now class key }
+    fn has_field_near(&self, class: u32, fields: &FieldOwners<'_>) -> bool
+        requires class { class < length self.now.classes }
+        requires fields { TellFields self.now fields.now }
+        ensures { IsTrue result ↔ HasFieldNear self.now class fields.now.key }
     {
-        self.members
-            .near_fields
-            .holds(&self.near, key, self.places[class as usize])
+        fields.owners.holds(fields.places[class as usize])
     }
 
     // The first of the classes that has a field near.
-    fn first_near(&self, classes: &[u32], key: u32) -> Option<u32>
-        requires { All (λ c. c < length self.now.classes) classes.now }
-        ensures some { IfSome result (IsFirstNear self.now classes.now key) }
-        ensures none { IfNone result (All (λ c. HasFieldNear self.now c key → ⊥) classes.now) }
+    fn first_near(&self, classes: &[u32], fields: &FieldOwners<'_>) -> Option<u32>
+        requires classes { All (λ c. c < length self.now.classes) classes.now }
+        requires fields { TellFields self.now fields.now }
+        ensures some { IfSome result (IsFirstNear self.now classes.now fields.now.key) }
+        ensures none { IfNone result (All (λ c. HasFieldNear self.now c fields.now.key → ⊥) classes.now) }
     {
         for class in classes {
-            if self.has_field_near(*class, key) {
+            if self.has_field_near(*class, fields) {
                 return Some(*class);
             }
         }
         None
     }
 
-    // The field of the class, or else of its interfaces in order, each with its own.
-    fn field_here(&self, class: u32, key: u32) -> Option<u32>
-        requires { class < length self.now.classes }
-        ensures here { FieldHere self.now key class result }
-        ensures near { IfNone result (HasFieldNear self.now class key → ⊥) }
+    // The field of the class, or else of its interfaces in order, each with its own. It goes on step by
+    // step only where more than one owner may be reached.
+    fn field_here(&self, class: u32, fields: &FieldOwners<'_>) -> Option<u32>
+        requires class { class < length self.now.classes }
+        requires fields { TellFields self.now fields.now }
+        ensures here { FieldHere self.now fields.now.key class result }
+        ensures near { IfNone result (HasFieldNear self.now class fields.now.key → ⊥) }
     {
         let mut at = class;
         loop {
-            if let Some(row) = self.members.own_fields.get(at, key) {
+            if let Some(row) = self.members.own_fields.get(at, fields.key) {
                 return Some(row);
             }
-            match self.first_near(self.interfaces.get(at as usize), key) {
+            if let Some(owner) = fields.owners.sole(fields.places[at as usize]) {
+                return self.members.own_fields.get(owner, fields.key);
+            }
+            match self.first_near(self.interfaces.get(at as usize), fields) {
                 Some(interface) => at = interface,
                 None => return None,
             }
@@ -378,12 +390,17 @@ impl Tree {
         ensures { FieldOf self.now class key result }
     {
         let runs = &self.inherited.runs;
+        let fields = FieldOwners {
+            key,
+            owners: self.members.near_fields.of(&self.near, key),
+            places: self.places.as_slice(),
+        };
         let mut at = class;
         loop {
             let place = self.places[at as usize];
             let start = runs.starts[place as usize];
-            if let Some(near) = self.members.near_fields.last(&self.near, key, start, place) {
-                return self.field_here(runs.tenants[near as usize], key);
+            if let Some(near) = fields.owners.last(start, place) {
+                return self.field_here(runs.tenants[near as usize], &fields);
             }
             let first = runs.tenants[start as usize];
             match self.rows.classes[first as usize].parent {

@@ -1,6 +1,7 @@
-pub mod Told
-pub mod Staying
-pub mod Sweeping
-pub mod Swept
-pub mod Owned
 pub mod Turning
+pub mod Told
+pub mod Placing
+pub mod Covered
+pub mod Staying
+pub mod Ended
+pub mod Begun

@@ -1,3 +1,5 @@
 pub mod Turns
+pub mod Holders
+pub mod Hiding
 pub mod Stays
-pub mod Sweeps
+pub mod Furthest

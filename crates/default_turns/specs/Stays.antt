@@ -1,36 +1,44 @@
--- From which places interfaces with a method of a key are reached.
-use Rattle.std.specs.Prelude.{◌≡◌, ◌↔◌, ◌⊎◌, ◌+◌, ◌<◌, ◌≤◌, ℕ, Option, Some, List, Contains, length, slice_index, slice_index_or}
+-- From which places default methods of a key are reached.
+use Rattle.std.specs.Prelude.{◌≡◌, ◌↔◌, ◌⊎◌, ◌+◌, ◌<◌, ◌≤◌, ℕ, List, Contains, length, slice_index, slice_index_or}
 use Rattle.class_order.specs.declared.spans.Span.{Span}
 use Rattle.class_order.specs.Spans.{Holds}
+use Rattle.class_rules.specs.Lookups.{IsDefault}
 use Rattle.class_rules.specs.Rows.{Rows, Sub}
-use Rattle.class_tree.specs.Defaults.{HasDefault}
-use Rattle.class_tree.specs.Indexed.{HoldsMethod}
+use Rattle.default_turns.specs.declared.holders.Holder.{Holder}
 use Rattle.default_turns.specs.declared.stays.Stay.{Stay}
+use Rattle.default_turns.specs.Hiding.{IsHidden}
 
--- the interface has a stay with this place
+-- the default method has a stay with this place
 abbrev pub StaysAt : List Stay → ℕ → ℕ → Type 0
-StaysAt stays interface place = (s : Stay) × Contains stays s × (s.interface ≡ interface) × (s.start ≤ place) × (place < s.end)
+StaysAt stays row place = (s : Stay) × Contains stays s × (s.row ≡ row) × (s.start ≤ place) × (place < s.end)
 
 -- where each stay ends another begins
 abbrev pub AreEnded : List Stay → Type 0
 AreEnded stays = (s : Stay) → Contains stays s → (t : Stay) × Contains stays t × (t.start ≡ s.end)
 
--- the stays of an interface in these spans were added, with their ends
-pub record AddsStays (interface : ℕ) (row : Option ℕ) (spans : List Span) (old new : List Stay) : Type 0 where
-  pub from : (s : Stay) → Contains new s → Contains old s ⊎ ((s.interface ≡ interface) × (s.row ≡ row))
+-- the stays of a default method at the places with a fact were added, with their ends
+pub record AddsAt (row : ℕ) (At : ℕ → Type 0) (old new : List Stay) : Type 0 where
   pub ended : AreEnded old → AreEnded new
-  pub exact : (b place : ℕ) → StaysAt new b place ↔ (StaysAt old b place ⊎ ((b ≡ interface) × Holds spans place))
+  pub exact : (r place : ℕ) → StaysAt new r place ↔ (StaysAt old r place ⊎ ((r ≡ row) × At place))
 
--- the interface has a method of the key, and this row as its own default method
-pub record OwnsDefault (rows : Rows) (key interface : ℕ) (row : Option ℕ) : Type 0 where
-  pub held : HoldsMethod rows interface key
-  pub own : (r : ℕ) → (row ≡ Some r) ↔ HasDefault rows interface key r
+-- at those from the first place up to the other
+abbrev pub AddsStay : ℕ → ℕ → ℕ → List Stay → List Stay → Type 0
+AddsStay row start end old new = AddsAt row (λ place. (start ≤ place) × (place < end)) old new
 
--- the stays of the interfaces with a method of the key: an interface stays at the places of the classes from which it is reached
+-- at those of the span that aren't hidden
+abbrev pub AddsBare : ℕ → Span → List Span → List Stay → List Stay → Type 0
+AddsBare row span hidden old new = AddsAt row (λ place. (span.start ≤ place) × (place < span.end) × (Holds hidden place → ⊥)) old new
+
+-- at those of the classes that reach the interface, which none of the holders hides from them
+pub record AddsStaysOf (rows : Rows) (places : List ℕ) (holders : List Holder) (interface row : ℕ) (old new : List Stay) : Type 0 where
+  pub ended : AreEnded old → AreEnded new
+  pub exact : (class r : ℕ) → class < length rows.classes → StaysAt new r (slice_index places class)
+      ↔ (StaysAt old r (slice_index places class) ⊎ ((r ≡ row) × Sub rows class interface × (IsHidden rows holders interface class → ⊥)))
+
+-- a default method of the key stays at the places of the classes that reach it
 pub record AreStays (rows : Rows) (places : List ℕ) (key : ℕ) (stays : List Stay) : Type 0 where
-  pub owned : (s : Stay) → Contains stays s → OwnsDefault rows key s.interface s.row
   pub ended : AreEnded stays
-  pub exact : (c b : ℕ) → c < length rows.classes → HoldsMethod rows b key → StaysAt stays b (slice_index places c) ↔ Sub rows c b
+  pub exact : (class row : ℕ) → class < length rows.classes → StaysAt stays row (slice_index places class) ↔ IsDefault rows class key row
 
 -- the next stay begins later, if there is one
 abbrev pub IsLastThere : List Stay → ℕ → Type 0

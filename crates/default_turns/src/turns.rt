@@ -1,14 +1,14 @@
 //! From place to place, what default methods classes reach.
 ghost use Rattle.std.specs.Prelude.{◌≡◌, ◌<◌, ◌+◌, ◌↔◌, ℕ, All, IfOk, IsTrue, List, OnOk, length};
 ghost use Rattle.std.specs.List.Sorted.{IsNonDecreasingBy};
-ghost use Rattle.class_tree.specs.Defaults.{HasDefault};
-ghost use Rattle.class_tree.specs.Indexed.{HoldsMethod};
+ghost use Rattle.class_rules.specs.Rows.{Rows};
 ghost use Rattle.class_tree.specs.Layouts.{LaysOut};
 ghost use Rattle.default_turns.specs.Stays.{AreStays, IsLastThere};
 ghost use Rattle.default_turns.specs.Turns.{AddsTurn, TellDefaults, defaults_at};
 
+use super::furthest::Furthest;
+use super::holders::PlacedTree;
 use super::stays::{Stay, stays_of};
-use super::sweep::{entered, shown};
 use class_tree::{Defaults, Layout, Tree};
 use std::alloc::{AllocError, Global};
 
@@ -52,38 +52,24 @@ fn is_last_there(stays: &[Stay], at: usize) -> bool
 }
 
 // The turns of these stays.
-fn turns_of(alloc: Global, tree: &Tree, stays: &[Stay]) -> Result<Vec<DefaultTurn>, AllocError>
-    requires known { All (λ s. s.interface < length tree.now.classes) stays.now }
-    requires sorted { IsNonDecreasingBy (λ s. s.start) stays.now }
-    ensures { (places : List ℕ) (key : ℕ) → AreStays tree.now places key stays.now → IfOk result (λ turns. TellDefaults tree.now places key turns.items) }
+fn turns_of(alloc: Global, stays: &[Stay]) -> Result<Vec<DefaultTurn>, AllocError>
+    requires { IsNonDecreasingBy (λ s. s.start) stays.now }
+    ensures { (rows : Rows) (places : List ℕ) (key : ℕ) → AreStays rows places key stays.now → IfOk result (λ turns. TellDefaults rows places key turns.items) }
 {
     let mut turns = Vec::new(alloc);
-    let mut reached = Vec::new(alloc);
+    let mut furthest = Furthest::none();
     for at in 0..stays.len() {
         let stay = stays[at];
-        reached = entered(alloc, tree, reached.as_slice(), stay)?;
+        furthest = furthest.with(stay);
         if is_last_there(stays, at) {
-            let defaults = shown(reached.as_slice(), stay.start);
             let turn = DefaultTurn {
                 at: stay.start,
-                defaults,
+                defaults: furthest.defaults(stay.start),
             };
             add_turn(&mut turns, turn)?;
         }
     }
     Ok(turns)
-}
-
-// Whether an interface has a default method of the key itself.
-fn any_default(tree: &Tree, key: u32) -> bool
-    ensures { IsTrue result ↔ ((interface : ℕ) × (row : ℕ) × HoldsMethod tree.now interface key × HasDefault tree.now interface key row) }
-{
-    for interface in tree.holders(key) {
-        if tree.own_default(*interface, key).is_some() {
-            return true;
-        }
-    }
-    false
 }
 
 /// The default methods that the classes of a tree reach for a key, by their places, which the layout of the tree gives. Before the first turn they reach
@@ -97,11 +83,9 @@ pub fn default_turns(
     requires { LaysOut tree.now layout }
     ensures { IfOk result (λ turns. TellDefaults tree.now layout.entry.places.now key turns.items) }
 {
-    if !any_default(tree, key) {
-        return Ok(Vec::new(alloc));
-    }
-    let stays = stays_of(alloc, tree, layout, key)?;
-    let turns = turns_of(alloc, tree, stays.as_slice())?;
+    let placed = PlacedTree { tree, layout };
+    let stays = stays_of(alloc, placed, key)?;
+    let turns = turns_of(alloc, stays.as_slice())?;
     Ok(turns)
 }
 

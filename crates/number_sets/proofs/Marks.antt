@@ -13,7 +13,7 @@ same_or : (a b : ℕ) → (a ≡ b) ⊎ (a ≢ b)
 same_or a b = grind arith
 
 -- a number that a list doesn't have isn't found in it
-pub list_any-absent : (numbers : List ℕ) (n : ℕ) → (Contains numbers n → ⊥) → list_any (eqb n) numbers ≡ false
+list_any-absent : (numbers : List ℕ) (n : ℕ) → (Contains numbers n → ⊥) → list_any (eqb n) numbers ≡ false
 list_any-absent numbers n absent = by (list_any (eqb n) numbers) refl
   where
     by : (b : Bool) → list_any (eqb n) numbers ≡ b → b ≡ false

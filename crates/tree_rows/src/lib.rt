@@ -2,4 +2,6 @@
 #![tactic(auto)]
 
 #[cfg(test)]
+mod near_fields;
+#[cfg(test)]
 mod trees;

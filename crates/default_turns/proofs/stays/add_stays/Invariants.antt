@@ -1,6 +1,7 @@
 use Rattle.std.proofs.Common.{take}
-use Rattle.default_turns.specs.Stays.{AddsStays}
+use Rattle.default_turns.specs.Stays.{AddsAt}
+use Rattle.default_turns.proofs.Staying.{BareIn}
 use Rattle.default_turns.proofs.stays.add_stays.Given as goal
 
 abbrev pub invariant-loop-span : goal.invariant-loop-span
-invariant-loop-span l = AddsStays l.interface l.row (take l.span-index l.spans) l.initial.stays.items l.stays.items
+invariant-loop-span l = AddsAt l.row (BareIn (take l.span-index l.span-items) l.hidden.items) l.initial.stays.items l.stays.items

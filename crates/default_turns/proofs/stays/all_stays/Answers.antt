@@ -1,34 +1,59 @@
-use Rattle.std.proofs.Common.{Contains, get_or, subst, arith}
+use Rattle.std.proofs.Common.{◌≡◌, ℕ, Contains, Option, Some, get_or, refl, sym, subst, ◌∙◌}
 use Rattle.std.proofs.lemmas.List.{take_all}
 use Rattle.std.proofs.lemmas.List.Elements.{Contains-get_or}
-use Rattle.class_tree.proofs.Lowest.{held_within}
-use Rattle.default_turns.proofs.Staying.{AreStaysOf, stays_all, stays_of_next, stays_of_none}
+use Rattle.default_turns.specs.declared.holders.Holder.{Holder}
+use Rattle.default_turns.specs.Stays.{AddsStaysOf}
+use Rattle.default_turns.proofs.Staying.{AreStaysOf, stays_all, stays_more, stays_none, stays_skip}
 use Rattle.default_turns.proofs.stays.all_stays.Goals as goal
+use Rattle.default_turns.proofs.stays.all_stays.Goals.{in-Some+in_ok-add_stays, in_default}
 
-pub loop-interface-init : goal.loop-interface-init
-loop-interface-init c = rw c.new-stays.ensures.items (stays_of_none c.args.tree.now c.args.layout.reach.now c.args.key c.as_slice-interface-items.result.now)
+abbrev none : Holder
+none = record { interface = 0; place = 0 }
 
-pub own_default-row-requires : goal.own_default-row-requires
-own_default-row-requires c =
-    let there : Contains c.in_ok-interfaces.interfaces (get_or c.as_slice-interface-items.result.now c.loop-interface.interface-index 0) = rw (← c.as_slice-interface-items.ensures.value) (Contains-get_or c.as_slice-interface-items.result.now c.loop-interface.interface-index 0 c.loop-interface-test.true) in
-    (c.holders.ensures _).0 ((c.in_ok-interfaces.ensures _).0 there)
+-- one row is found
+row_is : (found : Option ℕ) (row other : ℕ) → found ≡ Some row → found ≡ Some other → other ≡ row
+row_is found row other e f = cc
 
-pub get-spans-requires : goal.get-spans-requires
-get-spans-requires c =
-    let there : Contains c.in_ok-interfaces.interfaces (get_or c.as_slice-interface-items.result.now c.loop-interface.interface-index 0) = rw (← c.as_slice-interface-items.ensures.value) (Contains-get_or c.as_slice-interface-items.result.now c.loop-interface.interface-index 0 c.loop-interface-test.true) in
-    let within = held_within c.args.tree.now _ c.args.key ((c.holders.ensures _).0 ((c.in_ok-interfaces.ensures _).0 there)) in
-    omega (arith, within, c.requires.reached.len)
+pub loop-holder-init : goal.loop-holder-init
+loop-holder-init c = rw c.new-stays.ensures.items (stays_none c.args.placed.tree.now c.args.placed.layout.places.now c.args.key c.as_slice-holder-items.result.now)
 
-pub loop-interface-preserved : goal.loop-interface-preserved
-loop-interface-preserved c =
-    let there : Contains c.in_ok-interfaces.interfaces (get_or c.as_slice-interface-items.result.now c.loop-interface.interface-index 0) = rw (← c.as_slice-interface-items.ensures.value) (Contains-get_or c.as_slice-interface-items.result.now c.loop-interface.interface-index 0 c.loop-interface-test.true) in
-    let held = (c.holders.ensures _).0 ((c.in_ok-interfaces.ensures _).0 there) in
-    stays_of_next c.args.tree.now c.args.layout.reach.now c.args.key c.as_slice-interface-items.result.now c.loop-interface.interface-index _ c.own_default-row.result c.loop-interface.stays.items c.add_stays.new.stays.items
-    c.loop-interface-test.true (record { held = held; own = c.own_default-row.ensures }) (rw c.get-spans.ensures at c.in_ok-add_stays.ensures) c.loop-interface.invariant
+pub own_default-requires : goal.own_default-requires
+own_default-requires c =
+    let items = c.as_slice-holder-items in
+    let there : Contains c.in_ok-holders.holders.items (get_or items.result.now c.loop-holder.holder-index none) =
+    rw (← items.ensures.value) (Contains-get_or items.result.now c.loop-holder.holder-index none c.loop-holder-test.true) in
+    (c.in_ok-holders.ensures.exact _).0 (get_or items.result.now c.loop-holder.holder-index none, there, refl)
+
+pub add_stays-requires-clause-holders : goal.add_stays-requires-clause-holders
+add_stays-requires-clause-holders c = rw c.as_slice.ensures.value c.in_ok-holders.ensures.placed
+
+pub add_stays-requires-clause-interface : goal.add_stays-requires-clause-interface
+add_stays-requires-clause-interface c =
+    let items = c.as_slice-holder-items in
+    let there : Contains c.in_ok-holders.holders.items (get_or items.result.now c.loop-holder.holder-index none) =
+    rw (← items.ensures.value) (Contains-get_or items.result.now c.loop-holder.holder-index none c.loop-holder-test.true) in
+    c.in_ok-holders.ensures.placed.known _ there
+
+pub loop-holder-preserved : goal.loop-holder-preserved
+loop-holder-preserved c =
+    let items = c.as_slice-holder-items.result.now in
+    let at = c.loop-holder in
+    let rows = c.args.placed.tree.now in
+    let places = c.args.placed.layout.places.now in
+    elim c.match-own_default.branch [
+      | in-Some+in_ok-add_stays w ↦ rw w.stays-is (stays_more rows places c.args.key items at.holder-index none c.loop-holder-test.true at.stays.items at.invariant w.in-Some.row
+          w.add_stays.new.stays.items ((c.own_default.ensures _).0 w.in-Some.is) (λ other has. row_is _ _ other w.in-Some.is ((c.own_default.ensures other).1 has))
+          (subst (λ hs. AddsStaysOf rows places hs (get_or items at.holder-index none).interface w.in-Some.row at.stays.items w.add_stays.new.stays.items)
+          (w.as_slice.ensures.value ∙ sym c.as_slice-holder-items.ensures.value) w.in_ok-add_stays.ensures))
+      | in_default w ↦ rw w.stays-is (stays_skip rows places c.args.key items at.holder-index none c.loop-holder-test.true at.stays.items at.invariant
+          (λ row has. w.in_default.not-Some row ((c.own_default.ensures row).1 has)))
+    ]
 
 pub returns : goal.returns
 returns c =
-    let whole = take_all c.loop-interface.interface-index c.as_slice-interface-items.result.now c.loop-interface-test.false in
-    stays_all c.args.tree.now c.args.layout.reach.now c.args.key c.as_slice-interface-items.result.now c.args.layout.places.now c.loop-interface.stays.items c.requires.reached
-    (λ b held. rw c.as_slice-interface-items.ensures.value ((c.in_ok-interfaces.ensures b).1 ((c.holders.ensures b).1 held)))
-    (subst (λ xs. AreStaysOf c.args.tree.now c.args.layout.reach.now c.args.key xs c.loop-interface.stays.items) whole c.loop-interface.invariant)
+    let items = c.as_slice-holder-items.result.now in
+    let at = c.loop-holder in
+    let rows = c.args.placed.tree.now in
+    let places = c.args.placed.layout.places.now in
+    stays_all rows places c.args.key items at.stays.items (rw c.as_slice-holder-items.ensures.value c.in_ok-holders.ensures.exact)
+    (subst (λ xs. AreStaysOf rows places c.args.key items xs at.stays.items) (take_all at.holder-index items c.loop-holder-test.false) at.invariant)

@@ -5,7 +5,7 @@ use Rattle.default_turns.proofs.Staying.{stays_permuted}
 use Rattle.default_turns.proofs.stays.stays_of.Goals as goal
 
 pub returns-clause-stays : goal.returns-clause-stays
-returns-clause-stays c = stays_permuted c.args.tree.now c.args.layout.places.now c.args.key _ _ c.sort_unstable_by_key.ensures.permutation c.in_ok-stays.ensures
+returns-clause-stays c = stays_permuted c.args.placed.tree.now c.args.placed.layout.places.now c.args.key _ _ c.sort_unstable_by_key.ensures.permutation c.in_ok-stays.ensures
 
 pub returns-clause-sorted : goal.returns-clause-sorted
 returns-clause-sorted c = IsNonDecreasingBy-from_sort_by_key (λ (s : Stay). s.start) _ c.sort_unstable_by_key.ensures.sorted (λ a r q k. search rules)

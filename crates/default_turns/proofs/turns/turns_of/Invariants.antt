@@ -1,10 +1,12 @@
-use Rattle.std.proofs.Common.{ℕ, List}
+use Rattle.std.proofs.Common.{ℕ, List, take}
+use Rattle.class_rules.specs.Rows.{Rows}
+use Rattle.default_turns.specs.Furthest.{AreFurthest}
 use Rattle.default_turns.specs.Stays.{AreStays}
-use Rattle.default_turns.proofs.Swept.{IsSwept, TellTo}
+use Rattle.default_turns.proofs.Begun.{TellTo}
 use Rattle.default_turns.proofs.turns.turns_of.Given as goal
 
 abbrev pub invariant-loop-at : goal.invariant-loop-at
 invariant-loop-at l = record {
-  swept : IsSwept l.tree l.stays l.at l.reached.items;
-  told : (places : List ℕ) (key : ℕ) → AreStays l.tree places key l.stays → TellTo l.tree places key l.stays l.at l.turns.items;
+  furthest : AreFurthest (take l.at l.stays) l.furthest;
+  told : (rows : Rows) (places : List ℕ) (key : ℕ) → AreStays rows places key l.stays → TellTo rows places key l.stays l.at l.turns.items;
 }

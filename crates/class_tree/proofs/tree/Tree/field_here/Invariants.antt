@@ -6,8 +6,8 @@ use Rattle.class_tree.proofs.tree.Tree.field_here.Given as goal
 abbrev pub invariant-loop-row : goal.invariant-loop-row
 invariant-loop-row l = record {
   within : l.at < length l.self.classes;
-  goes_on : (r : ℕ) → FieldHere l.self l.key l.at (Some r) → FieldHere l.self l.key l.class (Some r);
-  near : (l.at ≡ l.class) ⊎ HasFieldNear l.self l.at l.key;
+  goes_on : (r : ℕ) → FieldHere l.self l.fields.key l.at (Some r) → FieldHere l.self l.fields.key l.class (Some r);
+  near : (l.at ≡ l.class) ⊎ HasFieldNear l.self l.at l.fields.key;
 }
 
 abbrev pub decreases-loop-row : goal.decreases-loop-row

@@ -3,4 +3,4 @@ use Rattle.class_tree.specs.Indexed.{HasFieldNear}
 use Rattle.class_tree.proofs.tree.Tree.first_near.Given as goal
 
 abbrev pub invariant-loop-class : goal.invariant-loop-class
-invariant-loop-class l = (k c : ℕ) → k < l.class-index → slice_get l.classes k ≡ Some c → HasFieldNear l.self c l.key → ⊥
+invariant-loop-class l = (k c : ℕ) → k < l.class-index → slice_get l.classes k ≡ Some c → HasFieldNear l.self c l.fields.key → ⊥

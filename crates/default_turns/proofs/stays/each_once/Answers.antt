@@ -1,4 +1,0 @@
-use Rattle.default_turns.proofs.stays.each_once.Goals as goal
-
-pub returns : goal.returns
-returns c = rw c.in_ok-numbers.ensures.items at c.new.ensures.same
