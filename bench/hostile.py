@@ -72,6 +72,12 @@ def one_hash(make):
     return lambda size: make(size, lambda number: front + tail(number))
 
 
+def ordinary(make):
+    """As many names of the same length that have nothing in common but their front."""
+    front = 'n' * len(folded_to_zero())
+    return lambda size: make(size, lambda number: front + tail(number))
+
+
 def texts(size, name):
     return in_main(lambda i: f'x = "{name(i)}";\n', size, f'{OBJECT} x;')
 
@@ -364,11 +370,15 @@ MARKS = ['{', '}', '(', ')', '[', ']', ';', ',', ':', '.', '=', '<', '>', '+', '
 
 SHAPES = {
     'texts of one hash': (one_hash(texts), ASK),
+    'ordinary texts': (ordinary(texts), ASK),
     'names of one hash': (one_hash(names), ASK),
     'class names of one hash': (one_hash(class_names), RUN),
+    'ordinary class names': (ordinary(class_names), RUN),
     'method keys of one hash': (one_hash(method_keys), RUN),
     'locals of one hash': (one_hash(local_names), RUN),
+    'ordinary locals': (ordinary(local_names), RUN),
     'labels of one hash': (one_hash(label_names), RUN),
+    'ordinary labels': (ordinary(label_names), RUN),
     'locals of few slots': (locals_of_few_slots, RUN),
     'calls of few slots': (repeated(400_000)(calls_of_few_slots), RUN),
     'methods of few slots': (repeated(550_000)(methods_of_few_slots), RUN),

@@ -1,5 +1,5 @@
 -- Texts that are filed under their places.
-use Rattle.std.proofs.Common.{◌≡◌, ◌≢◌, ◌⊎◌, ℕ, suc, Bool, true, false, cond, ◌+◌, ◌<◌, List, [], ◌∷◌, ◌++◌, Option, Some, length, slice_get, refl, sym, ap, ◌∙◌, subst, inl, inr, arith, get_or, get_or-set_other}
+use Rattle.std.proofs.Common.{◌≡◌, ◌≢◌, ◌⊎◌, ℕ, suc, Bool, true, false, cond, ◌+◌, ◌<◌, List, [], ◌∷◌, ◌++◌, Option, Some, length, slice_get, refl, sym, ap, ◌∙◌, inl, inr, arith, get_or, get_or-set_other}
 use Rattle.std.specs.List.{slice_set}
 use Rattle.std.specs.Str.{bytes_eq}
 use Rattle.std.proofs.lemmas.Bool.{cases_eq}
@@ -52,6 +52,14 @@ module _ (xs : List (List ℕ)) (apart : IsApart xs) (others now : List ℕ → 
     | inl e ↦ let same : t ≡ x = Some-same (sym h ∙ ap (slice_get xs) e ∙ here) in rw (e, same) filed
     | inr ne ↦ elim (each i t (omega (arith, ne, below)) h) [ inl noted ↦ inl (kept (hash t) i noted) | inr other ↦ inr (more-anew t i other) ]
   ]
+
+-- the text at a place is among the others, and stays there
+pub each-left : (xs : List (List ℕ)) (n : ℕ) (x : List ℕ) → slice_get xs n ≡ Some x → (slots : List ℕ) (others : List ℕ → Option ℕ) → others x ≡ Some n
+    → ((i : ℕ) (t : List ℕ) → i < n → slice_get xs i ≡ Some t → IsFiled slots others t i) → (i : ℕ) (t : List ℕ) → i < n + 1 → slice_get xs i ≡ Some t → IsFiled slots others t i
+each-left xs n x here slots others other each i t below h = elim (cases_eq i n) [
+  | inl e ↦ let same : t ≡ x = Some-same (sym h ∙ ap (slice_get xs) e ∙ here) in rw (e, same) (inr other)
+  | inr ne ↦ each i t (omega (arith, ne, below)) h
+]
 
 module _ (xs : List (List ℕ)) (slots after : List ℕ) (others now : List ℕ → Option ℕ) (indexed : IsIndexed xs slots others) where
   -- a new text is filed under the next number

@@ -3,7 +3,7 @@ ghost use Rattle.std.specs.Prelude.{◌≡◌, ◌^◌, ◌+◌, ◌<◌, ◌↔
 ghost use Rattle.std.specs.BTreeMap.{get_by_text};
 ghost use Rattle.std.specs.Str.{bytes_eq};
 ghost use Rattle.lists.specs.Lists.{Has, Adds, IsApart};
-ghost use Rattle.jim_ast.specs.Notes.{IsFiled, IsNoted};
+ghost use Rattle.jim_ast.specs.Notes.{IsFiled, IsIndexed, IsNoted};
 
 use super::notes::{Notes, hash_of};
 use lists::NoMemory;
@@ -87,22 +87,25 @@ fn file(
     Ok(())
 }
 
-// Files each text.
+// Files each text anew that the old slots have a note of. The rest stands among the others, and stays there.
 fn file_all(
     alloc: Global,
     texts: &[String],
+    old: &Notes,
     notes: &mut Notes,
     others: &mut BTreeMap<String, u32>,
 ) -> Result<(), NoMemory>
     requires few { length texts.now < 2 ^ 32 }
-    requires apart { IsApart (map string_bytes texts.now) }
-    requires sound { (t : List ℕ) (i : ℕ) → get_by_text others.old t ≡ Some i → slice_get (map string_bytes texts.now) i ≡ Some t }
+    requires indexed { IsIndexed (map string_bytes texts.now) old.now.slots.items (get_by_text others.old) }
     ensures sound { (t : List ℕ) (i : ℕ) → get_by_text others.new t ≡ Some i → slice_get (map string_bytes texts.now) i ≡ Some t }
     ensures kept { (t : List ℕ) (i : ℕ) → get_by_text others.old t ≡ Some i → get_by_text others.new t ≡ Some i }
     ensures each { OnOk result ((i : ℕ) (t : List ℕ) → slice_get (map string_bytes texts.now) i ≡ Some t → IsFiled notes.new.slots.items (get_by_text others.new) t i) }
 {
     for number in 0..texts.len() {
-        file(alloc, notes, others, texts[number].as_str(), number as u32)?;
+        let text = texts[number].as_str();
+        if others.is_empty() || old.has(hash_of(text.as_bytes()), number as u32) {
+            file(alloc, notes, others, text, number as u32)?;
+        }
     }
     Ok(())
 }
@@ -175,7 +178,13 @@ impl Names {
             return Ok(());
         }
         let mut notes = Notes::room_for(self.alloc, self.texts.len())?;
-        file_all(self.alloc, &self.texts, &mut notes, &mut self.others)?;
+        file_all(
+            self.alloc,
+            &self.texts,
+            &self.notes,
+            &mut notes,
+            &mut self.others,
+        )?;
         self.notes = notes;
         Ok(())
     }

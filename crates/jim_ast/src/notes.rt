@@ -94,6 +94,22 @@ impl Notes {
         None
     }
 
+    /// Whether the number of a text with this hash is noted.
+    pub(crate) fn has(&self, hash: usize, number: u32) -> bool
+        requires { number + 1 < 2 ^ 32 }
+        ensures { IsTrue result ↔ IsNoted self.now.slots.items hash number }
+    {
+        if self.slots.is_empty() {
+            return false;
+        }
+        for step in 0..LOOKS {
+            if self.slots[slot(hash, step, self.slots.len())] == number + 1 {
+                return true;
+            }
+        }
+        false
+    }
+
     // The first slot for a hash that has no note.
     fn free(&self, hash: usize) -> Option<usize>
         ensures { IfSome result (λ at. (at < length self.now.slots.items) × (slice_index self.now.slots.items at ≡ 0) × (step : ℕ) × (step < looks) × (at ≡ slot_of hash step (length self.now.slots.items))) }

@@ -1,4 +1,4 @@
-use Rattle.std.proofs.Common.{◌≡◌, ℕ, Some, ap, inl, inr, map, slice_get, string_bytes, subst, sym, ◌∙◌}
+use Rattle.std.proofs.Common.{◌≡◌, Some, ap, inl, inr, map, slice_get, string_bytes, subst, sym, ◌∙◌}
 use Rattle.std.specs.BTreeMap.{get_by_text}
 use Rattle.jim_ast.specs.Notes.{IsNoted}
 use Rattle.jim_ast.proofs.names.Names.number.Goals as goal
