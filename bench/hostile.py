@@ -2,7 +2,7 @@
 
 usage: bench/hostile.sh [--small] [--limit SECONDS] [SHAPE..]     the named shapes, or all
 
-Each shape is a text of at most so many bytes, 1, 4 and 16 MiB, of which the program is asked for a run of one step or for the objects of a local. Of each size
+Each shape is a text of at most so many bytes, 1, 4 and 16 MiB, of which the program is asked for a run of one step, or of 10,000, or for the objects of a local. Of each size
 the seconds of a processor and the memory are told, and the exponent of the growth between the last two sizes that ended: 1 is linear, 2 quadratic. A call that
 takes longer than the limit, 60 seconds by the clock where none is given, is ended, and larger sizes of its shape are left out. It judges nothing.
 
@@ -24,6 +24,7 @@ MAIN = '<Main: void main(java.lang.String[])>'
 OBJECT = 'java.lang.Object'
 LETTERS = b'abcdefghijklmnopqrstuvwxyzABCDEFGHIJKLMNOPQRSTUVWXYZ0123456789$_'
 RUN = ['run', 'Main', '1', '-']
+STEPS = ['run', 'Main', '10000', '-']
 ASK = ['points-to', 'Main', MAIN, '0', 'x', '9']
 
 
@@ -285,6 +286,13 @@ def fields_of_two_interfaces(count):
     return accesses(count, made + f'class C implements I{count - 1} {{ }}\n', 'C')
 
 
+def fields_behind_forks(count):
+    """The same, where each of the chain names another interface first, which has a field of its own."""
+    made = f'interface J {{ {static_fields(count)} }}\ninterface K {{ {static_fields(count)} }}\ninterface T {{ static int t; }}\ninterface I0 implements J, K {{ }}\n'
+    made += ''.join(f'interface I{i} implements T, I{i - 1} {{ }}\n' for i in range(1, count))
+    return accesses(count, made + f'class C implements I{count - 1} {{ }}\n', 'C')
+
+
 def calls_on_a_chain(count):
     """Calls that name each class of a chain, of which the first has the method."""
     made, last = chain(count, ' { void m() { return; } }')
@@ -312,6 +320,17 @@ def defaults_of_an_interface(count):
     return main_of('I x;', 'x = new C1;\n' + ''.join(f'interfaceinvoke x.<I: void m{i}()>();\n' for i in range(count)), made)
 
 
+def apart(count, interface):
+    """Classes that implement an interface, each below a parent of its own that doesn't."""
+    return ''.join(f'class P{i} {{ }}\nclass C{i} extends P{i} implements {interface} {{ }}\n' for i in range(count // 2))
+
+
+def defaults_far_apart(count):
+    """The same, where each class that implements the interface has a parent of its own."""
+    made = apart(count, 'I') + 'interface I { ' + ''.join(f'void m{i}() {{ return; }}\n' for i in range(count)) + ' }\n'
+    return main_of('I x;', 'x = new C1;\n' + ''.join(f'interfaceinvoke x.<I: void m{i}()>();\n' for i in range(count)), made)
+
+
 def every_second(count):
     """An interface with many methods that every second of the classes before it implements."""
     methods = ''.join(f'void m{i}();\n' for i in range(count))
@@ -330,6 +349,12 @@ def every_second_of_a_chain(count):
     """A chain of interfaces, of which every second of the classes before them implements the last."""
     made = 'interface I0 { }\n' + ''.join(f'interface I{i} implements I{i - 1} {{ }}\n' for i in range(1, count))
     return main_of('', '', ''.join(f'class C{i}{f" implements I{count - 1}" * (i % 2)} {{ }}\n' for i in range(count)) + made)
+
+
+def far_apart_under_a_chain(count):
+    """The same, where each class that implements the last of the chain has a parent of its own."""
+    made = 'interface I0 { }\n' + ''.join(f'interface I{i} implements I{i - 1} {{ }}\n' for i in range(1, count))
+    return main_of('', '', apart(count, f'I{count - 1}') + made)
 
 
 def side_by_side(count):
@@ -360,6 +385,24 @@ def hidden_by_all(count):
     every = ', '.join(f'H{i}' for i in range(count))
     made += f'abstract class A implements {every} {{ abstract void m(); }}\nclass C extends A {{ }}\n'
     return main_of('A x;', 'x = new C; virtualinvoke x.<A: void m()>();\n', made)
+
+
+def hidden_with_gaps(count):
+    """The same, where between any two that hide stands one without the method."""
+    every = ', '.join(f'D{i}' for i in range(count))
+    made = ''.join(f'interface D{i} {{ void m() {{ return; }} }}\n' for i in range(count)) + f'interface X implements {every} {{ }}\n'
+    made += ''.join(f'interface H{i} implements X {{ void m(); }}\ninterface G{i} implements X {{ }}\n' for i in range(count))
+    every = ', '.join(f'H{i}' for i in range(count))
+    made += f'abstract class A implements {every} {{ abstract void m(); }}\nclass C extends A {{ }}\n'
+    return main_of('A x;', 'x = new C; virtualinvoke x.<A: void m()>();\n', made)
+
+
+def steps_by_defaults(count):
+    """A loop of calls of a default method on an object that reaches many others, each hidden by one without a body."""
+    made = ''.join(f'interface D{i} {{ void m() {{ return; }} }}\ninterface H{i} implements D{i} {{ void m(); }}\n' for i in range(count))
+    every = ', '.join(f'H{i}' for i in range(count))
+    made += f'interface E {{ void m() {{ return; }} }}\nclass C implements {every}, E {{ }}\n'
+    return main_of('C x;', 'x = new C;\nl: virtualinvoke x.<C: void m()>();\ngoto l;\n', made)
 
 
 def open_ended(head, piece):
@@ -400,17 +443,22 @@ SHAPES = {
     'fields of an interface': (repeated(200_000)(fields_of_an_interface), RUN),
     'fields behind interfaces': (repeated(160_000)(fields_behind_interfaces), RUN),
     'fields of two interfaces': (repeated(150_000)(fields_of_two_interfaces), RUN),
+    'fields behind forks': (repeated(140_000)(fields_behind_forks), RUN),
     'calls on a chain': (repeated(200_000)(calls_on_a_chain), RUN),
     'keys on a chain': (repeated(140_000)(keys_on_a_chain), RUN),
     'keys of an interface': (repeated(110_000)(keys_of_an_interface), RUN),
     'defaults of an interface': (repeated(150_000)(defaults_of_an_interface), RUN),
+    'defaults far apart': (repeated(140_000)(defaults_far_apart), RUN),
     'every second class': (repeated(300_000)(every_second), RUN),
     'every second of many': (repeated(300_000)(every_second_of_many), RUN),
     'under a chain': (repeated(200_000)(every_second_of_a_chain), RUN),
+    'far apart under a chain': (repeated(200_000)(far_apart_under_a_chain), RUN),
     'interfaces side by side': (repeated(160_000)(side_by_side), RUN),
     'hidden interfaces': (repeated(100_000)(hidden), RUN),
     'hidden from each': (repeated(80_000)(hidden_from_each), RUN),
     'hidden by all': (repeated(160_000)(hidden_by_all), RUN),
+    'hidden with gaps': (repeated(120_000)(hidden_with_gaps), RUN),
+    'steps by defaults': (repeated(165_000)(steps_by_defaults), STEPS),
     'open comment': (open_ended('/*', '* '), RUN),
     'open line': (open_ended('//', 'x'), RUN),
     'open text': (open_ended('"', '\\"'), RUN),

@@ -1,5 +1,5 @@
-//! Sets of numbers: none, one twice, out of order, the largest, and numbers that aren't there.
-use number_sets::{MarkedSet, SortedSet};
+//! Sets of numbers, and what is kept for numbers: none, one twice, out of order, the largest, and numbers that aren't there.
+use number_sets::{MarkedSet, NumberTable, SortedSet};
 use std::alloc::{AllocError, Global};
 use std::test::Fail;
 
@@ -86,5 +86,22 @@ fn marked(rt: HostRuntime) -> Result<(), Fail> {
             &[0, 2, 4, 63, 65, 999, 1001]
         )?
     );
+    Ok(())
+}
+
+/// Whether a table gives for each number what was put last for it, and nothing for others.
+fn keeps_last(alloc: Global) -> Result<bool, AllocError> {
+    let mut table = NumberTable::new(alloc);
+    let none = table.get(0).is_none();
+    for (number, value) in [(7, 70), (u32::MAX, 1), (0, 5), (7, 71)] {
+        table.put(number, value)?;
+    }
+    let kept = table.get(7) == Some(&71) && table.get(0) == Some(&5);
+    Ok(none && kept && table.get(u32::MAX) == Some(&1) && table.get(6).is_none())
+}
+
+#[test]
+fn kept(rt: HostRuntime) -> Result<(), Fail> {
+    assert!(rt; keeps_last(rt.alloc())?);
     Ok(())
 }

@@ -12,3 +12,4 @@ pub mod Lowest
 pub mod Running
 pub mod FieldRuns
 pub mod SoleFields
+pub mod FirstInterfaces

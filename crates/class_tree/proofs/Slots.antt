@@ -11,11 +11,12 @@ use Rattle.class_tree.specs.declared.first_rows.Member.{Member}
 use Rattle.class_tree.specs.declared.numbering.Numbering.{Numbering}
 use Rattle.class_tree.specs.declared.own_rows.Own.{Own}
 use Rattle.class_rules.specs.declared.rows.ClassRow.{ClassRow}
+use Rattle.class_rules.specs.declared.rows.FieldRow.{FieldRow}
 use Rattle.class_rules.specs.declared.rows.MethodRow.{MethodRow}
 use Rattle.class_tree.specs.declared.turns.Turn.{Turn}
 use Rattle.class_order.specs.Groups.{group}
-use Rattle.class_tree.specs.KeySpans.{list_at, member_of_method}
-use Rattle.class_rules.specs.Lookups.{Upwards, found, further, ended, own_body}
+use Rattle.class_tree.specs.KeySpans.{list_at, member_of_field, member_of_method}
+use Rattle.class_rules.specs.Lookups.{Upwards, found, further, ended, own_body, own_field}
 use Rattle.class_rules.specs.Rows.{HasParent}
 use Rattle.class_tree.specs.Turns.{AreOwn, AreRowsOf, HaveOneRow, IsForest, IsNumbering, OwnAt, SlotPath, turned}
 use Rattle.class_tree.proofs.KeyLists.{key_found, key_same}
@@ -39,6 +40,18 @@ body_rows methods class key row e =
     let both = and_parts (m.0.class == class) (m.0.key == key) parts.0 in
     let same : member_of_method m.0 ≡ record { class = class; key = key } = λ j. record { class = eqb-true m.0.class class both.0 j; key = eqb-true m.0.key key both.1 j } in
     slice_get-map member_of_method methods row m.0 m.1 ∙ ap Some same
+
+-- and the same of fields
+pub field_rows : (fields : List FieldRow) → AreRowsOf (own_field fields) (map member_of_field fields)
+field_rows fields class key row e =
+    let f = position_first (λ f. (f.class == class) && (f.key == key)) fields row (sym e) in
+    let both = and_parts (f.0.class == class) (f.0.key == key) f.2 in
+    let same : member_of_field f.0 ≡ record { class = class; key = key } = λ j. record { class = eqb-true f.0.class class both.0 j; key = eqb-true f.0.key key both.1 j } in
+    slice_get-map member_of_field fields row f.0 f.1 ∙ ap Some same
+
+-- two functions of a class and a key that give the same are one
+pub same_rows : {f g : ℕ → ℕ → Option ℕ} → ((c k : ℕ) → f c k ≡ g c k) → f ≡ g
+same_rows same j c k = same c k j
 
 -- ---- the rows of the first members
 

@@ -1,6 +1,7 @@
 -- What a tree keeps of its rows.
 use Rattle.std.specs.Prelude.{◌≡◌, ℕ, ◌<◌, ◌^◌, ◌↔◌, List, Some, Contains, length, map, slice_get, slice_index}
 use Rattle.class_tree.specs.declared.field_owners.FieldOwners.{FieldOwners}
+use Rattle.class_tree.specs.declared.first_fields.FirstFields.{FirstFields}
 use Rattle.class_tree.specs.declared.owners.Owners.{Owners}
 use Rattle.class_tree.specs.declared.kept.KeptRows.{KeptRows}
 use Rattle.class_tree.specs.declared.members.Members.{Members}
@@ -9,6 +10,7 @@ use Rattle.class_rules.specs.declared.rows.ClassRow.{ClassRow}
 use Rattle.class_rules.specs.declared.rows.MethodRow.{MethodRow}
 use Rattle.class_rules.specs.declared.rows.FieldRow.{FieldRow}
 use Rattle.class_order.specs.declared.spans.Span.{Span}
+use Rattle.class_tree.specs.FirstFields.{TellFirstFields}
 use Rattle.class_tree.specs.FirstRows.{row_at}
 use Rattle.class_order.specs.Groups.{group}
 use Rattle.class_tree.specs.Holders.{IsInterface, holders_of}
@@ -66,7 +68,7 @@ pub record AreMembers (classes : List ClassRow) (methods : List MethodRow) (fiel
   pub own_fields : (c k : ℕ) → row_at m.own_fields c k ≡ own_field fields c k
 
 -- the tables say what the rows say
-pub record IsIndexed (rows : Rows) (interfaces : List (List ℕ)) (ranks places : List ℕ) (reach near : List (List Span)) (members : Members) (inherited : Inherited) : Type 0 where
+pub record IsIndexed (rows : Rows) (interfaces : List (List ℕ)) (ranks places : List ℕ) (reach near : List (List Span)) (members : Members) (inherited : Inherited) (first_fields : FirstFields) : Type 0 where
   pub named : NameClasses rows
   pub hierarchy : IsHierarchy rows
   pub ranked : AreRanked rows ranks
@@ -84,6 +86,7 @@ pub record IsIndexed (rows : Rows) (interfaces : List (List ℕ)) (ranks places 
   pub holders : (b k : ℕ) → Contains (holders_of members.declared.interfaces k) b ↔ HoldsMethod rows b k
   pub fields : (c k : ℕ) → row_at members.own_fields c k ≡ own_field rows.fields c k
   pub along : AreInherited rows.classes rows.methods places inherited
+  pub firsts : TellFirstFields interfaces rows.fields first_fields
 
 -- the class is the first of those for which there is such a field
 pub record IsFirstNear (rows : Rows) (classes : List ℕ) (key class : ℕ) : Type 0 where

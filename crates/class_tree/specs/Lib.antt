@@ -2,6 +2,7 @@ pub mod FirstRows
 pub mod KeySpans
 pub mod Holders
 pub mod Owners
+pub mod FirstFields
 pub mod Indexed
 pub mod Inherited
 pub mod Defaults

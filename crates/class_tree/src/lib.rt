@@ -3,6 +3,7 @@
 
 mod errors;
 mod field_owners;
+mod first_fields;
 mod first_rows;
 mod holders;
 mod inherited;

@@ -1,4 +1,4 @@
-ghost use Rattle.std.specs.Prelude.{◌≡◌, ℕ, ◌^◌, ◌<◌, ◌↔◌, length, All, Contains, IfOk};
+ghost use Rattle.std.specs.Prelude.{◌≡◌, ℕ, ◌^◌, ◌<◌, ◌↔◌, length, All, Contains, IfOk, OnOk};
 ghost use Rattle.class_order.specs.Groups.{group};
 ghost use Rattle.class_rules.specs.Rows.{HasInterface, HasParent, NamesUnknown, Step, interfaces_of};
 ghost use Rattle.class_order.specs.Tables.{Under};
@@ -103,6 +103,18 @@ pub fn implementers(
     Ok(lists)
 }
 
+// All of so many classes, behind those that stand there.
+fn add_all(starts: &mut Vec<u32>, count: u32) -> Result<(), AllocError>
+    requires { All (λ c. c < count) starts.old.items }
+    ensures known { OnOk result (All (λ c. c < count) starts.new.items) }
+    ensures all { OnOk result ((c : ℕ) → c < count → Contains starts.new.items c) }
+{
+    for class in 0..count {
+        starts.push(class)?;
+    }
+    Ok(())
+}
+
 /// All classes, those without a parent first.
 pub fn tops_first(alloc: Global, classes: &[ClassRow]) -> Result<Vec<u32>, AllocError>
     requires { length classes.now < 2 ^ 32 }
@@ -115,8 +127,23 @@ pub fn tops_first(alloc: Global, classes: &[ClassRow]) -> Result<Vec<u32>, Alloc
             starts.push(class as u32)?;
         }
     }
-    for class in 0..classes.len() as u32 {
-        starts.push(class)?;
+    add_all(&mut starts, classes.len() as u32)?;
+    Ok(starts)
+}
+
+/// All classes, interfaces first. A search downwards that begins with them comes to the classes below
+/// one interface one after the other, so that their places follow each other where they can.
+pub fn interfaces_first(alloc: Global, classes: &[ClassRow]) -> Result<Vec<u32>, AllocError>
+    requires { length classes.now < 2 ^ 32 }
+    ensures known { IfOk result (λ starts. All (λ c. c < length classes.now) starts.items) }
+    ensures all { IfOk result (λ starts. (c : ℕ) → c < length classes.now → Contains starts.items c) }
+{
+    let mut starts = Vec::with_capacity(alloc, classes.len())?;
+    for (class, row) in classes.iter().enumerate() {
+        if row.interface {
+            starts.push(class as u32)?;
+        }
     }
+    add_all(&mut starts, classes.len() as u32)?;
     Ok(starts)
 }

@@ -9,13 +9,14 @@ ghost use Rattle.class_rules.specs.Lookups.{own_body, Declared, FieldHere, Field
 
 use super::errors::TreeError;
 use super::field_owners::FieldOwners;
+use super::first_fields::FirstFields;
 use super::inherited::Inherited;
 use super::kept::KeptRows;
 use super::layout::Layout;
 use super::members::Members;
 use super::near::near_spans;
 use super::numbering::Numbering;
-use super::steps::{interface_lists, steps_down, steps_up, tops_first};
+use super::steps::{interface_lists, interfaces_first, steps_down, steps_up};
 use super::unknown::first_unknown;
 use class_order::{Groups, Span, finish_order, holds, least_cyclic, places_of, reach_spans};
 use class_rules::{ClassRow, FieldRow, MethodRow};
@@ -29,11 +30,11 @@ use std::marker::Model;
 /// key, where these are at most four. `field` looks the owners of its key up once, which takes two
 /// searches. Each run of parents that it goes by, of which there are at most as many as the logarithm
 /// of the number of classes, takes one among the places of those that reach an owner, and one more for
-/// each of the few interfaces. Where interfaces lead to one owner alone, and this is one of at most
-/// four interfaces with the key, the next search finds the field there, however long the way is. Only
-/// where they lead to more owners, or to a class that is named as an interface and is none, or more
-/// than four interfaces have the key, it goes step by step, and takes as many searches as for a run
-/// for each interface that it looks at. `resolve` and `ambiguous` go on from `on_path` to the
+/// each of the few interfaces. From the class that it comes to so, two searches find the field where it
+/// is the first on the way that goes from class to first interface, however long this is; and two where
+/// interfaces lead to one owner alone, and this is one of at most four interfaces with the key. Only
+/// else it goes step by step, and takes as many searches as for a run for each interface that it looks
+/// at. `resolve` and `ambiguous` go on from `on_path` to the
 /// interfaces that have a method with the key, where there are any.
 #[derive(Drop)]
 pub struct Tree {
@@ -46,6 +47,7 @@ pub struct Tree {
     near: Groups<Span>,
     members: Members,
     inherited: Inherited,
+    first_fields: FirstFields,
 }
 
 impl Model for Tree {
@@ -56,7 +58,7 @@ impl Model for Tree {
 
     ghost view = { λ t. rows_in t.rows };
 
-    ghost invariant = { λ t. IsIndexed (rows_in t.rows) t.interfaces t.ranks.items t.places.items t.reach t.near t.members t.inherited };
+    ghost invariant = { λ t. IsIndexed (rows_in t.rows) t.interfaces t.ranks.items t.places.items t.reach t.near t.members t.inherited t.first_fields };
 }
 
 /// The default methods that a class reaches for a key, by their rows.
@@ -97,7 +99,7 @@ pub fn build(
     if let Some(class) = first_unknown(classes, implements) {
         return Err(TreeError::UnknownParent { class });
     }
-    let starts = tops_first(alloc, classes)?;
+    let starts = interfaces_first(alloc, classes)?;
     let below = steps_down(alloc, classes, implements, starts.as_slice())?;
     let finish = finish_order(alloc, &below, starts.as_slice())?;
     let order = finish.order.as_slice();
@@ -140,6 +142,7 @@ fn indexed(
     let members = Members::new(alloc, classes, methods, fields, &reach, &near, in_ranks)?;
     let inherited = Inherited::new(alloc, classes, methods, &members.bodies, &numbering)?;
     let interfaces = interface_lists(alloc, classes.len(), implements)?;
+    let first_fields = FirstFields::new(alloc, &interfaces, fields, &members.own_fields, order)?;
     let rows = KeptRows::copy_of(alloc, classes, implements, methods, fields)?;
     Ok(Tree {
         rows,
@@ -150,6 +153,7 @@ fn indexed(
         near,
         members,
         inherited,
+        first_fields,
     })
 }
 
@@ -360,7 +364,7 @@ impl Tree {
     }
 
     // The field of the class, or else of its interfaces in order, each with its own. It goes on step by
-    // step only where more than one owner may be reached.
+    // step only where no first interface leads to it, and more than one owner may be reached.
     fn field_here(&self, class: u32, fields: &FieldOwners<'_>) -> Option<u32>
         requires class { class < length self.now.classes }
         requires fields { TellFields self.now fields.now }
@@ -369,7 +373,7 @@ impl Tree {
     {
         let mut at = class;
         loop {
-            if let Some(row) = self.members.own_fields.get(at, fields.key) {
+            if let Some(row) = self.first_fields.find(at, fields.key) {
                 return Some(row);
             }
             if let Some(owner) = fields.owners.sole(fields.places[at as usize]) {

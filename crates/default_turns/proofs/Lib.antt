@@ -1,7 +1,11 @@
 pub mod Turning
+pub mod Selecting
 pub mod Told
 pub mod Placing
 pub mod Covered
+pub mod Hopping
+pub mod Blocking
+pub mod Hiders
 pub mod Staying
 pub mod Ended
 pub mod Begun

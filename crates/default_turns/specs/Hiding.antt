@@ -1,9 +1,9 @@
 -- From which places the methods of an interface are hidden.
-use Rattle.std.specs.Prelude.{◌≡◌, ◌≢◌, ℕ, ◌<◌, ◌≤◌, ◌↔◌, ◌⊎◌, List, Contains, length, slice_index}
+use Rattle.std.specs.Prelude.{◌≢◌, ℕ, ◌<◌, ◌≤◌, List, Contains}
 use Rattle.class_order.specs.declared.spans.Span.{Span}
-use Rattle.class_order.specs.Spans.{AreFilled, Holds}
 use Rattle.class_rules.specs.Rows.{Rows, Sub}
 use Rattle.default_turns.specs.declared.holders.Holder.{Holder}
+use Rattle.default_turns.specs.Stretches.{AddsPlaces}
 
 -- the first interface is another one, below the second
 pub record Hides (rows : Rows) (interface other : ℕ) : Type 0 where
@@ -13,10 +13,6 @@ pub record Hides (rows : Rows) (interface other : ℕ) : Type 0 where
 -- the class reaches one of the holders that hides the interface
 abbrev pub IsHidden : Rows → List Holder → ℕ → ℕ → Type 0
 IsHidden rows holders interface class = (h : Holder) × Contains holders h × Hides rows h.interface interface × Sub rows class h.interface
-
--- the span in which the place lies ends there
-abbrev pub IsEndOf : List Span → ℕ → ℕ → Type 0
-IsEndOf spans place end = (s : Span) × Contains spans s × (s.start ≤ place) × (place < s.end) × (s.end ≡ end)
 
 -- the class reaches one of the holders whose place lies in the span, and which is another one than the interface
 pub record ReachesIn (rows : Rows) (holders : List Holder) (interface : ℕ) (span : Span) (class : ℕ) : Type 0 where
@@ -28,6 +24,5 @@ pub record ReachesIn (rows : Rows) (holders : List Holder) (interface : ℕ) (sp
   pub reached : Sub rows class holder.interface
 
 -- the places of these classes were added
-pub record AddsHidden (rows : Rows) (places : List ℕ) (holders : List Holder) (interface : ℕ) (span : Span) (old new : List Span) : Type 0 where
-  pub filled : AreFilled old → AreFilled new
-  pub exact : (class : ℕ) → class < length rows.classes → Holds new (slice_index places class) ↔ (Holds old (slice_index places class) ⊎ ReachesIn rows holders interface span class)
+abbrev pub AddsHidden : Rows → List ℕ → List Holder → ℕ → Span → List Span → List Span → Type 0
+AddsHidden rows places holders interface span old new = AddsPlaces rows places (ReachesIn rows holders interface span) old new

@@ -1,5 +1,9 @@
 pub mod Turns
+pub mod Selections
 pub mod Holders
+pub mod Stretches
+pub mod Hops
+pub mod Blocks
 pub mod Hiding
 pub mod Stays
 pub mod Furthest

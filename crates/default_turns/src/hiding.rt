@@ -1,70 +1,63 @@
 //! From which places the methods of an interface are hidden.
-ghost use Rattle.std.specs.Prelude.{◌≡◌, ◌<◌, ◌↔◌, ℕ, Contains, IfOk, OnOk, length, slice_index};
-ghost use Rattle.class_order.specs.Groups.{group};
+ghost use Rattle.std.specs.Prelude.{◌<◌, ◌↔◌, ℕ, IfOk, OnOk, length, slice_index};
 ghost use Rattle.class_order.specs.Spans.{AreApart, Holds};
-ghost use Rattle.class_tree.specs.Layouts.{LaysOut};
-ghost use Rattle.default_turns.specs.Hiding.{AddsHidden, IsEndOf, IsHidden};
-ghost use Rattle.default_turns.specs.Holders.{ArePlaced};
+ghost use Rattle.default_turns.specs.Blocks.{AreKnown};
+ghost use Rattle.default_turns.specs.Hiding.{AddsHidden, IsHidden};
+ghost use Rattle.default_turns.specs.Hops.{IsLine};
 
-use super::holders::{Holder, PlacedTree};
+use super::blocks::{Blocks, add_stretch};
+use super::hops::Line;
+use super::stretches::{Stretch, first_behind, first_from};
 use class_order::{Span, united};
-use std::alloc::{AllocError, Global};
+use std::alloc::AllocError;
 
-// The end of the span in which a place lies.
-fn end_of(spans: &[Span], place: u32) -> u32
-    requires apart { AreApart spans.now }
-    requires held { Holds spans.now place }
-    ensures { IsEndOf spans.now place result }
-{
-    let after = spans.partition_point(|span| span.start <= place);
-    spans[after - 1].end
-}
-
-// Adds the places from which one of the holders is reached that stands in this span of the interface, and is another one. Those that stand behind a holder in
-// a run of places from which it is reached are below it, and add nothing: they are passed by.
+// Adds the places from which one of the holders is reached that stands in this span of the interface, and is another one.
 fn add_hidden(
-    placed: PlacedTree<'_>,
-    holders: &[Holder],
+    line: Line<'_>,
     interface: u32,
     span: Span,
+    blocks: &mut Blocks,
     hidden: &mut Vec<Span>,
 ) -> Result<(), AllocError>
-    requires laid { LaysOut placed.tree.now placed.layout }
-    requires holders { ArePlaced placed.tree.now placed.layout.places.now holders.now }
-    ensures { OnOk result (AddsHidden placed.entry.tree.now placed.entry.layout.places.now holders.now interface span hidden.old.items hidden.new.items) }
+    requires line { IsLine line }
+    requires interface { interface < length line.placed.tree.now.classes }
+    requires known { AreKnown line blocks.old }
+    ensures added { OnOk result (AddsHidden line.entry.placed.tree.now line.entry.placed.layout.places.now line.entry.holders.now interface span
+        hidden.old.items hidden.new.items) }
+    ensures known { AreKnown line.entry blocks.new }
 {
-    let mut at = holders.partition_point(|holder| holder.place < span.start);
-    while at < holders.len() && holders[at].place < span.end {
-        let holder = holders[at];
-        if holder.interface == interface {
-            at += 1;
-        } else {
-            let spans = placed.layout.reach.get(holder.interface as usize);
-            hidden.extend_from_slice(spans)?;
-            let end = end_of(spans, holder.place);
-            at = holders.partition_point(|other| other.place < end);
-        }
-    }
-    Ok(())
+    let place = line.placed.layout.places[interface as usize];
+    let from = first_from(line.holders, span.start);
+    let to = first_from(line.holders, span.end);
+    let before = Stretch {
+        from,
+        to: first_from(line.holders, place).min(to),
+    };
+    let behind = Stretch {
+        from: first_behind(line.holders, place).max(from),
+        to,
+    };
+    add_stretch(line, before, blocks, hidden)?;
+    add_stretch(line, behind, blocks, hidden)
 }
 
 /// The places of the classes that reach one of the holders below the interface, other than itself.
 pub(crate) fn hidden_from(
-    alloc: Global,
-    placed: PlacedTree<'_>,
-    holders: &[Holder],
+    line: Line<'_>,
     interface: u32,
+    blocks: &mut Blocks,
 ) -> Result<Vec<Span>, AllocError>
-    requires laid { LaysOut placed.tree.now placed.layout }
-    requires holders { ArePlaced placed.tree.now placed.layout.places.now holders.now }
-    requires interface { interface < length placed.tree.now.classes }
+    requires line { IsLine line }
+    requires interface { interface < length line.placed.tree.now.classes }
+    requires known { AreKnown line blocks.old }
     ensures apart { IfOk result (λ hidden. AreApart hidden.items) }
-    ensures exact { IfOk result (λ hidden. (class : ℕ) → class < length placed.entry.tree.now.classes
-        → Holds hidden.items (slice_index placed.entry.layout.places.now class) ↔ IsHidden placed.entry.tree.now holders.now interface class) }
+    ensures exact { IfOk result (λ hidden. (class : ℕ) → class < length line.entry.placed.tree.now.classes
+        → Holds hidden.items (slice_index line.entry.placed.layout.places.now class) ↔ IsHidden line.entry.placed.tree.now line.entry.holders.now interface class) }
+    ensures known { AreKnown line.entry blocks.new }
 {
-    let mut hidden = Vec::new(alloc);
-    for span in placed.layout.reach.get(interface as usize) {
-        add_hidden(placed, holders, interface, *span, &mut hidden)?;
+    let mut hidden = Vec::new(blocks.alloc);
+    for span in line.placed.layout.reach.get(interface as usize) {
+        add_hidden(line, interface, *span, blocks, &mut hidden)?;
     }
-    united(alloc, hidden)
+    united(blocks.alloc, hidden)
 }

@@ -1,13 +1,17 @@
 //! From which places default methods of a key are reached.
-ghost use Rattle.std.specs.Prelude.{◌<◌, ◌↔◌, ℕ, All, Contains, IfOk, OnOk, length};
+ghost use Rattle.std.specs.Prelude.{◌<◌, IfOk, OnOk, length};
 ghost use Rattle.std.specs.List.Sorted.{IsNonDecreasingBy};
 ghost use Rattle.class_order.specs.Spans.{AreApart};
 ghost use Rattle.class_tree.specs.Layouts.{LaysOut};
-ghost use Rattle.default_turns.specs.Holders.{AreHoldersOf, ArePlaced};
+ghost use Rattle.default_turns.specs.Blocks.{AreKnown};
+ghost use Rattle.default_turns.specs.Holders.{AreHoldersOf};
+ghost use Rattle.default_turns.specs.Hops.{IsLine};
 ghost use Rattle.default_turns.specs.Stays.{AddsBare, AddsStay, AddsStaysOf, AreStays};
 
+use super::blocks::Blocks;
 use super::hiding::hidden_from;
-use super::holders::{Holder, PlacedTree, holders_of};
+use super::holders::{PlacedTree, holders_of};
+use super::hops::{Line, hops_of};
 use class_order::Span;
 use std::alloc::{AllocError, Global};
 
@@ -51,42 +55,37 @@ fn add_bare(stays: &mut Vec<Stay>, row: u32, span: Span, hidden: &[Span]) -> Res
 
 // The stays of the default method of one of the holders: at the places from which it is reached and not hidden.
 fn add_stays(
-    alloc: Global,
-    placed: PlacedTree<'_>,
-    holders: &[Holder],
+    line: Line<'_>,
     interface: u32,
     row: u32,
+    blocks: &mut Blocks,
     stays: &mut Vec<Stay>,
 ) -> Result<(), AllocError>
-    requires laid { LaysOut placed.tree.now placed.layout }
-    requires holders { ArePlaced placed.tree.now placed.layout.places.now holders.now }
-    requires interface { interface < length placed.tree.now.classes }
-    ensures { OnOk result (AddsStaysOf placed.entry.tree.now placed.entry.layout.places.now holders.now interface row stays.old.items stays.new.items) }
+    requires line { IsLine line }
+    requires interface { interface < length line.placed.tree.now.classes }
+    requires known { AreKnown line blocks.old }
+    ensures added { OnOk result (AddsStaysOf line.entry.placed.tree.now line.entry.placed.layout.places.now line.entry.holders.now interface row
+        stays.old.items stays.new.items) }
+    ensures known { AreKnown line.entry blocks.new }
 {
-    let hidden = hidden_from(alloc, placed, holders, interface)?;
-    for span in placed.layout.reach.get(interface as usize) {
+    let hidden = hidden_from(line, interface, blocks)?;
+    for span in line.placed.layout.reach.get(interface as usize) {
         add_bare(stays, row, *span, hidden.as_slice())?;
     }
     Ok(())
 }
 
 // The stays of all default methods of the key.
-fn all_stays(alloc: Global, placed: PlacedTree<'_>, key: u32) -> Result<Vec<Stay>, AllocError>
-    requires { LaysOut placed.tree.now placed.layout }
-    ensures { IfOk result (λ stays. AreStays placed.entry.tree.now placed.entry.layout.places.now key stays.items) }
+fn all_stays(alloc: Global, line: Line<'_>, key: u32) -> Result<Vec<Stay>, AllocError>
+    requires line { IsLine line }
+    requires holders { AreHoldersOf line.placed.tree.now key line.holders.now }
+    ensures { IfOk result (λ stays. AreStays line.entry.placed.tree.now line.entry.placed.layout.places.now key stays.items) }
 {
-    let holders = holders_of(alloc, placed, key)?;
+    let mut blocks = Blocks::new(alloc);
     let mut stays = Vec::new(alloc);
-    for holder in holders.as_slice() {
-        if let Some(row) = placed.tree.own_default(holder.interface, key) {
-            add_stays(
-                alloc,
-                placed,
-                holders.as_slice(),
-                holder.interface,
-                row,
-                &mut stays,
-            )?;
+    for holder in line.holders {
+        if let Some(row) = line.placed.tree.own_default(holder.interface, key) {
+            add_stays(line, holder.interface, row, &mut blocks, &mut stays)?;
         }
     }
     Ok(stays)
@@ -102,7 +101,14 @@ pub(crate) fn stays_of(
     ensures stays { IfOk result (λ stays. AreStays placed.entry.tree.now placed.entry.layout.places.now key stays.items) }
     ensures sorted { IfOk result (λ stays. IsNonDecreasingBy (λ s. s.start) stays.items) }
 {
-    let mut stays = all_stays(alloc, placed, key)?;
+    let holders = holders_of(alloc, placed, key)?;
+    let hops = hops_of(alloc, placed, holders.as_slice())?;
+    let line = Line {
+        placed,
+        holders: holders.as_slice(),
+        hops: hops.as_slice(),
+    };
+    let mut stays = all_stays(alloc, line, key)?;
     stays.sort_unstable_by_key(|stay| stay.start);
     Ok(stays)
 }

@@ -1,5 +1,5 @@
 //! From place to place, what default methods classes reach.
-ghost use Rattle.std.specs.Prelude.{◌≡◌, ◌<◌, ◌+◌, ◌↔◌, ℕ, All, IfOk, IsTrue, List, OnOk, length};
+ghost use Rattle.std.specs.Prelude.{◌≡◌, ◌<◌, ◌+◌, ◌↔◌, ℕ, IfOk, IsTrue, List, OnOk, length};
 ghost use Rattle.std.specs.List.Sorted.{IsNonDecreasingBy};
 ghost use Rattle.class_rules.specs.Rows.{Rows};
 ghost use Rattle.class_tree.specs.Layouts.{LaysOut};

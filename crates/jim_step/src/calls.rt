@@ -33,7 +33,7 @@ fn found(linked: &Linked, class: u32, key: u32) -> Option<u32>
     ensures none { IfNone result ((number : ℕ) (m : LinkedMethod) → Finds linked.now class key number m → ⊥) }
 {
     linked.tell_form();
-    let Some(row) = linked.tree().resolve(class, key) else {
+    let Some(row) = linked.resolve(class, key) else {
         return None;
     };
     let Some(number) = linked.method_of_row(row) else {

@@ -1,6 +1,5 @@
 pub mod Below
 pub mod Choosing
-pub mod Kept
 pub mod Marked
 pub mod Pairs
 pub mod RowSets

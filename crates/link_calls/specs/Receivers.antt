@@ -1,8 +1,7 @@
 -- The classes that may have objects, by their places, and those that are looked at for a call.
-use Rattle.std.specs.Prelude.{◌≡◌, ◌<◌, ℕ, IfSome, List, Option, length, slice_index, Contains}
-use Rattle.std.specs.BTreeMap as tree
+use Rattle.std.specs.Prelude.{◌≡◌, ◌<◌, ℕ, List, Option, length, slice_index, Contains}
+use Rattle.std.specs.Global.{Vec}
 use Rattle.std.specs.List.Sorted.{IsNonDecreasingBy}
-use Rattle.std.specs.Ordering.{nat_cmp}
 use Rattle.class_rules.specs.Rows.{Rows, Sub}
 use Rattle.class_order.specs.Groups.{group}
 use Rattle.class_tree.specs.Layouts.{LaysOut}
@@ -17,11 +16,9 @@ use Rattle.object_ranges.specs.Parts.{AreInOrder, TellParts}
 use Rattle.link_rules.specs.Targets.{IsInstantiableAt}
 use Rattle.link_rules.specs.World.{World}
 use Rattle.link_calls.specs.declared.receivers.Receivers.{Receivers}
-use Rattle.link_calls.specs.declared.tables.DefaultTable.{DefaultTable}
 use Rattle.link_calls.specs.declared.tables.KeyTables.{KeyTables}
-use Rattle.link_calls.specs.declared.tables.LeastTable.{LeastTable}
-use Rattle.link_calls.specs.declared.tables.PartTable.{PartTable}
 use Rattle.link_calls.specs.Selected.{IsSelection}
+use Rattle.number_sets.specs.Tables.{AreKept, Entries}
 
 -- the classes that may have objects stand at their places, and no others
 pub record AreMarks (w : World) (places : List ℕ) (marks : List (Option ℕ)) : Type 0 where
@@ -39,9 +36,9 @@ pub record AreReceivers (w : World) (r : Receivers) : Type 0 where
 abbrev pub AreDefaultsOf : World → Receivers → ℕ → List DefaultTurn → Type 0
 AreDefaultsOf w r key turns = TellDefaults w.rows r.layout.places.now key turns
 
--- the turns that are kept for the key
-abbrev pub AreKnownDefaults : World → Receivers → DefaultTable → Type 0
-AreKnownDefaults w r table = (key : ℕ) → IfSome (tree.get nat_cmp table.turns key) (λ turns. AreDefaultsOf w r key turns.items)
+-- what is kept for keys are their turns
+abbrev pub AreKnownDefaults : World → Receivers → Entries (Vec DefaultTurn) → Type 0
+AreKnownDefaults w r entries = AreKept (λ key turns. AreDefaultsOf w r key turns.items) entries
 
 -- the parts of the key: they tell what is selected from the classes that may have objects
 pub record ArePartsOf (w : World) (r : Receivers) (key : ℕ) (parts : List Part) : Type 0 where
@@ -50,11 +47,11 @@ pub record ArePartsOf (w : World) (r : Receivers) (key : ℕ) (parts : List Part
   pub selects : (class : ℕ) → class < length w.rows.classes → IsSelection w.rows class key (select (slice_index r.layout.places.now class))
   pub told : TellParts r.objects select parts
 
--- the parts that are kept for the key
-abbrev pub AreKnownParts : World → Receivers → PartTable → Type 0
-AreKnownParts w r table = (key : ℕ) → IfSome (tree.get nat_cmp table.parts key) (λ parts. ArePartsOf w r key parts.items)
+-- what is kept for keys are their parts
+abbrev pub AreKnownParts : World → Receivers → Entries (Vec Part) → Type 0
+AreKnownParts w r entries = AreKept (λ key parts. ArePartsOf w r key parts.items) entries
 
--- what is kept for keys
+-- what is kept for keys, of either kind
 pub record AreKnownByKey (w : World) (r : Receivers) (keys : KeyTables) : Type 0 where
   pub defaults : AreKnownDefaults w r keys.defaults
   pub parts : AreKnownParts w r keys.parts
@@ -63,9 +60,9 @@ pub record AreKnownByKey (w : World) (r : Receivers) (keys : KeyTables) : Type 0
 abbrev pub AreLeastsOf : Receivers → ℕ → List (Option ℕ) → Type 0
 AreLeastsOf r class leasts = AreLeasts r.objects (group r.layout.reach.now class) leasts
 
--- the least classes that are kept for the class
-abbrev pub AreKnownLeasts : Receivers → LeastTable → Type 0
-AreKnownLeasts r table = (class : ℕ) → IfSome (tree.get nat_cmp table.leasts class) (λ leasts. AreLeastsOf r class leasts)
+-- what is kept for classes are their least classes
+abbrev pub AreKnownLeasts : Receivers → Entries (List (Option ℕ)) → Type 0
+AreKnownLeasts r entries = AreKept (AreLeastsOf r) entries
 
 -- what is selected from the class; and where it is something, so it is from that of a choice, which is no later
 pub record HasChoice (rows : Rows) (key : ℕ) (choices : List Choice) (class : ℕ) : Type 0 where

@@ -11,10 +11,10 @@ ghost use Rattle.link_calls.specs.Receivers.{AreDefaultsOf, AreKnownDefaults, Ar
 
 use super::receivers::Receivers;
 use super::row_set::RowSet;
-use super::tables::DefaultTable;
 use default_turns::DefaultTurn;
 use link_classes::Classes;
 use lists::NoMemory;
+use number_sets::NumberTable;
 use object_ranges::{Minima, Part, Selection};
 use std::alloc::Global;
 
@@ -88,7 +88,7 @@ pub(crate) fn by_name(
     alloc: Global,
     classes: &Classes,
     receivers: &Receivers,
-    defaults: &mut DefaultTable,
+    defaults: &mut NumberTable<Vec<DefaultTurn>>,
     class: u32,
     key: u32,
 ) -> Result<Found, NoMemory>
@@ -102,7 +102,7 @@ pub(crate) fn by_name(
         return at_one(alloc, Some(row), false);
     }
     if let Some(turns) = defaults.get(key) {
-        return by_defaults(alloc, receivers, turns, class);
+        return by_defaults(alloc, receivers, turns.as_slice(), class);
     }
     let turns = receivers.defaults(alloc, classes, key)?;
     let found = by_defaults(alloc, receivers, turns.as_slice(), class)?;

@@ -9,10 +9,12 @@ ghost use Rattle.link_rules.specs.Classes.{methods_of};
 
 use super::finding::{Found, by_name, by_objects, by_path};
 use super::receivers::Receivers;
-use super::tables::{DefaultTable, KeyTables, LeastTable};
+use super::tables::KeyTables;
+use default_turns::DefaultTurn;
 use jim_ast::Mode;
 use link_classes::Classes;
 use lists::NoMemory;
+use number_sets::NumberTable;
 use object_ranges::{Minima, Part};
 use std::alloc::Global;
 use std::collections::BTreeMap;
@@ -65,7 +67,7 @@ pub struct Targets<'a> {
     classes: &'a Classes<'a>,
     receivers: Receivers<'a>,
     keys: KeyTables,
-    leasts: LeastTable,
+    leasts: NumberTable<Minima>,
     known: Known,
 }
 
@@ -82,26 +84,23 @@ impl<'a> Model for Targets<'a> {
         × AreKnown t.classes.now.world t.known };
 }
 
-// The parts of a key, by its turns of default methods: these are worked out where they aren't known.
+// The parts of a key, by its turns of default methods. Where these aren't known, they are worked out and kept no longer than the parts need them.
 fn made_parts(
     alloc: Global,
     classes: &Classes,
     receivers: &Receivers,
-    defaults: &mut DefaultTable,
+    defaults: &NumberTable<Vec<DefaultTurn>>,
     key: u32,
 ) -> Result<Vec<Part>, NoMemory>
     requires receivers { AreReceivers classes.now.world receivers.now }
-    requires defaults { AreKnownDefaults classes.now.world receivers.now defaults.old }
-    ensures parts { IfOk result (λ parts. ArePartsOf classes.now.world receivers.now key parts.items) }
-    ensures kept { AreKnownDefaults classes.now.world receivers.now defaults.new }
+    requires defaults { AreKnownDefaults classes.now.world receivers.now defaults.now }
+    ensures { IfOk result (λ parts. ArePartsOf classes.now.world receivers.now key parts.items) }
 {
     if let Some(turns) = defaults.get(key) {
-        return receivers.parts(alloc, turns, key);
+        return receivers.parts(alloc, turns.as_slice(), key);
     }
     let turns = receivers.defaults(alloc, classes, key)?;
-    let parts = receivers.parts(alloc, turns.as_slice(), key)?;
-    defaults.put(key, turns)?;
-    Ok(parts)
+    receivers.parts(alloc, turns.as_slice(), key)
 }
 
 // What a call on an object runs, by the least classes of the spans of the class that it names.
@@ -121,9 +120,9 @@ fn by_leasts(
     ensures kept { AreKnownByKey classes.now.world receivers.now keys.new }
 {
     if let Some(known) = keys.parts.get(asked.key) {
-        return by_objects(alloc, receivers, known, leasts, asked.class);
+        return by_objects(alloc, receivers, known.as_slice(), leasts, asked.class);
     }
-    let made = made_parts(alloc, classes, receivers, &mut keys.defaults, asked.key)?;
+    let made = made_parts(alloc, classes, receivers, &keys.defaults, asked.key)?;
     let found = by_objects(alloc, receivers, made.as_slice(), leasts, asked.class)?;
     keys.parts.put(asked.key, made)?;
     Ok(found)
@@ -147,7 +146,7 @@ impl<'a> Targets<'a> {
             classes,
             receivers,
             keys: KeyTables::new(alloc),
-            leasts: LeastTable::new(alloc),
+            leasts: NumberTable::new(alloc),
             known: Known::new(alloc),
         })
     }

@@ -43,4 +43,5 @@ kept_coded s bs cs old new kept many form indexes =
       few_fields = kept.few_fields;
       form = subst IsInForm (program_coded s bs cs kept.methods.as_many) form;
       indexes = subst (λ codes. AreIndexes codes new) (codes-joined s.heads.heads.items cs methods.as_many) indexes;
+      selections = kept.selections;
     }

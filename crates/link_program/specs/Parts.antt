@@ -1,6 +1,7 @@
 -- A linked program by its parts.
 use Rattle.std.specs.Prelude.{◌<◌, ◌^◌, List, length, map}
 use Rattle.class_rules.specs.Rows.{Rows}
+use Rattle.default_turns.specs.Selections.{AreSelections}
 use Rattle.link_rules.specs.Linked.{LinkedField, LinkedKey, LinkedProgram}
 use Rattle.link_rules.specs.WellLinked.{IsInForm}
 use Rattle.link_indexes.specs.Tables.{AreIndexes, Tables}
@@ -60,6 +61,7 @@ pub record IsKept (s : Shared) (bodies : List MethodCode) (t : Tables) : Type 0 
   pub few_fields : length s.members.fields < 2 ^ 32
   pub form : IsInForm (program_with s bodies)
   pub indexes : AreIndexes (map (λ m. m.code) (methods_with s.heads bodies)) t
+  pub selections : AreSelections s.tree s.selections
 
 -- the program with other code for its methods
 abbrev pub with_code : LinkedProgram → List MethodCode → LinkedProgram

@@ -11,6 +11,7 @@ mod methods;
 mod numbering;
 mod parts;
 mod places;
+mod selecting;
 
 pub use classes::{ClassEntry, ClassTable};
 pub use elements::ElementText;

@@ -1,6 +1,7 @@
 //! The linked program, and what is read of it.
 ghost use Rattle.std.specs.Prelude.{◌≡◌, ◌+◌, ◌<◌, ◌↔◌, ℕ, Some, IfNone, IfOk, IfSome, length, map, slice_get};
 ghost use Rattle.lists.specs.Lists.{IsLeast, Has};
+ghost use Rattle.class_rules.specs.Lookups.{Resolve};
 ghost use Rattle.link_rules.specs.WellLinked.{IsInForm};
 ghost use Rattle.link_indexes.specs.Facts.{Calls, Stores, StoresStatic};
 ghost use Rattle.link_rules.specs.Flow.{IsRaised, IsReturn};
@@ -17,6 +18,7 @@ use super::method::MethodHead;
 use super::methods::Methods;
 use super::parts::{CodePart, MemberPart, Shared};
 use super::places::first_name;
+use super::selecting::selections_of;
 use class_tree::Tree;
 use jim_ast::Name;
 use link_indexes::{Indexes, MethodCode, Place};
@@ -50,7 +52,8 @@ impl Model for Linked {
 }
 
 impl Linked {
-    /// The linked program with these parts and this hierarchy. Its indexes take memory.
+    /// The linked program with these parts and this hierarchy. Its indexes take memory, and so do the default methods that its calls may run: those of keys that
+    /// many interfaces have are worked out beforehand.
     pub fn of_parts(
         alloc: Global,
         code: CodePart,
@@ -68,12 +71,14 @@ impl Linked {
         } = code;
         let Methods { heads, bodies } = methods;
         let indexes = Indexes::new(alloc, bodies.as_slice())?;
+        let selections = selections_of(alloc, &tree, bodies.as_slice())?;
         let shared = Shared {
             heads: Heads { heads },
             rows,
             constants,
             members,
             tree,
+            selections,
         };
         Ok(Linked {
             shared: Arc::new(alloc, shared)?,
@@ -305,6 +310,17 @@ impl Linked {
         ensures { result.now ≡ self.now.rows }
     {
         &self.shared.tree
+    }
+
+    /// The row of the method that a call on an object of the class runs: the one along the parents, or else the one default method that the interfaces reached
+    /// from the class have, as selection in the Java Virtual Machine Specification goes. For a key that a call of the program as it was linked names it takes the
+    /// logarithm of the size of the hierarchy.
+    pub fn resolve(&self, class: u32, key: u32) -> Option<u32>
+        requires { class < length self.now.rows.classes }
+        ensures { Resolve self.now.rows class key result }
+    {
+        let shared = &self.shared;
+        shared.selections.resolve(&shared.tree, class, key)
     }
 
     /// The places of the calls that have the method among their targets, in order.

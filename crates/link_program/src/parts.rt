@@ -4,6 +4,7 @@ use super::heads::Heads;
 use super::methods::Methods;
 use super::numbering::Numbering;
 use class_tree::Tree;
+use default_turns::Selections;
 use jim_ast::{List, Name};
 
 /// The constants, each kind in the order of first use.
@@ -52,4 +53,5 @@ pub struct Shared {
     pub constants: ConstantTexts,
     pub members: MemberPart,
     pub tree: Tree,
+    pub selections: Selections,
 }

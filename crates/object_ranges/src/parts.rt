@@ -10,7 +10,7 @@ ghost use Rattle.object_ranges.specs.declared.selection.Selection.{Selection as 
 use super::minima::Minima;
 use super::selection::{Selection, selection_of};
 use class_tree::{Defaults, Turn};
-use default_turns::{DefaultTurn, defaults_at};
+use default_turns::DefaultTurn;
 use std::alloc::{AllocError, Global};
 
 /// From the classes that may have objects, at the places from `start` up to `end`, without `end`, this is selected.
@@ -75,12 +75,17 @@ fn defaults_from(turns: &[DefaultTurn], place: u32, end: u32) -> (Defaults, u32)
     ensures steady { IsSteady (defaults_at turns.now) place end result.1 }
 {
     let after = turns.partition_point(|turn| turn.at <= place);
+    let defaults = if after > 0 {
+        turns[after - 1].defaults
+    } else {
+        Defaults::Nothing
+    };
     let until = if after < turns.len() {
         end.min(turns[after].at)
     } else {
         end
     };
-    (defaults_at(turns, place), until)
+    (defaults, until)
 }
 
 /// The parts of the turns of a key: of look-ups along the parents, and of default methods. Each part has a class that may have objects, and neighbours have

@@ -2,10 +2,11 @@ use Rattle.std.proofs.Common.{ℕ, ◌↔◌, List, length, subst, inl, inr, ◌
 use Rattle.std.proofs.lemmas.List.Elements.{Contains-get_or}
 use Rattle.class_rules.specs.declared.rows.ClassRow.{ClassRow}
 use Rattle.class_rules.specs.Rows.{rows_of, HasInterface, HasParent, IsOwnAncestor, NamesUnknown, Step}
-use Rattle.class_order.specs.Tables.{ArePlaces, IsReach, Under}
+use Rattle.class_order.specs.Tables.{ArePlaces, IsOver, IsReach, Under}
 use Rattle.class_tree.proofs.Building.{step-below, interfaces_known, reach_map, acyclic_from_places, tells_declared, tells_near}
 use Rattle.class_order.proofs.Reached.{proper_map}
 use Rattle.class_tree.proofs.Held.{tells_holders}
+use Rattle.class_tree.proofs.FirstInterfaces.{over_named}
 use Rattle.class_tree.proofs.Owned.{owners_exact}
 use Rattle.class_tree.proofs.tree.indexed.Goals as goal
 
@@ -41,14 +42,14 @@ acyclic : (classes : List ClassRow) (implements : List (ℕ × ℕ)) (below : Li
     → (a : ℕ) → IsOwnAncestor classes implements a → ⊥
 acyclic classes implements below places steps p = acyclic_from_places (Step classes implements) places (λ a b s. p.falls a b ((steps a b).1 s))
 
-parents_known : (classes : List ClassRow) (implements : List (ℕ × ℕ)) → ((a : ℕ) → NamesUnknown classes implements a → ⊥) → (a b : ℕ) → HasParent classes a b → b < length classes
-parents_known classes implements known a b named = elim (below_or b (length classes)) [ inl h ↦ h | inr h ↦ absurd (known a (b, inl named, h)) ]
+step_known : (classes : List ClassRow) (implements : List (ℕ × ℕ)) → ((a : ℕ) → NamesUnknown classes implements a → ⊥) → (a b : ℕ) → Step classes implements a b → b < length classes
+step_known classes implements known a b above = elim (below_or b (length classes)) [ inl h ↦ h | inr h ↦ absurd (known a (b, above, h)) ]
   where
     below_or : (a b : ℕ) → (a < b) ⊎ (b ≤ a)
     below_or a b = grind arith
 
 pub new-requires-clause-known : goal.new-requires-clause-known
-new-requires-clause-known c = parents_known c.args.classes.now c.args.implements.now c.requires.known
+new-requires-clause-known c = λ a b named. step_known c.args.classes.now c.args.implements.now c.requires.known a b (inl named)
 
 pub new-requires-clause-acyclic : goal.new-requires-clause-acyclic
 new-requires-clause-acyclic c = λ a p. acyclic _ _ _ _ c.requires.steps c.in_ok-ranks.ensures.places a
@@ -59,6 +60,19 @@ new-requires-clause-within c = λ k d h. rw (← c.requires.len) (c.requires.ord
 
 pub new-requires-clause-all : goal.new-requires-clause-all
 new-requires-clause-all c = λ k h. c.requires.order.all k (rw c.requires.len h)
+
+pub new-requires-4-clause-known : goal.new-requires-4-clause-known
+new-requires-4-clause-known c = λ a b m.
+    let named = over_named c.args.implements.now c.in_ok-interfaces.interfaces c.in_ok-interfaces.ensures.lists a b m in
+    omega (arith, c.in_ok-interfaces.ensures.len, step_known c.args.classes.now c.args.implements.now c.requires.known a b (inr named))
+
+pub new-requires-4-clause-acyclic : goal.new-requires-4-clause-acyclic
+new-requires-4-clause-acyclic c = λ a p. acyclic _ _ _ _ c.requires.steps c.in_ok-ranks.ensures.places a
+    (proper_map (IsOver c.in_ok-interfaces.interfaces) (Step c.args.classes.now c.args.implements.now)
+    (λ x y m. inr (over_named c.args.implements.now c.in_ok-interfaces.interfaces c.in_ok-interfaces.ensures.lists x y m)) a a p)
+
+pub new-requires-4-clause-within : goal.new-requires-4-clause-within
+new-requires-4-clause-within c = λ k d h. omega (arith, c.in_ok-interfaces.ensures.len, c.requires.len, c.requires.order.settled.within _ (Contains-get_or c.args.order.now k d h))
 
 pub new-requires-3-clause-bodies : goal.new-requires-3-clause-bodies
 new-requires-3-clause-bodies c = c.in_ok-members.ensures.bodies
@@ -88,6 +102,7 @@ invariant_of-result c =
       holders = tells_holders (rows_of c.args.classes.now c.args.implements.now c.args.methods.now c.args.fields.now) _ declares.interfaces;
       fields = c.in_ok-members.ensures.own_fields;
       along = c.in_ok-inherited.ensures;
+      firsts = c.in_ok-first_fields.ensures;
     })
 
 pub returns-clause-acyclic : goal.returns-clause-acyclic

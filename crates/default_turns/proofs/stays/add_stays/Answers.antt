@@ -17,10 +17,10 @@ loop-span-preserved c =
     bare_more c.args.row c.get-span-items.result.now hidden c.loop-span.span-index none c.args.stays.now.items c.loop-span.stays.items c.add_bare.new.stays.items c.loop-span-test.true
     (rw (← c.as_slice.ensures.value) c.in_ok-add_bare.ensures) c.loop-span.invariant
 
-pub returns : goal.returns
-returns c =
+pub returns-clause-added : goal.returns-clause-added
+returns-clause-added c =
     let hidden = c.in_ok-hidden.hidden.items in
     let whole = take_all c.loop-span.span-index c.get-span-items.result.now c.loop-span-test.false in
-    bare_of c.args.placed.tree.now c.args.placed.layout c.requires.laid c.args.holders.now c.args.interface c.args.row c.requires.interface hidden c.in_ok-hidden.ensures.exact
+    bare_of c.args.line.placed.tree.now c.args.line.placed.layout c.requires.line.laid c.args.line.holders.now c.args.interface c.args.row c.requires.interface hidden c.in_ok-hidden.ensures.exact
     c.args.stays.now.items c.loop-span.stays.items
     (subst (λ xs. AddsAt c.args.row (BareIn xs hidden) c.args.stays.now.items c.loop-span.stays.items) (whole ∙ c.get-span-items.ensures) c.loop-span.invariant)

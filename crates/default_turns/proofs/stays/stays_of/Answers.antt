@@ -9,3 +9,6 @@ returns-clause-stays c = stays_permuted c.args.placed.tree.now c.args.placed.lay
 
 pub returns-clause-sorted : goal.returns-clause-sorted
 returns-clause-sorted c = IsNonDecreasingBy-from_sort_by_key (λ (s : Stay). s.start) _ c.sort_unstable_by_key.ensures.sorted (λ a r q k. search rules)
+
+pub all_stays-requires-clause-holders : goal.all_stays-requires-clause-holders
+all_stays-requires-clause-holders c = rw c.as_slice-2.ensures.value c.in_ok-holders.ensures.exact

@@ -5,11 +5,11 @@ use Rattle.jim_step.proofs.calls.found.Goals as goal
 
 pub returns-in_default-clause-none : goal.returns-in_default-clause-none
 returns-in_default-clause-none c =
-    none_by_row c.args.linked.now c.args.class c.args.key c.resolve.result c.in_default.is (rw c.tree.ensures at c.resolve.ensures)
+    none_by_row c.args.linked.now c.args.class c.args.key c.resolve.result c.in_default.is c.resolve.ensures
 
 pub returns-in_default-method_of_row-clause-none : goal.returns-in_default-method_of_row-clause-none
 returns-in_default-method_of_row-clause-none c = λ number m finds.
-    let there = row_found c.args.linked.now c.args.class c.args.key c.resolve.result c.in-Some.row c.in-Some.is (rw c.tree.ensures at c.resolve.ensures) number m finds in
+    let there = row_found c.args.linked.now c.args.class c.args.key c.resolve.result c.in-Some.row c.in-Some.is c.resolve.ensures number m finds in
     let some = (c.method_of_row.ensures number).1 there in
     cc (some, c.in_default-method_of_row.is)
 
@@ -19,7 +19,7 @@ code-requires c = numbered_below c.args.linked.now c.in-Some-method_of_row.numbe
 
 pub returns-then-is_empty-clause-none : goal.returns-then-is_empty-clause-none
 returns-then-is_empty-clause-none c = λ number m finds.
-    let there = row_found c.args.linked.now c.args.class c.args.key c.resolve.result c.in-Some.row c.in-Some.is (rw c.tree.ensures at c.resolve.ensures) number m finds in
+    let there = row_found c.args.linked.now c.args.class c.args.key c.resolve.result c.in-Some.row c.in-Some.is c.resolve.ensures number m finds in
     let some = (c.method_of_row.ensures number).1 there in
     let same : number ≡ c.in-Some-method_of_row.number = cc (some, c.in-Some-method_of_row.is) in
     let code = c.code.ensures m (rw same at finds.there) in
@@ -35,7 +35,7 @@ returns-clause-some c =
       m.0,
       record {
         row = c.in-Some.row;
-        resolved = rw c.in-Some.is at (rw c.tree.ensures at c.resolve.ensures);
+        resolved = rw c.in-Some.is at c.resolve.ensures;
         numbered = numbered;
         there = m.1;
         has_statements = omega (arith, some_length (length c.code.result.now) (sym c.is_empty.ensures ∙ c.if-is_empty.false), ap length code);

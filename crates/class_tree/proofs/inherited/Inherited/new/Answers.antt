@@ -1,17 +1,13 @@
-use Rattle.std.proofs.Common.{◌≡◌, ℕ, ◌<◌, Option, length, map, subst, sym}
+use Rattle.std.proofs.Common.{◌<◌, length, map, subst, sym}
 use Rattle.std.proofs.lemmas.List.Elements.{All-map}
 use Rattle.class_tree.specs.declared.first_rows.Member.{Member}
 use Rattle.class_tree.specs.KeySpans.{member_of_method}
 use Rattle.class_tree.specs.Turns.{AreRowsOf, TellPaths}
-use Rattle.class_tree.proofs.Slots.{body_rows}
+use Rattle.class_tree.proofs.Slots.{body_rows, same_rows}
 use Rattle.class_tree.proofs.inherited.Inherited.new.Goals as goal
 
 pub new-requires-clause-members : goal.new-requires-clause-members
 new-requires-clause-members c = rw (c.as_slice.ensures.value, c.in_ok-members.ensures) (All-map (λ (m : Member). m.class < length c.args.classes.now) member_of_method c.args.methods.now c.requires.methods)
-
--- two functions of a class and a key that give the same are one
-same_rows : {f g : ℕ → ℕ → Option ℕ} → ((c k : ℕ) → f c k ≡ g c k) → f ≡ g
-same_rows same j c k = same c k j
 
 pub new-requires-clause-rows : goal.new-requires-clause-rows
 new-requires-clause-rows c = rw (c.as_slice.ensures.value, c.in_ok-members.ensures)

@@ -4,4 +4,4 @@ pub invariant_of-result : goal.invariant_of-result
 invariant_of-result c =
     let world = c.args.classes.now.world in
     let receivers = c.in_ok-receivers.receivers in
-    (c.in_ok-receivers.ensures, c.new-2.ensures world receivers, c.new-3.ensures receivers, c.new-4.ensures world)
+    (c.in_ok-receivers.ensures, c.new-2.ensures world receivers, rw c.new-3.ensures (λ class. tt), c.new-4.ensures world)

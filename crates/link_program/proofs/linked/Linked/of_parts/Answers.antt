@@ -15,4 +15,5 @@ invariant_of-result c =
       few_fields = c.requires.parts.few_fields;
       form = c.requires.form;
       indexes = subst (λ cs. AreIndexes cs c.in_ok-indexes.indexes) (codes-joined heads bodies m.as_many) indexes;
+      selections = c.in_ok-selections.ensures;
     })
