@@ -1,11 +1,13 @@
 -- What a request about a program that is linked is answered.
-use Rattle.std.proofs.Common.{◌≡◌, ℕ, zero, suc, List, [], ◌∷◌, ◌++◌, Option, codes, length, refl, subst, sym, arith, inl, inr, slice_get, Some}
+use Rattle.std.proofs.Common.{◌≡◌, ℕ, zero, suc, List, [], ◌∷◌, ◌++◌, ◌⊎◌, ◌∙◌, Option, ap, codes, length, refl, subst, sym, arith, inl, inr, slice_get, Some}
+use Rattle.std.specs.Fmt.{decimal}
+use Rattle.std.proofs.lemmas.Option.{same_Some}
 use Rattle.std.specs.Io.KnownBytes.{Appends}
 use Rattle.lists.specs.Lists.{Has}
 use Rattle.jim_ast.specs.declared.syntax.Program.{Program}
 use Rattle.jim_parse.proofs.ProgramLemmas.{spells_one}
 use Rattle.link_rules.specs.Conditions.{IsRead}
-use Rattle.link_rules.specs.Linked.{LinkedProgram}
+use Rattle.link_rules.specs.Linked.{LinkedMethod, LinkedProgram}
 use Rattle.link_rules.specs.WellLinked.{IsWellLinked}
 use Rattle.link_laws.proofs.Lists.{each_left}
 use Rattle.link_laws.proofs.Whole.{links_well}
@@ -13,6 +15,8 @@ use Rattle.link_laws.proofs.OneLink.{link_one}
 use Rattle.read_laws.proofs.Programs.{derived_read}
 use Rattle.link_sites.specs.declared.site.Site.{Site}
 use Rattle.spds_rules.specs.declared.node.Node.{Node}
+use Rattle.spds_rules.specs.Answers as answers
+use Rattle.spds_rules.specs.Demand.{about}
 use Rattle.demand_set.proofs.Counts.{HasMore-not}
 use Rattle.run_covers.specs.Covers.{IsCovered}
 use Rattle.run_covers.proofs.Whole.{links_covered}
@@ -21,19 +25,20 @@ use Rattle.query_core.specs.Places.{IsPlaceOf}
 use Rattle.query_core.proofs.NamedPlaces.{place_one, place_there, places_one, places_there}
 use Rattle.query_core.proofs.Sound.{answer_sound, shared_sound}
 use Rattle.report_text.specs.Aliases.{IsSharedLine, verdict_lines}
-use Rattle.report_text.specs.Answers.{IsAcceptedText, IsAnswerText, IsSiteLine, count_lines}
+use Rattle.report_text.specs.Answers.{IsAcceptedText, IsAnswerText, IsQueryLine, IsSiteLine, count_lines}
 use Rattle.report_text.specs.Lines.{text_of}
 use Rattle.boom_words.specs.Requests.{Alias, PointsTo, Question, Request, Typestate, alias, batch, demo, explain, paths, points_to, refined, replay, run, typestate}
 use Rattle.boom_top.specs.Demo.{IsDemoText, demo_asked}
 use Rattle.cert_rules.specs.declared.certificate.Certificate.{Certificate}
 use Rattle.cert_laws.proofs.Complete.{answered_certified}
+use Rattle.cert_laws.proofs.Sound.{certified_answered}
 use Rattle.cert_text.proofs.OneText.{certificate_one, spelled_bad}
 use Rattle.cert_query.specs.Replays.{IsAccepted}
 use Rattle.cert_query.proofs.Outcomes.{over_accepted, rejected_accepted}
-use Rattle.boom_top.specs.Evidence.{HasEvidence, PrintsEachShown}
+use Rattle.boom_top.specs.Evidence.{HasEvidence, IsEvident, PrintsEachShown}
 use Rattle.boom_top.specs.Queries.{Accepted, program_in, rest_in, source_of}
 use Rattle.boom_top.specs.Replies.{AreAliased, AreAnsweredAll, IsAliasReply, IsAnswered, IsCertificateReply, IsJoinedReply, IsLinkedReply, IsPlaceReply, IsProgramReply, IsProtocolReply, IsReplayReply, IsReplyTo, IsTextReply, IsTypestateReply, asked_of}
-use Rattle.boom_top.specs.Runs.{CoversAllRuns, HasAnswer, IsCertificateOf, IsJudgeable, IsWithin, PrintsAllAliases, PrintsAllRuns, PrintsEachAllRuns, TellsAllRuns}
+use Rattle.boom_top.specs.Runs.{CoversAllRuns, HasAnswer, IsCertificateOf, IsJudgeable, IsWithin, PrintsAllAliases, PrintsAllRuns, IsRefusalText, PrintsEachAllRuns, RepeatsQuery, TellsAllRuns}
 use Rattle.boom_top.specs.declared.status.Status.{Status}
 use Rattle.boom_top.specs.declared.status.Status.TheVariants.{Done, NoSuchPlace, NotCertificate, NotProtocol, OverBudget, Rejected}
 use Rattle.boom_top.specs.Safety.{SaysSafe}
@@ -42,7 +47,7 @@ use Rattle.track_runs.specs.Monitor.{IsSafe}
 use Rattle.track_verdicts.specs.Verdicts as verdict
 use Rattle.explain_text.specs.Explanations.{IsExplainText}
 use Rattle.explain_text.proofs.Asked.{place_named}
-use Rattle.explain_text.proofs.Found.{explanation_of, has_explained}
+use Rattle.explain_text.proofs.Found.{has_explained}
 use Rattle.batch_lines.specs.Queries.{AreQueries, QueryParts}
 use Rattle.boom_top.proofs.Batched.{batch_answers, batch_enough, own_lines, texts, writes_each}
 use Rattle.boom_top.proofs.Ending.{says_none}
@@ -145,17 +150,52 @@ answered_at p asked n s lines place affordable (inr (m, here, inl over)) =
 answered_at p asked n s lines place affordable (inr (m, here, inr a)) =
     subst (λ (n : Node). IsAnswered p (IsAnswerText p) asked.budget n lines) (place_one p asked.method asked.index asked.local m n here place) a.0
 
--- so has the answer to each query of a batch
+-- the line that repeats a query about a place
+query_line : (p : LinkedProgram) (word method : List ℕ) (index : ℕ) (local : List ℕ) (n : Node) (line : List ℕ) → IsPlaceOf p method index local n
+    → IsQueryLine p word n line → line ≡ word ++ codes " " ++ (method ++ codes " " ++ decimal index ++ codes " " ++ local)
+query_line p word method index local n line place is =
+    let here = subst (λ (m : Node). IsQueryLine p word m line) place.is is in
+    let target = here.target_is in
+    let at_is = target.at_is in
+    let name_is = target.name_is in
+    let found = place.is_method.first.holds in
+    let text : at_is.method.text ≡ method = ap (λ (m : LinkedMethod). m.text) (same_Some at_is.method found.method (sym at_is.there ∙ found.there)) ∙ found.is_text in
+    let at : target.at ≡ method ++ codes " " ++ decimal index = at_is.text_is ∙ ap (λ t. t ++ codes " " ++ decimal index) text in
+    let owner = same_Some name_is.method place.method (sym name_is.there ∙ place.is_method.there) in
+    let name : target.name ≡ local = same_Some target.name local
+    (sym name_is.named ∙ ap (λ (m : LinkedMethod). slice_get m.locals place.local) owner ∙ place.is_local.holds) in
+    here.line_is ∙ ap (λ t. word ++ codes " " ++ t) (target.text_is ∙ ap (λ t. t ++ codes " " ++ target.name) at
+    ∙ ap (λ t. method ++ codes " " ++ decimal index ++ codes " " ++ t) name)
+
+-- so has the answer to each query of a batch, if it isn't refused
 each_covered : (p : LinkedProgram) → IsWellLinked p → IsCovered p → (budget : ℕ) (queries : List QueryParts) (lines : List (List ℕ)) → AreAnsweredAll p budget queries lines
-    → (old new : Option (List ℕ)) → Appends old new (text_of lines) → PrintsEachAllRuns p budget queries old new
+    → (old new : Option (List ℕ)) → Appends old new (text_of lines) → PrintsEachAllRuns p queries old new
 each_covered p well covered budget queries lines all old new wrote = record {
   texts = texts p budget queries lines all;
   writes = writes_each p budget queries lines all old new wrote;
-  covers = λ i q text here there n place affordable.
+  covers = λ i q text here there n place.
       let own = own_lines p budget queries lines all i q text here there in
-      let a = answered_at p (asked_of budget q) n own.1.0 own.0 place affordable own.1.1 in
-      subst (TellsAllRuns p n) (sym own.2) (tells_covered p well covered own.0 budget n a);
-}
+      subst (Covers q n) (sym own.2) (query_covered q n own.1.0 own.0 place own.1.1);
+} where
+  Covers : QueryParts → Node → List ℕ → Type 0
+  Covers q n text = IsRefusalText text ⊎ (RepeatsQuery q text × TellsAllRuns p n text)
+
+  query_covered : (q : QueryParts) (n : Node) (s : Status) (lines : List (List ℕ)) → IsPlaceOf p q.method q.index q.local n
+      → IsPlaceReply p (asked_of budget q) (IsAnswerText p) s lines → Covers q n (text_of lines)
+  query_covered q n s lines place (inl a) = absurd (place_there p q.method q.index q.local n place a.0 a.1)
+  query_covered q n s lines place (inr (m, here, inl over)) = inl (codes "OverBudget " ++ decimal budget, ap text_of over.1.1)
+  query_covered q n s lines place (inr (m, here, inr a)) =
+      let same = place_one p q.method q.index q.local m n here place in
+      let answered = subst (λ (n : Node). IsAnswered p (IsAnswerText p) budget n lines) same a.0 in
+      let told = answered.told in
+      inr (
+        (
+          told.lines ++ count_lines (length answered.sites) answered.demanded,
+          told.text_is ∙ ap (λ l. text_of (l ∷ (told.lines ++ count_lines (length answered.sites) answered.demanded)))
+              (query_line p (codes "points-to") q.method q.index q.local n told.query place told.query_is),
+        ),
+        tells_covered p well covered lines budget n answered,
+      )
 
 -- what is done covers each run
 module _ (p : LinkedProgram) (well : IsWellLinked p) (covered : IsCovered p) (old new : Option (List ℕ)) (lines : List (List ℕ)) (wrote : Appends old new (text_of lines)) where
@@ -259,12 +299,17 @@ module _ (p : LinkedProgram) (well : IsWellLinked p) (covered : IsCovered p) (ol
       let none = says_none p j entry a.0.verdict (text_of lines) a.0.told old new wrote says in
       subst (IsSafe p) (protocol_one p asked.protocol j k of is) (safe_verdict p j well covered a.0.verdict a.0.is_verdict none)
 
--- each site of the answer to a query of a batch is shown by some list of lines
+-- a site that both systems have at the node is evident
+evident : (p : LinkedProgram) (n : Node) (o : Site) → answers.IsAnswered p (about n) n o → IsEvident p n o
+evident p n o is = record { answered = is; shown = answered_certified p n o is }
+
+-- each site of the answer to a query of a batch is evident
 each_evident : (p : LinkedProgram) (budget : ℕ) (queries : List QueryParts) (lines : List (List ℕ)) → AreAnsweredAll p budget queries lines
     → (old new : Option (List ℕ)) → Appends old new (text_of lines) → PrintsEachShown p budget queries old new
 each_evident p budget queries lines all old new wrote = record {
   texts = texts p budget queries lines all;
   writes = writes_each p budget queries lines all old new wrote;
+  answers = own_lines p budget queries lines all;
   shown = λ i q text here there n place affordable.
       let own = own_lines p budget queries lines all i q text here there in
       let a = answered_at p (asked_of budget q) n own.1.0 own.0 place affordable own.1.1 in
@@ -272,12 +317,12 @@ each_evident p budget queries lines all old new wrote = record {
         sites = a.sites;
         demanded = a.demanded;
         told = subst (IsAnswerText p n a.sites a.demanded) (sym own.2) a.told;
-        shown = λ o has. answered_certified p n o ((a.answer.answer.each o).0 has);
+        shown = λ o has. evident p n o ((a.answer.answer.each o).0 has);
       };
 }
 
 -- there is evidence for what is done
-module _ (p : LinkedProgram) (old new : Option (List ℕ)) (lines : List (List ℕ)) (wrote : Appends old new (text_of lines)) where
+module _ (p : LinkedProgram) (well : IsWellLinked p) (old new : Option (List ℕ)) (lines : List (List ℕ)) (wrote : Appends old new (text_of lines)) where
   -- each site of an answer is shown by some list of lines
   place_evident : (rest : List ℕ) (asked : PointsTo) → IsPlaceReply p asked (IsAnswerText p) Done lines → HasEvidence p rest (points_to asked) old new
   place_evident rest asked (inl a) = absurd (let no : Done ≡ NoSuchPlace a.0 = a.2.0 in cc)
@@ -290,7 +335,7 @@ module _ (p : LinkedProgram) (old new : Option (List ℕ)) (lines : List (List �
     text = text_of lines;
     told = a.0.told;
     wrote = wrote;
-    shown = λ o has. answered_certified p m o ((a.0.answer.answer.each o).0 has);
+    shown = λ o has. evident p m o ((a.0.answer.answer.each o).0 has);
   }
 
   -- or by the certificate that is printed with it
@@ -305,8 +350,24 @@ module _ (p : LinkedProgram) (old new : Option (List ℕ)) (lines : List (List �
     text = text_of lines;
     told = a.0.told;
     wrote = wrote;
-    shown = λ o has. let shown = explanation_of p m a.0.sites a.0.told.lines a.0.told.lines_are o has in (shown.1.certificate, shown.1.explained);
+    answered = λ o has. (a.0.answer.answer.each o).0 has;
     replayed = explanation_accepted p m a.0.sites a.0.demanded (place_named p asked.method asked.index asked.local m here) a.0.answer;
+  }
+
+  -- what two locals share both have
+  alias_evident : (rest : List ℕ) (asked : Alias) → IsAliasReply p asked Done lines → HasEvidence p rest (alias asked) old new
+  alias_evident rest asked (inl a) = absurd (let no : Done ≡ NoSuchPlace a.0 = a.2.0 in cc)
+  alias_evident rest asked (inr (m, n, here, inl over)) = absurd (let no : Done ≡ OverBudget asked.budget = over.1.0 in cc)
+  alias_evident rest asked (inr (m, n, here, inr a)) = record {
+    first = m;
+    second = n;
+    places = here;
+    sites = a.0.sites;
+    demanded = a.0.demanded;
+    text = text_of lines;
+    told = a.0.told;
+    wrote = wrote;
+    shared = λ o has. (a.0.shared.shared.each o).0 has;
   }
 
   -- and what a certificate claims by its own
@@ -323,13 +384,14 @@ module _ (p : LinkedProgram) (old new : Option (List ℕ)) (lines : List (List �
     told = subst (λ (n : Node). IsAcceptedText p n a.0.site a.0.demanded (text_of lines)) a.0.accepted.is_target a.0.told;
     wrote = wrote;
     certified = a.0.accepted.certified;
+    answered = certified_answered p c.target well c.lines a.0.site a.0.accepted.certified;
   }
 
   pub linked_evident : (entry rest : List ℕ) (q : Question) → IsLinkedReply p entry rest q Done lines → HasEvidence p rest q old new
   linked_evident entry rest (points_to asked) reply = place_evident rest asked reply
   linked_evident entry rest (explain asked) reply = explain_evident rest asked reply
   linked_evident entry rest (replay budget) reply = replay_evident budget rest reply
-  linked_evident entry rest (alias asked) reply = tt
+  linked_evident entry rest (alias asked) reply = alias_evident rest asked reply
   linked_evident entry rest (paths asked) reply = tt
   linked_evident entry rest (run asked) reply = tt
   linked_evident entry rest (typestate asked) reply = tt
@@ -352,7 +414,7 @@ module _ (r : Request) (bytes : List ℕ) (q : Accepted r bytes) where
   prelude_read : IsRead q.links.prelude
   prelude_read = let spelled = q.links.is_prelude.spelled in derived_read _ spelled.tokens q.links.prelude spelled.derived
 
-  well : IsWellLinked q.linked
+  pub well : IsWellLinked q.linked
   well = links_well q.input q.links.prelude r.entry q.linked input_read prelude_read q.links.is_prelude.nine q.links.links
 
   covered : IsCovered q.linked
@@ -392,7 +454,7 @@ module _ (r : Request) (bytes : List ℕ) (q : Accepted r bytes) where
   -- and there is evidence for it
   pub evidence : (old new : Option (List ℕ)) (lines : List (List ℕ)) → Appends old new (text_of lines) → IsReplyTo r bytes Done lines
       → HasEvidence q.linked rest r.question old new
-  evidence old new lines wrote reply = linked_evident q.linked old new lines wrote r.entry rest r.question (reaches Done lines reply)
+  evidence old new lines wrote reply = linked_evident q.linked well old new lines wrote r.entry rest r.question (reaches Done lines reply)
 
 -- where the answer about a protocol says safe, no run breaks it
 pub safe : (entry : List ℕ) (asked : Typestate) (bytes : List ℕ) (q : Accepted (record { entry = entry; question = typestate asked }) bytes) (old new : Option (List ℕ))

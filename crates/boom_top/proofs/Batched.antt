@@ -59,11 +59,10 @@ module _ (p : LinkedProgram) (budget : ℕ) (queries : List QueryParts) (lines :
       let found = zip_there (AnswersQuery p budget) queries all.answers i q all.each here in
       (found.0, found.2, same_Some text (text_of found.0) (sym there ∙ map_there all.answers i found.0 found.1))
 
-  pub writes_each : (old new : Option (List ℕ)) → Appends old new (text_of lines) → WritesEach p budget queries texts old new
+  pub writes_each : (old new : Option (List ℕ)) → Appends old new (text_of lines) → WritesEach queries texts old new
   writes_each old new wrote = record {
     as_many = length-map all.answers text_of ∙ sym (zip_length (AnswersQuery p budget) queries all.answers all.each);
     wrote = subst (λ t. Appends old new t) whole wrote;
-    answers = own_lines;
   }
 
 -- a batch has one status

@@ -30,7 +30,7 @@ one_way a b (inr p) (inr q) = omega arith
 
 module _ (p : LinkedProgram) (k : ProtocolParts) where
   -- a protocol asks one query
-  query_one : (q r : Asked) → IsQuery p k q → IsQuery p k r → q ≡ r
+  pub query_one : (q r : Asked) → IsQuery p k q → IsQuery p k r → q ≡ r
   query_one q r x y =
       let targets = ordered_one (λ (a b : Node). ComesBefore a.place b.place) one_way q.targets r.targets x.ordered y.ordered
       (λ n has. (y.asked.receivers n).1 ((x.asked.receivers n).0 has)) (λ n has. (x.asked.receivers n).1 ((y.asked.receivers n).0 has)) in

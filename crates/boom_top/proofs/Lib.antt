@@ -8,6 +8,7 @@ pub mod Ending
 pub mod Judged
 pub mod Noded
 pub mod Once
+pub mod OneReply
 pub mod OneText
 pub mod Pathed
 pub mod Narrower

@@ -109,5 +109,6 @@ refined_evident p asked old new lines wrote (inr (m, here, inr a)) = record {
   text = text_of lines;
   told = a.0.told;
   wrote = wrote;
+  answered = λ o has. (a.0.answer.answer.answer.each o).0 has;
   shown = λ o has. answered_certified a.0.answer.left m o ((a.0.answer.answer.answer.each o).0 has);
 }

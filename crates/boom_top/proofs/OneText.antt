@@ -3,6 +3,7 @@ use Rattle.std.proofs.Common.{◌≡◌, ℕ, zero, suc, ◌-◌, ◌<◌, ◌++
 use Rattle.std.proofs.lemmas.Bool.{cases_lt}
 use Rattle.std.proofs.lemmas.List.{length-map}
 use Rattle.std.proofs.lemmas.Option.{get_or_from_slice_get, same_Some, slice_get_within}
+use Rattle.lists.proofs.Places.{slice_get-below, slice_get-extensional, slice_get-there}
 use Rattle.lists.specs.Lists.{Has, AreIncreasing, Each}
 use Rattle.link_rules.specs.declared.code.Code.{Code}
 use Rattle.link_rules.specs.declared.code.Code.TheVariants.{New, NewArray, NewMulti}
@@ -22,7 +23,7 @@ use Rattle.spds_nodes.proofs.Statements.{CodeAt-one}
 use Rattle.query_core.proofs.Determined.{answer_one, answer_over}
 use Rattle.query_core.proofs.NamedPlaces.{missing_one, place_one, place_there}
 use Rattle.query_core.specs.Answers.{IsOver}
-use Rattle.report_text.specs.Answers.{IsAnswerText, IsQueryLine, IsSiteLine, IsTargetText, IsVarName, count_lines}
+use Rattle.report_text.specs.Answers.{IsAnswerText, IsQueryLine, IsTargetText, IsVarName, IsWordedSite, count_lines}
 use Rattle.report_text.specs.Lines.{text_of}
 use Rattle.report_text.specs.Texts.{IsArrayText, IsMadeAt, IsMadeText, IsNewText, IsPlaceText, IsSiteText, constant_text}
 use Rattle.boom_words.specs.Requests.{PointsTo}
@@ -31,12 +32,22 @@ use Rattle.boom_top.specs.Replies.{IsAnswered, IsBudgetReply, IsPlaceReply}
 use Rattle.boom_top.specs.declared.status.Status.{Status}
 use Rattle.boom_top.specs.declared.status.Status.TheVariants.{Done, NoSuchPlace, OverBudget}
 
+-- where each element has one line, each list of elements has one list of lines
+pub each_one : {X : Type 0} (R : X → List ℕ → Type 0) → ((x : X) (a b : List ℕ) → R x a → R x b → a ≡ b)
+    → (items : List X) (xs ys : List (List ℕ)) → Each R items xs → Each R items ys → xs ≡ ys
+each_one R one items xs ys x y = slice_get-extensional xs ys (sym x.as_many ∙ y.as_many) same
+  where
+    same : (i : ℕ) (a b : List ℕ) → slice_get xs i ≡ Some a → slice_get ys i ≡ Some b → a ≡ b
+    same i a b here there =
+        let item = slice_get-there items i (let below = slice_get-below xs i a here in let long = x.as_many in omega (arith, below, long)) in
+        one item.0 a b (x.each i item.0 a item.1 here) (y.each i item.0 b item.1 there)
+
 module _ (p : LinkedProgram) (form : IsInForm p) where
   method_one : (number : ℕ) (m n : LinkedMethod) → slice_get p.methods number ≡ Some m → slice_get p.methods number ≡ Some n → m ≡ n
   method_one number m n a b = same_Some m n (sym a ∙ b)
 
   -- a place has one text
-  place_text_one : (place : Place) (a b : List ℕ) → IsPlaceText p place a → IsPlaceText p place b → a ≡ b
+  pub place_text_one : (place : Place) (a b : List ℕ) → IsPlaceText p place a → IsPlaceText p place b → a ≡ b
   place_text_one place a b x y =
       let same = method_one place.method x.method y.method x.there y.there in
       let first = x.text_is in
@@ -103,7 +114,7 @@ module _ (p : LinkedProgram) (form : IsInForm p) where
       x.text_is ∙ ap (λ t. t ++ codes " new " ++ x.made) at_same ∙ ap (λ t. y.at ++ codes " new " ++ t) made_same ∙ sym y.text_is
 
   -- a site has one text
-  site_text_one : (o : Site) (a b : List ℕ) → IsSiteText p o a → IsSiteText p o b → a ≡ b
+  pub site_text_one : (o : Site) (a b : List ℕ) → IsSiteText p o a → IsSiteText p o b → a ≡ b
   site_text_one (site.New place) a b x y = new_text_one place 0 a b x y
   site_text_one (site.Nested place level) a b x y = new_text_one place level a b x y
   site_text_one (site.Raised place kind) a b x y =
@@ -113,43 +124,33 @@ module _ (p : LinkedProgram) (form : IsInForm p) where
   site_text_one (site.Text number) a b x y = x.2 ∙ ap (constant_text (codes "text")) (same_Some x.0 y.0 (sym x.1 ∙ y.1)) ∙ sym y.2
   site_text_one (site.Class number) a b x y = x.2 ∙ ap (constant_text (codes "class")) (same_Some x.0 y.0 (sym x.1 ∙ y.1)) ∙ sym y.2
 
-  line_one : (o : Site) (a b : List ℕ) → IsSiteLine p o a → IsSiteLine p o b → a ≡ b
-  line_one o a b x y = x.line_is ∙ ap (λ t. codes "site " ++ t) (site_text_one o x.text y.text x.is_text y.is_text) ∙ sym y.line_is
+  -- so has its line behind a word
+  pub worded_one : (word : List ℕ) (o : Site) (a b : List ℕ) → IsWordedSite p word o a → IsWordedSite p word o b → a ≡ b
+  worded_one word o a b x y = x.line_is ∙ ap (λ t. word ++ t) (site_text_one o x.text y.text x.is_text y.is_text) ∙ sym y.line_is
 
-  lines_one : (sites : List Site) (xs ys : List (List ℕ)) → Each (IsSiteLine p) sites xs → Each (IsSiteLine p) sites ys → xs ≡ ys
-  lines_one [] [] [] x y = refl
-  lines_one [] (l ∷ xs) ys x y = absurd (let long = x.as_many in omega (arith, long))
-  lines_one [] [] (l ∷ ys) x y = absurd (let long = y.as_many in omega (arith, long))
-  lines_one (o ∷ sites) [] ys x y = absurd (let long = x.as_many in omega (arith, long))
-  lines_one (o ∷ sites) (l ∷ xs) [] x y = absurd (let long = y.as_many in omega (arith, long))
-  lines_one (o ∷ sites) (l ∷ xs) (k ∷ ys) x y =
-      let first = line_one o l k (x.each 0 o l refl refl) (y.each 0 o k refl refl) in
-      let long = x.as_many in
-      let also = y.as_many in
-      let rest = lines_one sites xs ys
-      (record { as_many = omega (arith, long); each = λ i a b p q. x.each (suc i) a b p q }) (record { as_many = omega (arith, also); each = λ i a b p q. y.each (suc i) a b p q }) in
-      cc (first, rest)
+  pub lines_one : (word : List ℕ) (sites : List Site) (xs ys : List (List ℕ)) → Each (IsWordedSite p word) sites xs → Each (IsWordedSite p word) sites ys → xs ≡ ys
+  lines_one word sites xs ys x y = each_one (IsWordedSite p word) (worded_one word) sites xs ys x y
 
-  name_one : (place : Place) (v : Var) (a b : List ℕ) → IsVarName p place v a → IsVarName p place v b → a ≡ b
+  pub name_one : (place : Place) (v : Var) (a b : List ℕ) → IsVarName p place v a → IsVarName p place v b → a ≡ b
   name_one place (Local x) a b n m =
       let same = method_one place.method n.method m.method n.there m.there in
       same_Some a b (sym n.named ∙ ap (λ (k : LinkedMethod). slice_get k.locals x) same ∙ m.named)
   name_one place _ a b n m = absurd n
 
   -- a node has one text
-  target_one : (n : Node) (a b : List ℕ) → IsTargetText p n a → IsTargetText p n b → a ≡ b
+  pub target_one : (n : Node) (a b : List ℕ) → IsTargetText p n a → IsTargetText p n b → a ≡ b
   target_one n a b x y =
       let at_same = place_text_one n.place x.at y.at x.at_is y.at_is in
       let name_same = name_one n.place n.var x.name y.name x.name_is y.name_is in
       x.text_is ∙ ap (λ t. t ++ codes " " ++ x.name) at_same ∙ ap (λ t. y.at ++ codes " " ++ t) name_same ∙ sym y.text_is
 
-  query_line_one : (word : List ℕ) (n : Node) (a b : List ℕ) → IsQueryLine p word n a → IsQueryLine p word n b → a ≡ b
+  pub query_line_one : (word : List ℕ) (n : Node) (a b : List ℕ) → IsQueryLine p word n a → IsQueryLine p word n b → a ≡ b
   query_line_one word n a b x y = x.line_is ∙ ap (λ t. word ++ codes " " ++ t) (target_one n x.target y.target x.target_is y.target_is) ∙ sym y.line_is
 
   answer_text_one : (n : Node) (sites : List Site) (demanded : ℕ) (a b : List ℕ) → IsAnswerText p n sites demanded a → IsAnswerText p n sites demanded b → a ≡ b
   answer_text_one n sites demanded a b x y =
       let query_same = query_line_one (codes "points-to") n x.query y.query x.query_is y.query_is in
-      let lines_same = lines_one sites x.lines y.lines x.lines_are y.lines_are in
+      let lines_same = lines_one (codes "site ") sites x.lines y.lines x.lines_are y.lines_are in
       x.text_is ∙ ap (λ l. text_of (l ∷ (x.lines ++ count_lines (length sites) demanded))) query_same
       ∙ ap (λ ls. text_of (y.query ∷ (ls ++ count_lines (length sites) demanded))) lines_same ∙ sym y.text_is
 

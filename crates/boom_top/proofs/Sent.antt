@@ -1,15 +1,18 @@
 -- What was written, and what the status then says.
-use Rattle.std.proofs.Common.{◌≡◌, ℕ, ◌+◌, ◌<◌, List, length, Option, Some, None, Result, Ok, Err, ap, refl, sym, ◌∙◌, subst, ◌⊎◌, inl, inr, arith}
-use Rattle.std.specs.Result.{IfErr, IfOk, IsOk}
+use Rattle.std.proofs.Common.{◌≡◌, ℕ, ◌+◌, ◌<◌, List, [], length, Option, Some, None, Result, Ok, Err, ap, refl, sym, ◌∙◌, subst, ◌⊎◌, inl, inr, arith}
+use Rattle.std.specs.Result.{IfErr, IfOk}
 use Rattle.std.specs.Option.{IfSome}
 use Rattle.std.specs.Io.KnownBytes.{Appends}
 use Rattle.boom_io.specs.Causes.{Rose}
-use Rattle.boom_io.specs.Whole.{AppendsProperPrefix, TakesFirst}
+use Rattle.boom_io.specs.Whole.{AppendsProperPrefix, TakesFirst, TakesWithin}
+use Rattle.boom_io.specs.declared.whole.ReadAll.{ReadAll}
+use Rattle.std.specs.Global.{Vec}
 use Rattle.report_text.specs.Lines.{text_of}
 use Rattle.boom_words.specs.Requests.{Request, Typestate, IsQuestion, IsRequest, typestate}
+use Rattle.boom_words.proofs.Words.{request_one}
 use Rattle.boom_top.specs.Parts.{IsGiven, Makes, Sends, status_of}
 use Rattle.boom_top.specs.Evidence.{HasEvidence}
-use Rattle.boom_top.specs.Queries.{Accepted, rest_in, source_of}
+use Rattle.boom_top.specs.Queries.{Accepted, TakesAtMost, rest_in, source_of}
 use Rattle.boom_top.specs.Replies.{GivesUp, IsReply, IsReplyTo}
 use Rattle.boom_top.specs.Runs.{CoversAllRuns, IsAnswerable}
 use Rattle.boom_top.specs.declared.query.NoReply.{NoReply}
@@ -34,26 +37,33 @@ IfSome-long n None new P takes p = tt
 IfSome-long n (Some xs) None P takes p = absurd takes
 IfSome-long n (Some xs) (Some ys) P takes p = p xs (omega (arith, takes.0))
 
+-- where nothing is read nothing is taken
+pub takes_nothing : (most : ℕ) (left : Option (List ℕ)) → TakesAtMost most left left
+takes_nothing most None = ([], tt, omega arith)
+takes_nothing most (Some xs) = ([], refl, omega arith)
+
+-- a read of at most so many bytes takes one more at most
+pub takes_at_most : (limit : ℕ) (old new : Option (List ℕ)) (result : Result (Vec ℕ) ReadAll) → TakesWithin limit old new result → TakesAtMost (limit + 1) old new
+takes_at_most limit old new result t = (t.taken, t.consumed, t.within)
+
 -- so is said of the bytes that a command is about what is said of those that were left, where these are told
 pub IfSome-about : {A : Type 0} (o : Option A) (P : A → Type 0) (D : Type 0) → IfSome o P → (D → (x : A) → P x) → (x : A) → (o ≡ Some x) ⊎ D → P x
 IfSome-about {A} o P D h f x (inl e) = subst (λ (q : Option A). IfSome q P) e h
 IfSome-about o P D h f x (inr d) = f d x
 
--- words that are at most one request have one status
-words_one : (words : List (List ℕ)) (bytes : List ℕ) → ((a b : Request) → IsRequest words a → IsRequest words b → a ≡ b)
-    → (s t : Status) (xs ys : List (List ℕ)) → IsReply words bytes s xs → IsReply words bytes t ys → s ≡ t
-words_one words bytes one s t xs ys (inl a) (inl b) = a.1.0 ∙ sym b.1.0
-words_one words bytes one s t xs ys (inl a) (inr b) = absurd (a.0 b.0 b.1)
-words_one words bytes one s t xs ys (inr a) (inl b) = absurd (b.0 a.0 a.1)
-words_one words bytes one s t xs ys (inr a) (inr b) =
-    let same = subst (λ (r : Request). IsReplyTo r bytes s xs) (one a.0 b.0 a.1 b.1) a.2 in
+-- words have one status
+words_one : (words : List (List ℕ)) (bytes : List ℕ) (s t : Status) (xs ys : List (List ℕ)) → IsReply words bytes s xs → IsReply words bytes t ys → s ≡ t
+words_one words bytes s t xs ys (inl a) (inl b) = a.1.0 ∙ sym b.1.0
+words_one words bytes s t xs ys (inl a) (inr b) = absurd (a.0 b.0 b.1)
+words_one words bytes s t xs ys (inr a) (inl b) = absurd (b.0 a.0 a.1)
+words_one words bytes s t xs ys (inr a) (inr b) =
+    let same = subst (λ (r : Request). IsReplyTo r bytes s xs) (request_one words a.0 b.0 a.1 b.1) a.2 in
     source_one b.0 (source_of b.0.question bytes) s t xs ys same b.2
 
 -- a reply to words that are a request is one to the request
-reply_to : (words : List (List ℕ)) (bytes : List ℕ) → ((a b : Request) → IsRequest words a → IsRequest words b → a ≡ b) → (r : Request) → IsRequest words r
-    → (s : Status) (lines : List (List ℕ)) → IsReply words bytes s lines → IsReplyTo r bytes s lines
-reply_to words bytes one r is s lines (inl a) = absurd (a.0 r is)
-reply_to words bytes one r is s lines (inr a) = subst (λ (q : Request). IsReplyTo q bytes s lines) (one a.0 r a.1 is) a.2
+reply_to : (words : List (List ℕ)) (bytes : List ℕ) (r : Request) → IsRequest words r → (s : Status) (lines : List (List ℕ)) → IsReply words bytes s lines → IsReplyTo r bytes s lines
+reply_to words bytes r is s lines (inl a) = absurd (a.0 r is)
+reply_to words bytes r is s lines (inr a) = subst (λ (q : Request). IsReplyTo q bytes s lines) (request_one words a.0 r a.1 is) a.2
 
 -- a status that gives up is no status of a reply
 given_up : (s : Status) → GivesUp s → IsGiven s → ⊥
@@ -106,67 +116,64 @@ module _ (old new : Option (List ℕ)) (before now : ℕ) (result : Status) (X :
       | inr part ↦ (reply.status, is.0, is.1, subst (λ (t : List ℕ). AppendsProperPrefix old new t) is.2 part.2)
     ]
 
-    abbrev pub IsOne : Type 0
-    IsOne = (a b : Request) → IsRequest words a → IsRequest words b → a ≡ b
-
-    pub exactly : (made : Result Reply NoReply) → IfOk made Sent → IfErr made Unsent → IfOk made Made → (IsOk made → IsOne)
+    pub exactly : (made : Result Reply NoReply) → IfOk made Sent → IfErr made Unsent → IfOk made Made
         → (s : Status) (lines : List (List ℕ)) → IsReply words bytes s lines → (result ≡ s) ⊎ GivesUp result
-    exactly (Err e) sent unsent is one s lines h = inr (subst GivesUp (sym unsent.0) (lost e))
-    exactly (Ok reply) sent unsent is one s lines h = elim sent [
-      | inl whole ↦ inl (whole.0 ∙ words_one words bytes (one refl) reply.status s is.0 lines is.1 h)
+    exactly (Err e) sent unsent is s lines h = inr (subst GivesUp (sym unsent.0) (lost e))
+    exactly (Ok reply) sent unsent is s lines h = elim sent [
+      | inl whole ↦ inl (whole.0 ∙ words_one words bytes reply.status s is.0 lines is.1 h)
       | inr part ↦ inr (subst GivesUp (sym part.0) tt)
     ]
 
-    pub soundly : (made : Result Reply NoReply) → IfOk made Sent → IfErr made Unsent → IfOk made Made → (IsOk made → IsOne)
+    pub soundly : (made : Result Reply NoReply) → IfOk made Sent → IfErr made Unsent → IfOk made Made
         → result ≡ Done → (r : Request) → IsRequest words r → (a : Accepted r bytes) → CoversAllRuns a.linked (rest_in r.question (source_of r.question bytes)) r.question old new
-    soundly (Err none.ReadFault) sent unsent is one done r is_request a = absurd (let no : ReadFault ≡ Done = sym unsent.0 ∙ done in cc)
-    soundly (Err none.NoMemory) sent unsent is one done r is_request a = absurd (let no : NoMemory ≡ Done = sym unsent.0 ∙ done in cc)
-    soundly (Ok reply) sent unsent is one done r is_request a = elim sent [
+    soundly (Err none.ReadFault) sent unsent is done r is_request a = absurd (let no : ReadFault ≡ Done = sym unsent.0 ∙ done in cc)
+    soundly (Err none.NoMemory) sent unsent is done r is_request a = absurd (let no : NoMemory ≡ Done = sym unsent.0 ∙ done in cc)
+    soundly (Ok reply) sent unsent is done r is_request a = elim sent [
       | inl whole ↦
-          let to = reply_to words bytes (one refl) r is_request reply.status is.0 is.1 in
+          let to = reply_to words bytes r is_request reply.status is.0 is.1 in
           let status : reply.status ≡ Done = sym whole.0 ∙ done in
           covers r bytes a old new is.0 (subst (λ (t : List ℕ). Appends old new t) is.2 whole.1)
           (subst (λ (s : Status). IsReplyTo r bytes s is.0) status to)
       | inr part ↦ absurd (let no : WriteFault ≡ Done = sym part.0 ∙ done in cc)
     ]
 
-    pub safely : (made : Result Reply NoReply) → IfOk made Sent → IfErr made Unsent → IfOk made Made → (IsOk made → IsOne)
+    pub safely : (made : Result Reply NoReply) → IfOk made Sent → IfErr made Unsent → IfOk made Made
         → result ≡ Done → (entry : List ℕ) (asked : Typestate) → IsQuestion words entry (typestate asked)
         → (a : Accepted (record { entry = entry; question = typestate asked }) bytes) (k : ProtocolParts) → IsProtocolOf a.linked asked.protocol k
         → SaysSafe old new → IsSafe a.linked k
-    safely (Err none.ReadFault) sent unsent is one done entry asked is_request a k of says = absurd (let no : ReadFault ≡ Done = sym unsent.0 ∙ done in cc)
-    safely (Err none.NoMemory) sent unsent is one done entry asked is_request a k of says = absurd (let no : NoMemory ≡ Done = sym unsent.0 ∙ done in cc)
-    safely (Ok reply) sent unsent is one done entry asked is_request a k of says = elim sent [
+    safely (Err none.ReadFault) sent unsent is done entry asked is_request a k of says = absurd (let no : ReadFault ≡ Done = sym unsent.0 ∙ done in cc)
+    safely (Err none.NoMemory) sent unsent is done entry asked is_request a k of says = absurd (let no : NoMemory ≡ Done = sym unsent.0 ∙ done in cc)
+    safely (Ok reply) sent unsent is done entry asked is_request a k of says = elim sent [
       | inl whole ↦
           let r : Request = record { entry = entry; question = typestate asked } in
-          let to = reply_to words bytes (one refl) r is_request reply.status is.0 is.1 in
+          let to = reply_to words bytes r is_request reply.status is.0 is.1 in
           let status : reply.status ≡ Done = sym whole.0 ∙ done in
           safe entry asked bytes a old new is.0 (subst (λ (t : List ℕ). Appends old new t) is.2 whole.1)
           (subst (λ (s : Status). IsReplyTo r bytes s is.0) status to) k of says
       | inr part ↦ absurd (let no : WriteFault ≡ Done = sym part.0 ∙ done in cc)
     ]
 
-    pub evidently : (made : Result Reply NoReply) → IfOk made Sent → IfErr made Unsent → IfOk made Made → (IsOk made → IsOne)
+    pub evidently : (made : Result Reply NoReply) → IfOk made Sent → IfErr made Unsent → IfOk made Made
         → result ≡ Done → (r : Request) → IsRequest words r → (a : Accepted r bytes)
         → HasEvidence a.linked (rest_in r.question (source_of r.question bytes)) r.question old new
-    evidently (Err none.ReadFault) sent unsent is one done r is_request a = absurd (let no : ReadFault ≡ Done = sym unsent.0 ∙ done in cc)
-    evidently (Err none.NoMemory) sent unsent is one done r is_request a = absurd (let no : NoMemory ≡ Done = sym unsent.0 ∙ done in cc)
-    evidently (Ok reply) sent unsent is one done r is_request a = elim sent [
+    evidently (Err none.ReadFault) sent unsent is done r is_request a = absurd (let no : ReadFault ≡ Done = sym unsent.0 ∙ done in cc)
+    evidently (Err none.NoMemory) sent unsent is done r is_request a = absurd (let no : NoMemory ≡ Done = sym unsent.0 ∙ done in cc)
+    evidently (Ok reply) sent unsent is done r is_request a = elim sent [
       | inl whole ↦
-          let to = reply_to words bytes (one refl) r is_request reply.status is.0 is.1 in
+          let to = reply_to words bytes r is_request reply.status is.0 is.1 in
           let status : reply.status ≡ Done = sym whole.0 ∙ done in
           evidence r bytes a old new is.0 (subst (λ (t : List ℕ). Appends old new t) is.2 whole.1)
           (subst (λ (s : Status). IsReplyTo r bytes s is.0) status to)
       | inr part ↦ absurd (let no : WriteFault ≡ Done = sym part.0 ∙ done in cc)
     ]
 
-    pub completely : (made : Result Reply NoReply) → IfOk made Sent → IfErr made Unsent → IfOk made Made → (IsOk made → IsOne) → (Failed : Type 0)
+    pub completely : (made : Result Reply NoReply) → IfOk made Sent → IfErr made Unsent → IfOk made Made → (Failed : Type 0)
         → (made ≡ Err none.ReadFault → Failed) → IsAnswerable words bytes → ¬ Failed → ¬ Rose before now → (result ≡ Done) ⊎ (result ≡ NoMemory)
-    completely (Err e) sent unsent is one Failed fault can read calm =
+    completely (Err e) sent unsent is Failed fault can read calm =
         inr (unsent.0 ∙ ap status_of (only_memory (Err e) (λ h. read (fault h)) e refl))
-    completely (Ok reply) sent unsent is one Failed fault can read calm = elim sent [
+    completely (Ok reply) sent unsent is Failed fault can read calm = elim sent [
       | inl whole ↦
-          let to = reply_to words bytes (one refl) can.request can.requested reply.status is.0 is.1 in
+          let to = reply_to words bytes can.request can.requested reply.status is.0 is.1 in
           inl (whole.0 ∙ enough can.request bytes can.accepted reply.status is.0 to can.answer)
       | inr part ↦ absurd (calm part.1)
     ]

@@ -1,6 +1,7 @@
 pub mod Batches
 pub mod Demo
 pub mod Evidence
+pub mod Laws
 pub mod Paths
 pub mod Queries
 pub mod Refined

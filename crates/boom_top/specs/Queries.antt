@@ -1,5 +1,7 @@
 -- What a request asks of a text: the program that it spells and that is linked.
 use Rattle.std.specs.Prelude.{ℕ, ◌≤◌, List, [], codes, length}
+use Rattle.std.specs.declared.option.Option.{Option}
+use Rattle.std.specs.Io.KnownBytes.{Consumes}
 use Rattle.jim_ast.specs.declared.syntax.Program.{Program}
 use Rattle.jim_parse.specs.Derives.{Spells}
 use Rattle.jim_prelude.specs.Text.{prelude_text}
@@ -12,6 +14,10 @@ use Rattle.batch_lines.specs.Cuts.{before_mark, behind_mark, lines_of}
 -- the most bytes that are read
 abbrev pub limit : ℕ
 limit = 16777216
+
+-- of what was left, told or not, no more bytes than these were taken
+abbrev pub TakesAtMost : ℕ → Option (List ℕ) → Option (List ℕ) → Type 0
+TakesAtMost most old new = (taken : List ℕ) × Consumes old new taken × (length taken ≤ most)
 
 -- the bytes that a question is about: those that are read, but for the demo its own text
 abbrev pub source_of : Question → List ℕ → List ℕ

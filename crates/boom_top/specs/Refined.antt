@@ -6,6 +6,8 @@ use Rattle.lists.specs.Lists.{Has}
 use Rattle.link_rules.specs.Linked.{LinkedProgram}
 use Rattle.link_sites.specs.declared.site.Site.{Site}
 use Rattle.spds_rules.specs.declared.node.Node.{Node}
+use Rattle.spds_rules.specs.Answers.{IsAnswered}
+use Rattle.spds_rules.specs.Demand.{about}
 use Rattle.cert_laws.specs.Shown.{IsShown}
 use Rattle.query_core.specs.declared.places.Which.{Which}
 use Rattle.query_core.specs.Places.{IsMissing, IsPlaceOf}
@@ -41,7 +43,8 @@ IsRefinedReply p asked status lines =
 abbrev pub IsRefinedWithin : LinkedProgram → Refined → Type 0
 IsRefinedWithin p asked = (n : Node) × IsPlaceOf p asked.method asked.index asked.local n × IsRefinedAffordable p asked.rounds asked.budget n
 
--- The answer about the place was written, and for each site that it prints some list of lines is certified over the program that is left.
+-- The answer about the place was written, and each site that it prints is evident over the program that is left: both systems have it at the node, and some
+-- list of lines is certified.
 pub record PrintsRefinedShown (p : LinkedProgram) (asked : Refined) (old new : Option (List ℕ)) : Type 0 where
   pub node : Node
   pub place : IsPlaceOf p asked.method asked.index asked.local node
@@ -52,4 +55,5 @@ pub record PrintsRefinedShown (p : LinkedProgram) (asked : Refined) (old new : O
   pub text : List ℕ
   pub told : IsRefinedText p node narrowed sites demanded text
   pub wrote : Appends old new text
+  pub answered : (o : Site) → Has sites o → IsAnswered answer.left (about node) node o
   pub shown : (o : Site) → Has sites o → IsShown answer.left node o

@@ -32,7 +32,6 @@ use Rattle.boom_top.specs.Demo.{demo_asked}
 use Rattle.boom_top.specs.Paths.{IsPathWithin}
 use Rattle.boom_top.specs.Queries.{Accepted, IsDemo, rest_in, source_of}
 use Rattle.boom_top.specs.Refined.{IsRefinedWithin}
-use Rattle.boom_top.specs.Replies.{AnswersQuery}
 
 -- one of the lines of a text
 pub record HasLine (text line : List ℕ) : Type 0 where
@@ -58,20 +57,27 @@ TellsAllRuns p n text = (count : ℕ) (s : State) (number : ℕ) (frame : Frame)
     → n ≡ at (place_of frame) (Local x)
     → (object : HeapObject) × (slice_get s.heap o ≡ Some object) × (line : List ℕ) × IsSiteLine p object.site line × HasLine text line
 
--- The number of queries was written, and behind its line a text for each, in their order, which answers it.
-pub record WritesEach (p : LinkedProgram) (budget : ℕ) (queries : List QueryParts) (texts : List (List ℕ)) (old new : Option (List ℕ)) : Type 0 where
+-- the number of queries was written, and behind its line a text for each, in their order
+pub record WritesEach (queries : List QueryParts) (texts : List (List ℕ)) (old new : Option (List ℕ)) : Type 0 where
   pub as_many : length texts ≡ length queries
   pub wrote : Appends old new ((codes "batch " ++ decimal (length queries)) ++ 10 ∷ concat texts)
-  pub answers : (i : ℕ) (q : QueryParts) (text : List ℕ) → slice_get queries i ≡ Some q → slice_get texts i ≡ Some text
-      → (lines : List (List ℕ)) × AnswersQuery p budget q lines × (text ≡ text_of lines)
 
--- Texts that answer the queries were written. Where a query's place is there and its demand within the budget, its own text has the line of the site of
--- each object that a run brings to the local.
-pub record PrintsEachAllRuns (p : LinkedProgram) (budget : ℕ) (queries : List QueryParts) (old new : Option (List ℕ)) : Type 0 where
+-- the text is a refusal: one line that says so
+abbrev pub IsRefusalText : List ℕ → Type 0
+IsRefusalText text = (rest : List ℕ) × (text ≡ text_of ((codes "refused " ++ rest) ∷ []))
+
+-- the text begins with the line that repeats the query
+abbrev pub RepeatsQuery : QueryParts → List ℕ → Type 0
+RepeatsQuery q text = (rest : List (List ℕ))
+    × (text ≡ text_of ((codes "points-to " ++ q.method ++ codes " " ++ decimal q.index ++ codes " " ++ q.local) ∷ rest))
+
+-- A text for each query was written. Where a query's place is there, its own text is a refusal, or it repeats the query and has the line of the site of each
+-- object that a run brings to the local.
+pub record PrintsEachAllRuns (p : LinkedProgram) (queries : List QueryParts) (old new : Option (List ℕ)) : Type 0 where
   pub texts : List (List ℕ)
-  pub writes : WritesEach p budget queries texts old new
+  pub writes : WritesEach queries texts old new
   pub covers : (i : ℕ) (q : QueryParts) (text : List ℕ) → slice_get queries i ≡ Some q → slice_get texts i ≡ Some text
-      → (n : Node) → IsPlaceOf p q.method q.index q.local n → IsAffordable p (n ∷ []) budget → TellsAllRuns p n text
+      → (n : Node) → IsPlaceOf p q.method q.index q.local n → IsRefusalText text ⊎ (RepeatsQuery q text × TellsAllRuns p n text)
 
 -- In each run, of any length: where a frame, the top one or one that waits, stands at the nodes' place and both its locals hold one object, the line that
 -- says that they share the object's site is among those that were written, and so is that which says that they are aliases.
@@ -102,7 +108,7 @@ CoversAllRuns p rest (paths asked) old new = (n : Node) (fields : List ℕ) → 
 CoversAllRuns p rest (run asked) old new = Unit {0}
 CoversAllRuns p rest (replay budget) old new = Unit {0}
 CoversAllRuns p rest (typestate asked) old new = Unit {0}
-CoversAllRuns p rest (batch budget) old new = (queries : List QueryParts) → AreQueries rest queries → PrintsEachAllRuns p budget queries old new
+CoversAllRuns p rest (batch budget) old new = (queries : List QueryParts) → AreQueries rest queries → PrintsEachAllRuns p queries old new
 CoversAllRuns p rest (refined asked) old new = (n : Node) → IsPlaceOf p asked.method asked.index asked.local n → PrintsAllRuns p n old new
 CoversAllRuns p rest (demo boxes) old new = Unit {0}
 

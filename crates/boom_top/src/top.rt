@@ -1,5 +1,5 @@
 //! The top call.
-ghost use Rattle.std.specs.Prelude.{◌≡◌, ◌≢◌, ◌⊎◌, ℕ, Err, List, Some, length, map, IfErr, IfOk, IfSome, IsOk, string_bytes};
+ghost use Rattle.std.specs.Prelude.{◌≡◌, ◌≢◌, ◌⊎◌, ◌+◌, ℕ, Err, List, Some, length, map, IfErr, IfOk, IfSome, string_bytes};
 ghost use Rattle.std.specs.Io.KnownBytes.{Appends, IsAtEnd};
 ghost use Rattle.boom_io.specs.Causes.{Rose};
 ghost use Rattle.boom_io.specs.Whole.{AppendsProperPrefix};
@@ -9,7 +9,7 @@ ghost use Rattle.demo_text.specs.Demo.{demo_source};
 ghost use Rattle.report_text.specs.Lines.{text_of};
 ghost use Rattle.boom_top.specs.Evidence.{HasEvidence};
 ghost use Rattle.boom_top.specs.Parts.{IsGiven, Makes, Sends, status_of};
-ghost use Rattle.boom_top.specs.Queries.{Accepted, IsDemo, rest_in, source_of};
+ghost use Rattle.boom_top.specs.Queries.{Accepted, IsDemo, TakesAtMost, limit, rest_in, source_of};
 ghost use Rattle.boom_top.specs.Replies.{GivesUp, IsReply, IsReplyTo, IsSourceReply};
 ghost use Rattle.boom_top.specs.Runs.{AreAbout, CoversAllRuns, IsAnswerable, ReadsNothing};
 ghost use Rattle.boom_top.specs.Safety.{SaysSafe};
@@ -71,6 +71,7 @@ fn read_reply<R: Threads + Sync, S: Source, G: Gate>(
     ensures reply { IfSome (S.left source.old) (λ bytes. IfOk result (Makes (IsSourceReply (request_of command.now) bytes))) }
     ensures given { IfOk result (λ reply. IsGiven reply.status) }
     ensures whole { IfOk result (λ reply. reply.status ≡ Status.Done → IsAtEnd (S.left source.new)) }
+    ensures taken { TakesAtMost (limit + 1) (S.left source.old) (S.left source.new) }
     ensures fault { result ≡ Err NoReply.ReadFault → Rose (S.faults source.old) (S.faults source.new) }
     ensures told { result ≢ Err NoReply.ReadFault → S.faults source.new ≡ S.faults source.old }
 {
@@ -94,6 +95,7 @@ fn command_reply<R: Threads + Sync, S: Source, G: Gate>(
     ensures given { IfOk result (λ reply. IsGiven reply.status) }
     ensures unread { IsDemo (question_of command.now.query) → source.new ≡ source.old }
     ensures whole { IfOk result (λ reply. reply.status ≡ Status.Done → IsDemo (question_of command.now.query) ⊎ IsAtEnd (S.left source.new)) }
+    ensures taken { TakesAtMost (limit + 1) (S.left source.old) (S.left source.new) }
     ensures fault { result ≡ Err NoReply.ReadFault → Rose (S.faults source.old) (S.faults source.new) }
     ensures told { result ≢ Err NoReply.ReadFault → S.faults source.new ≡ S.faults source.old }
 {
@@ -111,13 +113,12 @@ fn words_reply<R: Threads + Sync, S: Source, G: Gate>(
 ) -> Result<Reply, NoReply>
     ensures reply { (bytes : List ℕ) → AreAbout (map string_bytes words.now) (S.left source.old) bytes
         → IfOk result (Makes (IsReply (map string_bytes words.now) bytes)) }
-    // The words are at most one request.
-    ensures one { IsOk result → (a b : Request) → IsRequest (map string_bytes words.now) a → IsRequest (map string_bytes words.now) b → a ≡ b }
     ensures usage { IfOk result (λ reply. reply.status ≡ Status.Usage → NoRequest (map string_bytes words.now)) }
     ensures no_words { NoRequest (map string_bytes words.now) → IfOk result (λ reply. reply.status ≡ Status.Usage) × (result ≢ Err NoReply.ReadFault) }
     ensures stands { IfOk result (λ reply. GivesUp reply.status → ⊥) }
     ensures unread { ReadsNothing (map string_bytes words.now) → source.new ≡ source.old }
     ensures whole { IfOk result (λ reply. reply.status ≡ Status.Done → ReadsNothing (map string_bytes words.now) ⊎ IsAtEnd (S.left source.new)) }
+    ensures taken { TakesAtMost (limit + 1) (S.left source.old) (S.left source.new) }
     ensures fault { result ≡ Err NoReply.ReadFault → Rose (S.faults source.old) (S.faults source.new) }
     ensures told { result ≢ Err NoReply.ReadFault → S.faults source.new ≡ S.faults source.old }
 {
@@ -184,8 +185,10 @@ pub fn boomer<R: Threads + Sync, S: Source, K: Sink, G: Gate>(
         → (entry : List ℕ) (asked : Typestate) → IsQuestion (map string_bytes words.now) entry (typestate asked)
         → (a : Accepted (record { entry = entry; question = typestate asked }) bytes) (k : ProtocolParts) → IsProtocolOf a.linked asked.protocol k
         → SaysSafe (K.written sink.old) (K.written sink.new) → IsSafe a.linked k }
-    // The evidence: for each site that an answer prints some list of lines is certified; an explanation prints one for each, without a line twice or one
-    // that its claim doesn't need, and by a shortest derivation; and a replay prints the site for which the lines that it was given are.
+    // The evidence: each site that an answer prints is in both systems at the node, and some list of lines is certified for it; an explanation prints one for
+    // each, without a line twice or one that its claim doesn't need, and by a shortest derivation; a replay prints the site for which the lines that it was
+    // given are; and each site that two locals are said to share is in both systems at both nodes, under one call string. Of the sites at the end of a path
+    // none is claimed.
     ensures evident { (bytes : List ℕ) → AreAbout (map string_bytes words.now) (S.left source.old) bytes → result ≡ Status.Done
         → (r : Request) → IsRequest (map string_bytes words.now) r → (a : Accepted r bytes)
         → HasEvidence a.linked (rest_in r.question (source_of r.question bytes)) r.question (K.written sink.old) (K.written sink.new) }
@@ -199,6 +202,8 @@ pub fn boomer<R: Threads + Sync, S: Source, K: Sink, G: Gate>(
     ensures no_words { NoRequest (map string_bytes words.now) → (result ≡ Status.Usage) ⊎ (result ≡ Status.WriteFault) ⊎ (result ≡ Status.NoMemory) }
     ensures unread { ReadsNothing (map string_bytes words.now) → source.new ≡ source.old }
     ensures read_whole { result ≡ Status.Done → ReadsNothing (map string_bytes words.now) ⊎ IsAtEnd (S.left source.new) }
+    // Whatever the status, and whether the source tells its bytes or not: one byte more than the limit is the most that is taken.
+    ensures taken { TakesAtMost (limit + 1) (S.left source.old) (S.left source.new) }
     ensures read_fault { result ≡ Status.ReadFault → Rose (S.faults source.old) (S.faults source.new) × (sink.new ≡ sink.old) }
     ensures no_memory { result ≡ Status.NoMemory → sink.new ≡ sink.old }
     // A fault is told: with each other status no read, and no write, failed.

@@ -114,3 +114,7 @@ IsRequest words r = IsQuestion words r.entry r.question
 -- the words are no command
 abbrev pub NoRequest : List (List ℕ) → Type 0
 NoRequest words = (r : Request) → ¬ IsRequest words r
+
+-- words are at most one request
+abbrev pub WordsAreOne : Type 0
+WordsAreOne = (words : List (List ℕ)) (a b : Request) → IsRequest words a → IsRequest words b → a ≡ b

@@ -1,8 +1,6 @@
 //! The numbers of nodes and bases: those that split marks bring stand behind all others.
-ghost use Rattle.std.specs.Prelude.{◌≡◌, ◌<◌, ◌↔◌, IsTrue};
-ghost use Rattle.lists.specs.Lists.{Has};
+ghost use Rattle.std.specs.Prelude.{◌≡◌, ◌<◌, ◌↔◌, All, IsTrue};
 ghost use Rattle.call_side.specs.Coded.{base_count, node_count};
-ghost use Rattle.post_star.specs.declared.bases.BaseStep.{BaseStep as AStep};
 ghost use Rattle.rule_marks.specs.Joined.{source, target};
 ghost use Rattle.rule_marks.specs.Sharing.{AreBelow};
 
@@ -37,29 +35,33 @@ fn ends_of(rule: &Rule<Reach>) -> Ends
     }
 }
 
+/// Whether a rule leads between nodes that there may be.
+fn leads_within(rule: &Rule<Reach>) -> bool
+    ensures { IsTrue result ↔ ((source rule.now < node_count) × (target rule.now < node_count)) }
+{
+    let ends = ends_of(rule);
+    ends.from < NODES && ends.to < NODES
+}
+
 /// Whether the nodes of all rules are among those that there may be.
 pub fn rules_fit(rules: &[Rule<Reach>]) -> bool
-    ensures { IsTrue result → AreBelow node_count rules.now }
+    ensures { IsTrue result ↔ AreBelow node_count rules.now }
 {
-    for rule in rules {
-        let ends = ends_of(rule);
-        if ends.from >= NODES || ends.to >= NODES {
-            return false;
-        }
-    }
-    true
+    rules.iter().all(|rule| leads_within(rule))
+}
+
+/// Whether the bases of a step are among those that there may be.
+fn stands_within(step: &BaseStep) -> bool
+    ensures { IsTrue result ↔ ((step.now.base < base_count) × (step.now.below < base_count)) }
+{
+    step.base < BASES && step.below < BASES
 }
 
 /// Whether the bases of all steps are.
 pub fn steps_fit(steps: &[BaseStep]) -> bool
-    ensures { IsTrue result → (s : AStep) → Has steps.now s → (s.base < base_count) × (s.below < base_count) }
+    ensures { IsTrue result ↔ All (λ s. (s.base < base_count) × (s.below < base_count)) steps.now }
 {
-    for step in steps {
-        if step.base >= BASES || step.below >= BASES {
-            return false;
-        }
-    }
-    true
+    steps.iter().all(|step| stands_within(step))
 }
 
 /// As many nodes as the numbers in the rules stand below. It only tells how much room is worth having.

@@ -1,5 +1,6 @@
 pub mod Asking
 pub mod Determined
+pub mod OneAnswer
 pub mod Sited
 pub mod Sound
 mod Standing

@@ -19,7 +19,7 @@ statements_one_way a b (inr p) (inl q) = omega arith
 statements_one_way a b (inr p) (inr q) = omega arith
 
 -- nor before itself
-statements_apart : (a b : Place) → IsSameStatement a b → ComesBefore b a → ⊥
+pub statements_apart : (a b : Place) → IsSameStatement a b → ComesBefore b a → ⊥
 statements_apart a b same (inl q) = omega arith
 statements_apart a b same (inr q) = omega arith
 

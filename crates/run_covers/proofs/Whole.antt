@@ -85,7 +85,7 @@ module _ (p : LinkedProgram) (well : IsWellLinked p) where
   ]
 
   -- so it is along each run
-  run_real : (count : ℕ) (s : State) → Run p count s → IsReal p s.heap
+  pub run_real : (count : ℕ) (s : State) → Run p count s → IsReal p s.heap
   run_real count s (begins first) = subst (λ (s : State). IsReal p s.heap) (sym first.is_state)
       (joined_real p well _ _ (constants_real p well (λ i. site.Text i) first.string 0 (length p.texts) (named_real p well _ first.string (1, refl) first.is_string))
       (constants_real p well (λ i. site.Class i) first.class 0 (length p.class_texts) (named_real p well _ first.class (2, refl) first.is_class)))

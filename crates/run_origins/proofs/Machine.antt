@@ -20,10 +20,9 @@ use Rattle.step_rules.specs.Runs.{Run}
 use Rattle.step_rules.specs.States.{Frame, Point, State, enters, place_of, state_of}
 use Rattle.step_rules.specs.Steps.{Becomes, Step}
 use Rattle.run_sound.specs.Agrees.{Agrees}
-use Rattle.run_sound.proofs.Agreeing.{agrees}
 use Rattle.run_sound.proofs.Invariant.{IsKept, IsShaped}
 use Rattle.run_sound.proofs.Nodes.{has_node}
-use Rattle.run_sound.proofs.Simulating.{kept_run, tracked_at}
+use Rattle.run_sound.proofs.Simulating.{kept_run, runs_agree, tracked_at}
 use Rattle.run_sound.proofs.Standing.{method_fits}
 use Rattle.run_origins.specs.Origins.{HasOrigins, IsEntry, IsStoredStatic, KeepsObjects, Origins}
 use Rattle.run_origins.specs.Origins as origins
@@ -192,7 +191,7 @@ module _ (p : LinkedProgram) (well : IsWellLinked p) (covered : IsCovered p) (re
 
   pub step_originates : Origins p reach step.at step.effect new × KeepsObjects p step.at new
   step_originates =
-      by_raised p reach well at (agrees p q well.form (state_of at) kept) shapes (shapes (length at.below) at.top (slice_get-push at.below at.top)) new shaped_new
+      by_raised p reach well at (runs_agree p well covered count (state_of at) run_there) shapes (shapes (length at.below) at.top (slice_get-push at.below at.top)) new shaped_new
       at.top.raised refl step.offered step.offers step.effect (choice, step.chosen)
       (λ g same. covered count at step.offered g run_there step.offers (choice, step.chosen ∙ ap Some same)) step.becomes
 

@@ -1,12 +1,14 @@
 -- A state that is kept agrees with the program.
-use Rattle.std.proofs.Common.{◌≡◌, ℕ, ◌+◌, ◌<◌, ◌++◌, Some, List, [], ◌∷◌, length, slice_get, refl, sym, ap, ◌∙◌, subst, inl, inr, arith, length-append}
+use Rattle.std.proofs.Common.{◌≡◌, ℕ, ◌+◌, ◌<◌, ◌++◌, Some, true, List, [], ◌∷◌, length, slice_get, refl, sym, ap, ◌∙◌, subst, inl, inr, arith, length-append}
 use Rattle.lists.proofs.Places.{slice_get-below, slice_get-pushed}
 use Rattle.link_rules.specs.Linked.{LinkedMethod, LinkedProgram}
 use Rattle.link_rules.specs.WellLinked.{HasTarget, IsInForm, IsRoot}
 use Rattle.link_sites.specs.declared.place.Place.{Place}
 use Rattle.link_sites.specs.declared.site.Site.{Site}
+use Rattle.run_covers.proofs.Heap.{IsReal}
 use Rattle.spds_rules.specs.Demand.{Asked}
 use Rattle.spds_rules.specs.Systems.{IsString}
+use Rattle.step_rules.specs.declared.parts.Value.TheVariants.{Object}
 use Rattle.step_rules.specs.States.{Frame, State}
 use Rattle.run_sound.specs.Agrees.{Agrees, WaitsFor}
 use Rattle.run_sound.specs.Frames.{string_of}
@@ -69,6 +71,10 @@ module _ (p : LinkedProgram) (q : Asked) (sites : List Site) where
   waiting_strings (none is_root) = λ number frame e. cc
   waiting_strings (more {below} {caller} {string} waits unraised target tracked) = strings_are waits caller refl (waiting_strings waits)
 
+-- what is in flight at a frame's statement is an object
+abbrev pub IsFlying : State → Type 0
+IsFlying s = (number : ℕ) (frame : Frame) → slice_get s.frames number ≡ Some frame → frame.raised ≡ true → (x : ℕ) × (frame.thrown ≡ Some (Object x))
+
 module _ (p : LinkedProgram) (q : Asked) (form : IsInForm p) where
   -- the last method is the root
   is_root : (number : ℕ) → number + 1 ≡ length p.methods → (m : LinkedMethod) × IsRoot p number m
@@ -76,13 +82,15 @@ module _ (p : LinkedProgram) (q : Asked) (form : IsInForm p) where
       let same : form.number ≡ number = omega (arith, form.is_root.last, last) in
       (form.root, subst (λ n. IsRoot p n form.root) same form.is_root)
 
-  pub agrees : (s : State) → IsKept p q s → Agrees p s
-  agrees s kept = elim kept.frames [
+  pub agrees : (s : State) → IsKept p q s → IsFlying s → IsReal p s.heap → Agrees p s
+  agrees s kept flying real = elim kept.frames [
     | inl gone ↦ record {
       root = λ frame e. absurd (nothing gone 0 frame e);
       waiting = λ number frame above e next. absurd (nothing gone number frame e);
       strings = λ number frame e. absurd (nothing gone number frame e);
+      flying = flying;
       classes = λ object has. (kept.memory.objects has.0 object has.1).class;
+      instantiable = λ object has. real has.0 object has.1;
       fields = λ object write has written. (kept.memory.objects has.0 object has.1).fields write written;
     }
     | inr some ↦
@@ -94,7 +102,9 @@ module _ (p : LinkedProgram) (q : Asked) (form : IsInForm p) where
               wait_for p q (sites_of s.heap) some.3.waits some.1 refl number frame above (there number frame e) (there (number + 1) above next);
           strings = λ number frame e. subst (λ (fs : List Frame). IsString p frame.method (string_of fs number)) (sym some.2)
               (strings_are p q (sites_of s.heap) some.3.waits some.1 refl (waiting_strings p q (sites_of s.heap) some.3.waits) number frame (there number frame e));
+          flying = flying;
           classes = λ object has. (kept.memory.objects has.0 object has.1).class;
+          instantiable = λ object has. real has.0 object has.1;
           fields = λ object write has written. (kept.memory.objects has.0 object has.1).fields write written;
         }
   ] where

@@ -7,7 +7,7 @@ use Rattle.link_sites.specs.declared.place.Place.{Place}
 use Rattle.link_sites.specs.declared.site.Site.{Site}
 use Rattle.link_sites.specs.declared.site.Site.TheVariants as site
 use Rattle.link_laws.proofs.Whole.{links_well}
-use Rattle.run_covers.proofs.Whole.{links_covered}
+use Rattle.run_covers.proofs.Whole.{links_covered, run_real}
 use Rattle.run_covers.specs.Covers.{IsCovered}
 use Rattle.spds_rules.specs.declared.node.Node.{Node}
 use Rattle.spds_rules.specs.declared.reach.Reach.TheVariants.{Plain}
@@ -84,7 +84,9 @@ module _ (p : LinkedProgram) (q : Asked) where
 -- each state of a run agrees with the program
 pub runs_agree : (p : LinkedProgram) → IsWellLinked p → IsCovered p → RunsAgree p
 runs_agree p well covered count s run =
-    let nothing : Asked = record { targets = []; reach = Plain } in agrees p nothing well.form s (kept_run p nothing well covered run)
+    let nothing : Asked = record { targets = []; reach = Plain } in
+    let kept = kept_run p nothing well covered run in
+    agrees p nothing well.form s kept (λ number frame e. (tracked_at p nothing s kept number frame e).shaped.flies) (run_real p well count s run)
 
 -- the simulation
 pub runs_simulated : (p : LinkedProgram) → IsWellLinked p → IsCovered p → IsSimulated p

@@ -13,8 +13,8 @@ use link_program::Linked;
 /// answers, and what two locals of one frame hold is of a site that both answer under one call string.
 ///
 /// Each state of the run also agrees with the program: its first frame is the root's, each other frame is of a method that the call below it has as a
-/// target, the string of each frame is a call string of its method, each object has the class of its site, and each write is of a field that the site
-/// has.
+/// target, the string of each frame is a call string of its method, what is in flight is an object, each object has the class of its site, which is
+/// instantiable, and each write is of a field that the site has.
 ///
 /// The program is well linked, and the targets of its calls cover what its runs do, as in each program that linking gives.
 pub fn simulated(linked: &Linked)

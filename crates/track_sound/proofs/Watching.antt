@@ -19,11 +19,10 @@ use Rattle.step_rules.specs.States.{Frame, HeapObject, Point, State, new_frame, 
 use Rattle.step_rules.specs.Steps.{Step}
 use Rattle.run_sound.specs.Agrees.{Agrees}
 use Rattle.run_sound.specs.Frames.{places_of, string_of}
-use Rattle.run_sound.proofs.Agreeing.{agrees}
 use Rattle.run_sound.proofs.Calling.{unset}
 use Rattle.run_sound.proofs.Invariant.{AreSlots, IsKept, IsShaped, sites_of}
 use Rattle.run_sound.proofs.Lists.{not_empty, slice_get-slice_set}
-use Rattle.run_sound.proofs.Simulating.{kept_run, tracked_at}
+use Rattle.run_sound.proofs.Simulating.{kept_run, runs_agree, tracked_at}
 use Rattle.run_origins.specs.Origins.{IsEntry, IsStoredStatic, KeepsObjects, Origins, ends, entry, way_back, within}
 use Rattle.run_origins.specs.Standing.{node_at}
 use Rattle.run_origins.proofs.Machine.{steps_originate}
@@ -65,7 +64,7 @@ module _ (p : LinkedProgram) (k : ProtocolParts) (q : Asked) (asked : IsAskedBy 
     kept_next = kept_run p q well covered (Run.steps run step)
 
     agrees_at : Agrees p (state_of at)
-    agrees_at = agrees p q well.form (state_of at) kept
+    agrees_at = runs_agree p well covered count (state_of at) run_at
 
     origin : Origins p q.reach at step.effect next
     origin = (steps_originate p well covered q.reach count choice s next run step).0

@@ -31,27 +31,22 @@ returns-clause-reply g c = λ bytes about. let made = c.words_reply-made.ensures
 pub returns-clause-exact : goal.returns-clause-exact
 returns-clause-exact g c = λ bytes about. let made = c.words_reply-made.ensures.reply bytes about in
     exactly (old g c) (new g c) (before g c) (now g c) c.send.result (same g c) (words g c) bytes c.words_reply-made.result c.send.ensures.sent c.send.ensures.unsent made
-    c.words_reply-made.ensures.one
 
 pub returns-clause-sound : goal.returns-clause-sound
 returns-clause-sound g c = λ bytes about. let made = c.words_reply-made.ensures.reply bytes about in
     soundly (old g c) (new g c) (before g c) (now g c) c.send.result (same g c) (words g c) bytes c.words_reply-made.result c.send.ensures.sent c.send.ensures.unsent made
-    c.words_reply-made.ensures.one
 
 pub returns-clause-safe : goal.returns-clause-safe
 returns-clause-safe g c = λ bytes left. let made = c.words_reply-made.ensures.reply bytes (inl left) in
     safely (old g c) (new g c) (before g c) (now g c) c.send.result (same g c) (words g c) bytes c.words_reply-made.result c.send.ensures.sent c.send.ensures.unsent made
-    c.words_reply-made.ensures.one
 
 pub returns-clause-evident : goal.returns-clause-evident
 returns-clause-evident g c = λ bytes about. let made = c.words_reply-made.ensures.reply bytes about in
     evidently (old g c) (new g c) (before g c) (now g c) c.send.result (same g c) (words g c) bytes c.words_reply-made.result c.send.ensures.sent c.send.ensures.unsent made
-    c.words_reply-made.ensures.one
 
 pub returns-clause-complete : goal.returns-clause-complete
 returns-clause-complete g c = λ bytes about. let made = c.words_reply-made.ensures.reply bytes about in
-    completely (old g c) (new g c) (before g c) (now g c) c.send.result (same g c) (words g c) bytes c.words_reply-made.result c.send.ensures.sent c.send.ensures.unsent made
-    c.words_reply-made.ensures.one _ c.words_reply-made.ensures.fault
+    completely (old g c) (new g c) (before g c) (now g c) c.send.result (same g c) (words g c) bytes c.words_reply-made.result c.send.ensures.sent c.send.ensures.unsent made _ c.words_reply-made.ensures.fault
 
 pub returns-clause-prefix : goal.returns-clause-prefix
 returns-clause-prefix g c = λ bytes about. let made = c.words_reply-made.ensures.reply bytes about in

@@ -23,6 +23,7 @@ returns-in_default g c = record {
   given = c.read_reply.ensures.given;
   unread = λ is. absurd (other_question c.args.command.now.query c.in_default.not-Demo is);
   whole = IfOk-one c.read_reply.result _ _ c.read_reply.ensures.whole (λ reply whole done. inr (whole done));
+  taken = c.read_reply.ensures.taken;
   fault = c.read_reply.ensures.fault;
   told = c.read_reply.ensures.told;
 }

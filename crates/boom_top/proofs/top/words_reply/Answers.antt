@@ -16,9 +16,6 @@ second_by (inr b) f = inr (f b)
 requested : (g : given.Over) (c : In-Some g) → IsRequest (map string_bytes c.args.words.now) (request_of c.in-Some.command)
 requested g c = rw c.in-Some.is at c.in_ok-command.ensures.some
 
-only : (g : given.Over) (c : In-Some g) (r : Request) → IsRequest (map string_bytes c.args.words.now) r → request_of c.in-Some.command ≡ r
-only g c r h = rw c.in-Some.is at (c.in_ok-command.ensures.only r h)
-
 none : (g : given.Over) (c : In-None g) → NoRequest (map string_bytes c.args.words.now)
 none g c r h = rw c.in-None.is at (c.in_ok-command.ensures.only r h)
 
@@ -29,11 +26,6 @@ returns-in-Some-clause-reply g c' =
     passed (IsReplyTo (request_of c.in-Some.command) bytes) (IsReply (map string_bytes c'.args.words.now) bytes) c'.command_reply.result
     (λ s lines h. inr (request_of c.in-Some.command, requested g c, h))
     (c'.command_reply.ensures.reply bytes (second_by about (λ nothing. nothing _ (requested g c))))
-
-pub returns-in-Some-clause-one : goal.returns-in-Some-clause-one
-returns-in-Some-clause-one g c' =
-    let c = (goal.at.returns-in-Some-clause-one g c').In-Some in
-    λ ok a b x y. sym (only g c a x) ∙ only g c b y
 
 pub returns-in-Some-clause-no_words : goal.returns-in-Some-clause-no_words
 returns-in-Some-clause-no_words g c = λ no. absurd (no _ (requested g (goal.at.returns-in-Some-clause-no_words g c).In-Some))
@@ -47,11 +39,6 @@ returns-in_ok-refused-in-None-clause-reply g c =
     λ bytes about.
     told_one (IsReply (map string_bytes c.args.words.now) bytes) c.in_ok-refused-in-None.field-0 status.Usage c.in_ok-refused-in-None.ensures
     (inl (no, (refl, refl)))
-
-pub returns-in_ok-refused-in-None-clause-one : goal.returns-in_ok-refused-in-None-clause-one
-returns-in_ok-refused-in-None-clause-one g c =
-    let no = none g (goal.at.returns-in_ok-refused-in-None-clause-one g c).In-None in
-    λ ok a b x y. absurd (no a x)
 
 pub returns-in_ok-refused-in-None-clause-usage : goal.returns-in_ok-refused-in-None-clause-usage
 returns-in_ok-refused-in-None-clause-usage g c =

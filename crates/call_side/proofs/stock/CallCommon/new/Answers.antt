@@ -10,7 +10,7 @@ new-requires c = record {
 
 pub invariant_of-result : goal.invariant_of-result
 invariant_of-result c =
-    let below = rw c.deref.ensures.value at (c.rules_fit.ensures c.if-not-rules_fit.false) in
+    let below = rw c.deref.ensures.value at (c.rules_fit.ensures.0 c.if-not-rules_fit.false) in
     rw (
       c.in_ok-split.ensures.ok,
       c.in_ok-common.ensures,
