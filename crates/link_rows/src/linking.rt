@@ -86,6 +86,70 @@ fn refuses(rt: HostRuntime) -> Result<(), Fail> {
     Ok(())
 }
 
+// Classes for the bodies below. None of them is refused by itself, since no run reaches their methods.
+const CLASSES: &str =
+    "class A { static void f() { return; } static native void g(); } abstract class B { abstract void m(); } class D { native void m(); } \
+class java.lang.Class { static void f() { return; } } class java.lang.Thread { static void f() { return; } } interface F { void m() { return; } } \
+interface G { void m() { return; } } class H implements F, G { }";
+
+// Bodies of `main`, each of which is refused by one rule. A row has the number of the rule and an index, and behind ` | ` the body.
+const BODIES: &str = "6 0 | int x, x; return;
+7 1 | l: nop; l: return;
+8 1 | nop; goto q;
+8 2 | a: nop; b: return; catch java.lang.Error from a to q with b;
+9 1 | nop; nop;
+9 1 | a: return; b: catch java.lang.Error from a to b with b;
+10 1 | nop; x = null; return;
+11 0 | Main x; x := @this: Main; return;
+11 0 | int x; x := @parameter1: int; return;
+12 1 | nop; dynamicinvoke f; return;
+13 0 | staticinvoke <java.lang.Class: void f()>(); return;
+14 0 | java.lang.Thread x; x = new java.lang.Thread; return;
+14 0 | staticinvoke <java.lang.Thread: void f()>(); return;
+15 1 | int x; nop; ret x; return;
+16 0 | int[][] x; x = newmultiarray (int)[][3]; return;
+17 0 | A x; x = new Q; return;
+17 2 | a: nop; return; catch Q from a to a with a;
+18 0 | int x; x = <A: int f>; return;
+19 0 | B x; x = new B; return;
+20 0 | staticinvoke <A: void h()>(); return;
+20 0 | B x; specialinvoke x.<B: void m()>(); return;
+21 0 | staticinvoke <A: void f()>(null); return;
+21 0 | A x; x = staticinvoke <A: void f()>(); return;
+22 0 | staticinvoke <A: void g()>(); return;
+22 0 | D x; virtualinvoke x.<D: void m()>(); return;
+23 1 | H x; nop; virtualinvoke x.<H: void m()>(); return;";
+
+fn is_body_refused(alloc: Global, row: &str) -> Result<bool, NoMemory> {
+    let Some((told, body)) = row.split_once(" | ") else {
+        return Ok(false);
+    };
+    let Some((kind, index)) = told.split_once(' ') else {
+        return Ok(false);
+    };
+    let text = format!(in alloc;
+        "{CLASSES} class Main {{ static void main(java.lang.String[]) {{ {body} }} }}"
+    )?;
+    let wanted = format!(in alloc; "{kind} <Main: void main(java.lang.String[])> {index}")?;
+    is_told(alloc, text.as_str(), wanted.as_str())
+}
+
+// The first body that is refused otherwise.
+fn first_body_wrong(alloc: Global) -> Result<Option<&'static str>, NoMemory> {
+    for row in BODIES.lines() {
+        if !is_body_refused(alloc, row)? {
+            return Ok(Some(row));
+        }
+    }
+    Ok(None)
+}
+
+#[test]
+fn refuses_by_each_rule(rt: HostRuntime) -> Result<(), Fail> {
+    assert_eq!(rt; first_body_wrong(rt.alloc())?, None);
+    Ok(())
+}
+
 // Interfaces, of which some have methods with bodies.
 const INTERFACES: &str =
     "class A { } class B { } interface I { java.lang.Object m() { java.lang.Object o; o = new A; return o; } \

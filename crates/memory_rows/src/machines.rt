@@ -73,14 +73,30 @@ fn place_behind(
     }
 }
 
+// A statement of the method with this number.
+fn place(method: u32, index: u32) -> Place {
+    Place {
+        method,
+        index,
+        raised: false,
+    }
+}
+
+// Steps, how many frames there are behind them, and where the top one stands. The root's four and one of `main` lead to the loop, each turn of which makes
+// six: the call, four in the method, whose number is 0, and the jump back. So 40 steps end five behind the beginning of a turn, before the jump, and 200 end
+// three behind one, before the store.
+fn ends() -> [(u32, u32, Place); 2] {
+    [(40, 2, place(1, 2)), (200, 3, place(0, 2))]
+}
+
 #[test]
 fn machines_go_on(rt: HostRuntime) -> Result<(), Fail> {
     let linked = linked(rt.alloc());
     assert!(rt; linked.is_some());
     if let Some(linked) = &linked {
-        for steps in [40, 200] {
-            let place = place_behind(rt.alloc(), linked, steps)?;
-            assert!(rt; place.is_some());
+        for (steps, frames, at) in ends() {
+            let found = place_behind(rt.alloc(), linked, steps)?;
+            assert!(rt; found == Some((frames, at)));
         }
     }
     Ok(())

@@ -370,8 +370,23 @@ fn contents_of_names(rt: HostRuntime) -> Result<(), Fail> {
     Ok(())
 }
 
+// Texts that could be cut in more than one way: each has the one list of its longest tokens. What stands behind a token changes its spelling nowhere but at
+// `/`.
+const CUTS: [(&[u8], &str); 8] = [
+    (b">>>>=", "M0-3 M3-5 "),
+    (b":==", "M0-2 M2-3 "),
+    (b"<<=", "M0-2 M2-3 "),
+    (b"1LL", "I0-2 N2-3 "),
+    (b"a/b", "N0-1 M1-2 N2-3 "),
+    (b"a/ /b", "N0-1 M1-2 M3-4 N4-5 "),
+    (b"a/**/b", "N0-1 N5-6 "),
+    (b"a/*b", "!1"),
+];
+
 #[test]
-fn laws(_rt: HostRuntime) {
+fn texts_are_cut_in_one_way(rt: HostRuntime) -> Result<(), Fail> {
     has_one_list();
     spells_alone();
+    assert_eq!(rt; first_wrong(rt.alloc(), &CUTS)?, None);
+    Ok(())
 }
