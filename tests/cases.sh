@@ -6,8 +6,7 @@
 # A case is up to four files: NAME (the input; without it there is none), NAME.args (the words of the command, one a line), NAME.stdout (the reply) and
 # NAME.status (the exit status; without it any will do). Other files of a folder are no cases.
 # It prints each difference, and at the end how many cases are as expected. The status is 1 where one differs, or where there is none.
-# The program is that of ./boomer, which builds it first; BOOMER names another one. With --try it is one that isn't proved: `rt try` builds it once for
-# each folder, in a minute or two.
+# The program is that of ./boomer, which builds it first; BOOMER names another one. With --try it is that of ./boomer --try, which isn't proved.
 set -euo pipefail
 top=$(cd "$(dirname "${BASH_SOURCE[0]}")/.." && pwd)
 
@@ -21,11 +20,15 @@ if [ $# -eq 0 ]; then
   exit 2
 fi
 
-program=${BOOMER:-}
-if [ -z "$program" ] && [ -z "$tries" ]; then
-  # Builds the program where it isn't built; a command without words reads nothing, and is refused.
-  "$top/boomer" < /dev/null > /dev/null || [ $? -eq 1 ]
-  program=$top/crates/boomer/out/boomer
+# Has a program, which ./boomer builds where it isn't built. Where it can't be kept, the script itself is asked.
+kept=$top/crates/boomer/out/boomer
+if [ -n "$tries" ]; then kept=$top/crates/boomer/out/tried; fi
+if [ -n "${BOOMER:-}" ]; then
+  program=("$BOOMER")
+else
+  "$top/boomer" ${tries:+--try} demo 1 < /dev/null > /dev/null
+  program=("$kept")
+  if [ ! -x "$kept" ]; then program=("$top/boomer" --try); fi
 fi
 
 work=$(mktemp -d)
@@ -47,7 +50,7 @@ compare() {
   diff -u --label expected --label reply "$case.stdout" "$work/reply" || true
 }
 
-# Each case by itself.
+# run_cases FOLDER
 run_cases() {
   local args case input words status
   for args in "$1"/*.args; do
@@ -57,35 +60,13 @@ run_cases() {
     [ -f "$input" ] || input=/dev/null
     mapfile -t words < "$args"
     status=0
-    "$program" "${words[@]}" < "$input" > "$work/reply" || status=$?
+    "${program[@]}" "${words[@]}" < "$input" > "$work/reply" || status=$?
     compare "$case" "$status"
   done
 }
 
-# All cases at once by `rt try`, as numbered inputs with their words. It prints the reply of each under a line of its own, and its status on standard error.
-try_cases() {
-  local args case cases=() at status
-  rm -rf "$work/tried"
-  mkdir "$work/tried"
-  for args in "$1"/*.args; do
-    [ -f "$args" ] || continue
-    case=${args%.args}
-    if [ -f "$case" ]; then cp "$case" "$work/tried/${#cases[@]}"; else : > "$work/tried/${#cases[@]}"; fi
-    cp "$args" "$work/tried/${#cases[@]}.args"
-    cases+=("$case")
-  done
-  [ "${#cases[@]}" -gt 0 ] || return 0
-  (cd "$top/crates/boomer" && rt try --cases "$work/tried") > "$work/replies" 2> "$work/said" || true
-  for at in "${!cases[@]}"; do
-    status=$(sed -nE "s/^case=$at run=ended status=([0-9]+) .*/\1/p" "$work/said")
-    awk -v mark="== $at" '/^== [0-9]+$/ { on = $0 == mark; next } on' "$work/replies" > "$work/reply"
-    compare "${cases[at]}" "${status:-none}"
-  done
-  if ! tail -n 1 "$work/said" | grep -q '^cases='; then cat "$work/said" >&2; fi
-}
-
 for folder in "$@"; do
-  if [ -n "$tries" ]; then try_cases "$folder"; else run_cases "$folder"; fi
+  run_cases "$folder"
 done
 echo "$same of $all as expected"
 [ "$all" -gt 0 ] && [ "$same" -eq "$all" ]

@@ -48,7 +48,7 @@ def main(flags):
     wrong = ran = 0
     with tempfile.TemporaryDirectory() as folder:
         cases = []
-        for page in ['README.md'] + sorted(f'docs/{name}' for name in os.listdir(os.path.join(TOP, 'docs'))):
+        for page in ['README.md'] + sorted(f'docs/{name}' for name in os.listdir(os.path.join(TOP, 'docs')) if name.endswith('.md')):
             for line, printed in commands_of(page):
                 words = shlex.split(line)
                 if words[0] == './boomer':

@@ -3,8 +3,8 @@
 #
 # usage: tests/layers.sh
 #
-# It also looks whether the two pages that speak of each crate have all of them. It wants no kit. It prints each line of a file that breaks a rule, and at
-# the end how many rules there are and how many breaches; the status is 1 where there is one.
+# It also checks the figure of layers there, by tests/figure.py. It wants no kit. It prints each line of a file that breaks a rule, and at the end how many
+# rules there are and how many are broken; the status is 1 where one is.
 set -euo pipefail
 cd "$(dirname "${BASH_SOURCE[0]}")/../crates"
 crates=(*/)
@@ -71,18 +71,7 @@ but() {
   none 'no crate of the program stands on a crate of tests' "$(names "${for_tests[@]}")" $(files "${for_all[@]}" $(but))
 }
 
-# each PAGE PATTERN: the page has the name of each crate in this form, where % stands for the name.
-each() {
-  local page=$1 pattern=$2 crate
-  rules=$((rules + 1))
-  for crate in "${crates[@]}"; do
-    if ! grep -q -- "${pattern//%/$crate}" "../docs/$page"; then
-      printf '== %s lacks the crate %s\n' "$page" "$crate"
-      broken=$((broken + 1))
-    fi
-  done
-}
-each ARCHITECTURE.md '^| `%` |'
-each PROVED.md '^## .*\b%\b'
+rules=$((rules + 1))
+if ! ../tests/figure.py; then broken=$((broken + 1)); fi
 echo "$rules rules, $broken broken"
 [ "$broken" -eq 0 ]

@@ -7,19 +7,30 @@
 set -euo pipefail
 cd "$(dirname "${BASH_SOURCE[0]}")/.."
 main='<Main: void main(java.lang.String[])>'
+work=$(mktemp -d)
+trap 'rm -rf "$work"' EXIT
 all=0
 wrong=0
 
-# prints WHAT STATUS TEXT COMMAND..: the command ends with the status, and prints the text.
+# prints WHAT STATUS TEXT COMMAND..: the command ends with the status, prints the text, and doesn't break down.
 prints() {
   local what=$1 wanted=$2 text=$3 printed status=0
   shift 3
-  printed=$("$@" 2> /dev/null) || status=$?
+  printed=$("$@" 2> "$work/said") || status=$?
   all=$((all + 1))
-  if [ "$status" -ne "$wanted" ] || [ "$printed" != "$text" ]; then
+  if [ "$status" -ne "$wanted" ] || [ "$printed" != "$text" ] || grep -q Traceback "$work/said"; then
     printf '== %s: status %s\n%s\n' "$what" "$status" "$printed"
+    cat "$work/said"
     wrong=$((wrong + 1))
   fi
+}
+
+# says WHAT TEXT COMMAND..: the command ends with the status 1, prints nothing, and says the text on standard error.
+says() {
+  local what=$1 text=$2
+  shift 2
+  prints "$what" 1 '' "$@"
+  prints "$what, and says so" 0 "$text" echo "$(cat "$work/said")"
 }
 
 prints 'labels and declarations have no index' 0 '     begin:
@@ -28,7 +39,7 @@ prints 'labels and declarations have no index' 0 '     begin:
      end:
     2  return;' tools/number.py examples/index.jimple "$main"
 
-prints 'identity statements have one, and a switch has one' 0 '    0  r0 := @parameter0: java.lang.Object;
+prints 'identity statements have one, a switch has one, and a trap has none' 0 '    0  r0 := @parameter0: java.lang.Object;
      begin:
     1  $z0 = r0 instanceof org.shop.Basket;
     2  if $z0 == 0 goto other;
@@ -48,7 +59,8 @@ prints 'identity statements have one, and a switch has one' 0 '    0  r0 := @par
    13  return null;
      end:
    14  $r4 := @caughtexception;
-   15  throw $r4;' tools/number.py examples/compiled.jimple '<org.shop.Basket: java.lang.Object first(java.lang.Object)>'
+   15  throw $r4;
+     catch java.lang.ClassCastException from begin to other with end;' tools/number.py examples/compiled.jimple '<org.shop.Basket: java.lang.Object first(java.lang.Object)>'
 
 prints 'so does what is stored into a static field' 0 '    0  a = new Box;
     1  b = new Box;
@@ -60,6 +72,43 @@ prints 'so does what is stored into a static field' 0 '    0  a = new Box;
     7  d = c.<Box: Box n>;
     8  x = d.<Box: java.lang.Object v>;
     9  return;' tools/number.py examples/statics.jimple "$main"
+
+cat > "$work/lines.jimple" <<'END'
+class Main {
+    // a comment in front of a method
+    static void main(java.lang.String[]) {
+        java.lang.Object x; // x holds nothing
+        /* a comment in front of a statement */
+        x = null; // twice:
+/*7*/
+     next:
+        x = /* two */ null;
+/*8*/
+        return;
+/* 9
+   and more */
+        catch java.lang.Error from next to next with next;
+    }
+}
+END
+prints 'a comment behind a statement is kept, as Soot writes the lines of Java' 0 '    0  x = null; // twice: /*7*/
+     next:
+    1  x = /* two */ null; /*8*/
+    2  return; /* 9 and more */
+     catch java.lang.Error from next to next with next;' tools/number.py "$work/lines.jimple" "$main"
+
+{
+  printf 'class Main { static void main(java.lang.String[]) {\n'
+  seq 20000 | sed 's/.*/nop;/'
+  printf 'return; } }\n'
+} > "$work/long.jimple"
+first_of() {
+  "$@" | head -n 1
+}
+prints 'who reads may have enough of it' 0 '    0  nop;' first_of tools/number.py "$work/long.jimple" "$main"
+says 'a file that is not there' 'none.jimple: No such file or directory' tools/number.py none.jimple
+says 'a folder' 'examples: Is a directory' tools/number.py examples "$main"
+says 'nor has it a token' 'none.jimple: No such file or directory' tools/where.py none.jimple 1
 
 prints 'the methods with a body, by their texts' 0 '<org.shop.Basket: void <init>(int)>
 <org.shop.Basket: java.lang.Object first(java.lang.Object)>' tools/number.py examples/compiled.jimple
@@ -90,6 +139,8 @@ prints 'the end, behind the last of 28 tokens' 0 'examples/grammar.jimple:10:1
 ^' tools/where.py examples/grammar.jimple 28
 
 prints 'no token' 1 '' tools/where.py examples/grammar.jimple 29
+
+prints 'no clause of the top call' 1 '' tools/trusted.py safe sounds
 
 if ! differences=$(tools/trusted.py --check); then
   printf '== docs/DEFINITIONS.md and the trusted definitions:\n%s\n' "$differences"

@@ -4,12 +4,13 @@
 usage: tools/number.py FILE METHOD
        tools/number.py FILE             prints the METHOD of each body in the file
 
-METHOD is a text as '<Main: void main(java.lang.String[])>'. Labels stand between the statements, without a number. The file has to be a program that
-boomer reads; of another one what is printed may be wrong. The status is 1 where no method with a body has the text.
+METHOD is a text as '<Main: void main(java.lang.String[])>'. Labels stand between the statements, and traps behind them, without a number. A comment that
+stands behind a statement is kept: there Soot puts the number of the line in Java, as /*12*/. The file has to be a program that boomer reads; of another one what
+is printed may be wrong. The status is 1 where there is no such file, or no method with a body has the text.
 """
 import sys
 
-from jimple import tokens_of
+from jimple import pieces_of, read, run
 
 MODIFIERS = set('abstract final native public protected private static synchronized transient volatile strictfp enum annotation'.split())
 BEGINS_STATEMENT = set('''if goto tableswitch lookupswitch return ret throw entermonitor exitmonitor nop breakpoint
@@ -45,8 +46,8 @@ def is_name(word):
 
 
 def lines_of(words, at, end):
-    """The labels and the statements of a body, in order: whether it is a statement, and where it begins and ends."""
-    while at < end and words[at] != 'catch':
+    """The labels, the statements and the traps of a body, in order: whether it is a statement, and where it begins and ends."""
+    while at < end:
         first, second = words[at], words[at + 1]
         if second == ':':
             yield False, at, at + 2
@@ -57,15 +58,31 @@ def lines_of(words, at, end):
             depth += (words[close] == '{') - (words[close] == '}')
             close += 1
         is_declaration = is_name(first) and first not in BEGINS_STATEMENT and (is_name(second) or words[at + 1:at + 3] == ['[', ']'])
-        if not is_declaration:
-            yield True, at, close + 1
+        if first == 'catch' or not is_declaration:
+            yield first != 'catch', at, close + 1
         at = close + 1
 
 
+def tokens_and_comments(data):
+    """The tokens of bytes, and of each the comments between it and the next one."""
+    tokens, behind = [], []
+    for is_comment, at, end in pieces_of(data):
+        if not is_comment:
+            tokens.append((at, end))
+            behind.append([])
+        elif behind:
+            behind[-1].append(data[at:end])
+    return tokens, behind
+
+
+def as_line(*texts):
+    """Texts in one line, with one blank where there were blanks or line feeds."""
+    return ' '.join(b' '.join(texts).decode(errors='replace').split())
+
+
 def main(file, method=None):
-    with open(file, 'rb') as it:
-        data = it.read()
-    tokens = tokens_of(data)
+    data = read(file)
+    tokens, behind = tokens_and_comments(data)
     words = [data[begin:end].decode(errors='replace') for begin, end in tokens]
     try:
         bodies = [body for body in bodies_of(words) if method in (None, body[0])]
@@ -76,11 +93,13 @@ def main(file, method=None):
         print(*(text for text, _, _ in bodies), sep='\n')
     index = 0
     for is_statement, at, end in lines:
-        line = ' '.join(data[tokens[at][0]:tokens[end - 1][1]].decode(errors='replace').split())
+        line = as_line(data[tokens[at][0]:tokens[end - 1][1]], *behind[end - 1] * is_statement)
         print(f'{index:5}  {line}' if is_statement else f'     {line}')
         index += is_statement
     return 0 if bodies else f'{file} has no method with a body' + (f' and the text {method}' if method else '')
 
 
 if __name__ == '__main__':
-    sys.exit(main(*sys.argv[1:]) if 2 <= len(sys.argv) <= 3 else __doc__)
+    if not 2 <= len(sys.argv) <= 3:
+        sys.exit(__doc__)
+    run(main, *sys.argv[1:])

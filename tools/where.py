@@ -5,16 +5,15 @@ usage: tools/where.py FILE TOKEN
        tools/where.py --byte FILE BYTE
 
 Both are counted from 0, and the number behind the last is the end of the file. It prints FILE:LINE:COLUMN, from 1, the column in characters, then the
-line, and a mark below it. The status is 1 where there is no such token or byte.
+line, and a mark below it. The status is 1 where there is no such file, token or byte.
 """
 import sys
 
-from jimple import tokens_of
+from jimple import read, run, tokens_of
 
 
 def main(file, at, is_byte):
-    with open(file, 'rb') as it:
-        data = it.read()
+    data = read(file)
     starts = range(len(data) + 1) if is_byte else [begin for begin, _ in tokens_of(data)] + [len(data)]
     if at >= len(starts):
         return f'{file} has {len(starts) - 1} {"bytes" if is_byte else "tokens"}'
@@ -31,4 +30,6 @@ def main(file, at, is_byte):
 if __name__ == '__main__':
     is_byte = sys.argv[1:2] == ['--byte']
     words = sys.argv[1 + is_byte:]
-    sys.exit(main(words[0], int(words[1]), is_byte) if len(words) == 2 and words[1].isdecimal() else __doc__)
+    if len(words) != 2 or not words[1].isdecimal():
+        sys.exit(__doc__)
+    run(main, words[0], int(words[1]), is_byte)
