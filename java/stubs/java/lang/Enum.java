@@ -1,0 +1,42 @@
+package java.lang;
+
+import boomer.support.Keeps;
+
+@Keeps(value = "the name", covers = "runs")
+public abstract class Enum<E extends Enum<E>> implements Comparable<E>, java.io.Serializable {
+    private final String name;
+    private final int ordinal;
+
+    protected Enum(String name, int ordinal) {
+        this.name = name;
+        this.ordinal = ordinal;
+    }
+
+    public final String name() {
+        return name;
+    }
+
+    public final int ordinal() {
+        return ordinal;
+    }
+
+    public String toString() {
+        return name;
+    }
+
+    public final boolean equals(Object other) {
+        return this == other;
+    }
+
+    public final int hashCode() {
+        return 0;
+    }
+
+    public final int compareTo(E other) {
+        return other.ordinal();
+    }
+
+    public final Class<E> getDeclaringClass() {
+        return new Class<>();
+    }
+}
