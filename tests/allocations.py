@@ -9,6 +9,13 @@ TOP = os.path.dirname(os.path.dirname(os.path.abspath(__file__)))
 EXAMPLES = ["copies", "boxes", "run", "alias", "files", "explained", "certified", "batch", "paths", "refined"]
 # Status 13 is that of want of memory.
 SHORT = 13
+# A file that a method opens and reads, and that is closed while another local holds it too; and its protocol.
+PASSED = b"""class F { void open() { return; } void read() { return; } void close() { return; } }
+class Main {
+static void use(F) { F p; p := @parameter0: F; virtualinvoke p.<F: void open()>(); virtualinvoke p.<F: void read()>(); return; }
+static void main(java.lang.String[]) { F f, g; f = new F; staticinvoke <Main: void use(F)>(f); g = f; virtualinvoke f.<F: void close()>(); return; } }
+"""
+PROTOCOL = "F closed;closed open opened;opened read opened;opened close closed"
 
 
 class Refuser:
@@ -96,6 +103,7 @@ def main(names):
         for name, words, text in commands(names or EXAMPLES):
             bad += tells(name, *refuser.count([boomer] + words, text, is_answered))
         if not names:
+            bad += tells("a file that is passed", *refuser.count([boomer, "typestate", "Main", PROTOCOL, "100"], PASSED, is_answered))
             bad += tells("demo 8", *refuser.count([boomer, "demo", "8"], b"", is_answered))
             tested = tests()
             listed = subprocess.run([tested, "--list"], check=True, capture_output=True, text=True).stdout

@@ -4,8 +4,8 @@
 usage: tests/figure.py
 
 Each crate of crates.txt stands in it once. What a crate's sources, definitions and proofs name stands in a row below, or to its right in its row; crates of
-tests may name any. The first 11 columns of a row say what it is, and `|` parts code from laws. crates.txt lists no use that no file names, but for those
-that stand in tests/unnamed.txt with a reason. It prints each breach; the status is 1 where there is one.
+tests may name any. The first 11 columns of a row say what it is, and `|` parts code from laws. crates.txt lists no use that no file names. It prints each
+breach; the status is 1 where there is one.
 """
 import os
 import re
@@ -55,10 +55,7 @@ def unnamed(named):
 def main():
     named = uses()
     found = list(breaches(rows_of('docs/ARCHITECTURE.md'), named))
-    allowed = {line.split('#')[0].strip() for line in read('tests', 'unnamed.txt').splitlines() if not line.startswith('#')}
-    left = unnamed(named)
-    found += [f'crates.txt lists a use that no file names: {it}' for it in sorted(left - allowed)]
-    found += [f'tests/unnamed.txt lists a use that is named, or isn\'t in crates.txt: {it}' for it in sorted(allowed - left)]
+    found += [f'crates.txt lists a use that no file names: {it}' for it in sorted(unnamed(named))]
     print(*found, f'{len(named)} crates, {len(found)} breaches in the figure of layers', sep='\n')
     return 1 if found else 0
 

@@ -125,6 +125,21 @@ pub fn reply_of<R: Threads + AllocGlobal + Sync>(
     Ok((number, Vec::from_slice(rt.alloc(), sink.bytes())?))
 }
 
+/// The number of the status of these words over a text, and the reply, for which there is so much room.
+pub fn whole_reply<R: Threads + AllocGlobal + Sync>(
+    rt: &R,
+    parts: &[&str],
+    text: &str,
+    room: usize,
+) -> Result<(u8, Vec<u8>), AllocError> {
+    let words = words_of(rt.alloc(), parts)?;
+    let bytes = Vec::from_slice(rt.alloc(), text.as_bytes())?;
+    let mut source = MemSource::new(bytes, Vec::new(rt.alloc()), 1_000_000);
+    let mut sink = MemSink::new(rt.alloc(), room, Vec::new(rt.alloc()), 1_000_000)?;
+    let number = asked(rt, &words, &mut source, &mut sink);
+    Ok((number, Vec::from_slice(rt.alloc(), sink.bytes())?))
+}
+
 /// The number of the status of these words over a text.
 pub fn status_of<R: Threads + AllocGlobal + Sync>(
     rt: &R,

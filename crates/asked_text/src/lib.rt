@@ -8,7 +8,7 @@ mod worked;
 
 pub use asking::{
     METHOD, Pieces, ROOM, SMALL, is_answered, is_reply, is_reply_to, reply_of, reply_text,
-    status_of, words, words_of,
+    status_of, whole_reply, words, words_of,
 };
 pub use faults::{Command, reads_that_fail, writes_that_fail};
 pub use worked::{SHARED, WORKED};

@@ -151,6 +151,22 @@ class Main { static void main(java.lang.String[]) { I r; java.lang.Object x; r =
     "points-to;Main;@;2;x;100 | points-to @ 2 x~sites 0~demanded 1~",
 );
 
+// Two again, of which none is lower. Below one stands a third, without a body, which the class doesn't implement.
+const WITHOUT: (&str, &str) = (
+    "class A { } class B { } interface I { java.lang.Object m() { java.lang.Object o; o = new A; return o; } }
+interface J implements I { java.lang.Object m(); } interface K { java.lang.Object m() { return null; } } class C implements I, K { }
+class Main { static void main(java.lang.String[]) { I r; java.lang.Object x; r = new C; x = interfaceinvoke r.<I: java.lang.Object m()>(); return; } }",
+    "points-to;Main;@;2;x;100 | refused NotLinked AmbiguousDefault @ 1~",
+);
+
+// The same, with a method of the class's own.
+const OVER: (&str, &str) = (
+    "class A { } class B { } interface I { java.lang.Object m() { java.lang.Object o; o = new A; return o; } }
+interface J implements I { java.lang.Object m(); } interface K { java.lang.Object m() { return null; } } class C implements I, K { java.lang.Object m() { return null; } }
+class Main { static void main(java.lang.String[]) { I r; java.lang.Object x; r = new C; x = interfaceinvoke r.<I: java.lang.Object m()>(); return; } }",
+    "points-to;Main;@;2;x;100 | points-to @ 2 x~sites 0~demanded 1~",
+);
+
 // Arrays in an array: what is stored into one of them, and the one itself.
 const NESTED: (&str, &str) = (
     "class A { } class Main { static void main(java.lang.String[]) { java.lang.Object[][] a; java.lang.Object[] b; java.lang.Object o, x;
@@ -171,4 +187,4 @@ pub const WORKED: [(&str, &str); 12] = [
 ];
 
 /// Programs with methods of interfaces, and with texts.
-pub const SHARED: [(&str, &str); 5] = [LOWEST, HIDDEN, SEVERAL, OWN, TEXTS];
+pub const SHARED: [(&str, &str); 7] = [LOWEST, HIDDEN, SEVERAL, OWN, WITHOUT, OVER, TEXTS];

@@ -176,6 +176,26 @@ fn refuses_nothing<R: Threads + AllocGlobal + Sync>(rt: &R) -> Result<bool, Allo
     is_answered(rt, &[], bytes, FIVE, 1, b"refused Usage\n")
 }
 
+// The status of no words over a source whose first read fails, and that of a query over it behind them.
+fn statuses_of_unread<R: Threads + AllocGlobal + Sync>(rt: &R) -> Result<(u8, u8), AllocError> {
+    let bytes = Vec::from_slice(rt.alloc(), PROGRAM.as_bytes())?;
+    let mut source = MemSource::new(bytes, vec![in rt.alloc(); 0]?, 64);
+    let mut sink = MemSink::new(rt.alloc(), 1000, Vec::new(rt.alloc()), 8)?;
+    let words = words(rt.alloc(), ASKED)?;
+    let first = boomer(rt, rt.alloc(), &[], &mut source, &mut sink, &Open).number();
+    let then = boomer(rt, rt.alloc(), &words, &mut source, &mut sink, &Open).number();
+    Ok((first, then))
+}
+
+// Words that are no command read nothing: the first read is still to come.
+#[test]
+fn no_words_leave_the_source_unread(rt: HostRuntime) -> Result<(), Fail> {
+    let (first, then) = statuses_of_unread(&rt)?;
+    assert_eq!(rt; first, 1);
+    assert_eq!(rt; then, 2);
+    Ok(())
+}
+
 // Texts that are no programs, each with the number of the status and what is refused.
 const TEXTS: &str = "5 NotJimple 9 | class Main { static void main(java.lang.String[
 5 NotJimple 5 | class A { int x }

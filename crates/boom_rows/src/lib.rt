@@ -6,6 +6,8 @@ mod batches;
 #[cfg(test)]
 mod commands;
 #[cfg(test)]
+mod events;
+#[cfg(test)]
 mod explains;
 #[cfg(test)]
 mod gates;

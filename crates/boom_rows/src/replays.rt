@@ -83,6 +83,7 @@ fn accepts<R: Threads + AllocGlobal + Sync>(rt: &R) -> Result<bool, AllocError> 
     let open = input.as_str().trim_end();
     Ok(
         is_answered(rt, input.as_str(), "10", 0, ACCEPTED)?
+            && is_answered(rt, input.as_str(), "100", 0, ACCEPTED)?
             && is_answered(rt, input.as_str(), "9", 11, "refused OverBudget 9\n")?
             && is_answered(rt, open, "10", 0, ACCEPTED)?,
     )

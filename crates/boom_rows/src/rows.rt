@@ -69,7 +69,8 @@ const DEMO: (&str, &str) = (
     "#",
     "demo;40 | demo 40~statements 168~sites 1~demanded 250~
 demo;1 | demo 1~statements 12~sites 1~demanded 16~
-demo;0 | refused Usage~",
+demo;0 | refused Usage~
+demo;401 | refused Usage~",
 );
 
 // The number of the status that a reply tells of: a refusal has the word of its status behind `refused`.

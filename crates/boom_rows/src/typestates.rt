@@ -26,6 +26,7 @@ virtualinvoke g.<F: void read()>(); return; } }
 // the checks: of linking, of the word by its grammar, its states and its class, and of the demand.
 const OF_CLOSED: &str =
     "Main | F closed;closed open opened;opened read opened;opened close closed | 10 | 0 | typestate Main F~verdict safe~demanded 10~
+Main | F closed;closed open opened;opened read opened;opened close closed | 100 | 0 | typestate Main F~verdict safe~demanded 10~
 F |  | 0 | 6 | refused NotLinked NoEntry~
 Main | F closed;closed open | 0 | 8 | refused NotProtocol grammar 1~
 Main | F 0;0 e 1;1 e 2;2 e 3;3 e 4;4 e 5;5 e 6;6 e 7;7 e 8;8 e 9;9 e 10;10 e 11;11 e 12;12 e 13;13 e 14;14 e 15;15 e 16 | 0 | 8 | refused NotProtocol states 16~
@@ -33,7 +34,10 @@ Main | G closed | 0 | 8 | refused NotProtocol class~
 Main | F closed;closed open opened;opened read opened;opened close closed | 9 | 11 | refused OverBudget 9~";
 
 const OF_READ: &str =
-    "Main | F closed;closed open opened;opened read opened;opened close closed | 12 | 0 | typestate Main F~unsafe <Main: void main(java.lang.String[])> 0 new F at <Main: void main(java.lang.String[])> 4 state closed event read~verdict unsafe 1~demanded 12~";
+    "Main | F closed;closed open opened;opened read opened;opened close closed | 12 | 0 | typestate Main F~unsafe <Main: void main(java.lang.String[])> 0 new F at <Main: void main(java.lang.String[])> 4 state closed event read~verdict unsafe 1~demanded 12~
+Main | F closed;closed open opened;opened read opened;opened close closed | 100 | 0 | typestate Main F~unsafe <Main: void main(java.lang.String[])> 0 new F at <Main: void main(java.lang.String[])> 4 state closed event read~verdict unsafe 1~demanded 12~
+Main | F closed;closed open | 100 | 8 | refused NotProtocol grammar 1~
+Main | G closed | 100 | 8 | refused NotProtocol class~";
 
 const PIECES: Pieces = Pieces {
     read: 1000,

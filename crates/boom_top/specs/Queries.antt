@@ -36,6 +36,7 @@ source_of (demo boxes) bytes = demo_source boxes
 abbrev pub certificate_mark : List ℕ
 certificate_mark = codes "%certificate"
 
+-- the line behind which the queries of a batch stand
 abbrev pub queries_mark : List ℕ
 queries_mark = codes "%queries"
 

@@ -91,6 +91,7 @@ FitsVar (Raised kind) = kind < 2 ^ 8
 FitsVar (Text number) = IsRoomy number
 FitsVar (Class number) = IsRoomy number
 
+-- the node can be spelled
 abbrev pub FitsNode : Node → Type 0
 FitsNode n = IsRoomy n.place.method × IsRoomy n.place.index × FitsVar n.var
 

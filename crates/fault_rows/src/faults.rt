@@ -1,6 +1,6 @@
 //! Each read and each write of a command fails in turn.
-use super::texts::{CALLS, CERTIFICATE, FILES, PROTOCOL};
-use asked_text::{Command, METHOD, reads_that_fail, writes_that_fail};
+use super::texts::{BOXES, CALLS, CERTIFICATE, FILES, PROTOCOL};
+use asked_text::{Command, METHOD, SMALL, is_reply_to, reads_that_fail, writes_that_fail};
 use std::alloc::AllocError;
 use std::marker::Sync;
 use std::test::Fail;
@@ -23,6 +23,31 @@ fn reads_and_writes_of_queries_fail(rt: HostRuntime) -> Result<(), Fail> {
     assert!(rt; fails(&rt, &["points-to", "Main", METHOD, "4", "x", "100"], CALLS)?);
     assert!(rt; fails(&rt, &["explain", "Main", METHOD, "4", "x", "100"], CALLS)?);
     assert!(rt; fails(&rt, &["alias", "Main", METHOD, "4", "x", "y", "100"], CALLS)?);
+    Ok(())
+}
+
+// A read takes 64 bytes, and the last one finds none; a write gives five bytes of the reply. Each of them fails in turn.
+fn fields_fail<R: Threads + AllocGlobal + Sync>(rt: &R) -> Result<bool, AllocError> {
+    let words = ["points-to", "Main", METHOD, "8", "x", "100"];
+    let reply = format!(in rt.alloc();
+        "points-to {METHOD} 8 x\nsite {METHOD} 2 new A\nsites 1\ndemanded 31\n"
+    )?;
+    let command = Command {
+        words: &words,
+        text: BOXES,
+    };
+    let reads = reads_that_fail(rt, command)?.map(|count| count as usize);
+    let writes = writes_that_fail(rt, command)?.map(|count| count as usize);
+    Ok(
+        is_reply_to(rt, &words, BOXES, SMALL, 0, reply.as_str())?
+            && reads == Some(BOXES.len().div_ceil(64).saturating_add(1))
+            && writes == Some(reply.len().div_ceil(5)),
+    )
+}
+
+#[test]
+fn each_read_and_write_of_fields_fails(rt: HostRuntime) -> Result<(), Fail> {
+    assert!(rt; fields_fail(&rt)?);
     Ok(())
 }
 

@@ -1,4 +1,5 @@
 //! Programs that are deep or long.
+use super::texts::LOOP;
 use asked_text::{METHOD, Pieces, is_reply_to};
 use std::alloc::{AllocError, Global};
 use std::marker::Sync;
@@ -57,17 +58,15 @@ fn chain(alloc: Global, classes: u32) -> Result<String, AllocError> {
         let parent = k.saturating_sub(1);
         text.push_str(format!(in alloc; "class C{k} extends C{parent} {{ }}\n")?.as_str())?;
     }
-    text.push_str(
-        "class A { } class Main { static void main(java.lang.String[]) { A x, y; x = new A; y = x; return; } }",
-    )?;
+    text.push_str(LOOP)?;
     Ok(text)
 }
 
 fn links_the_chain<R: Threads + AllocGlobal + Sync>(rt: &R) -> Result<bool, AllocError> {
-    let words = ["points-to", "Main", METHOD, "2", "y", "100"];
+    let words = ["points-to", "Main", METHOD, "5", "x", "100"];
     let text = chain(rt.alloc(), 5000)?;
     let reply = format!(in rt.alloc();
-        "points-to {METHOD} 2 y\nsite {METHOD} 0 new A\nsites 1\ndemanded 3\n"
+        "points-to {METHOD} 5 x\nsite {METHOD} 0 new A\nsite {METHOD} 3 new A\nsites 2\ndemanded 6\n"
     )?;
     is_reply_to(rt, &words, text.as_str(), WHOLE, 0, reply.as_str())
 }

@@ -37,3 +37,55 @@ static void main(java.lang.String[]) { F f, g; f = new F; staticinvoke <Main: vo
 
 /// Its protocol.
 pub const PROTOCOL: &str = "F closed;closed open opened;opened read opened;opened close closed";
+
+/// Two boxes that are filled and read by the same methods.
+pub const BOXES: &str = "class A { }
+class B { }
+class Box {
+java.lang.Object v;
+void set(java.lang.Object) {
+Box r; java.lang.Object p;
+r := @this: Box;
+p := @parameter0: java.lang.Object;
+r.<Box: java.lang.Object v> = p;
+return;
+}
+java.lang.Object get() {
+Box r; java.lang.Object q;
+r := @this: Box;
+q = r.<Box: java.lang.Object v>;
+return q;
+}
+}
+class Main {
+static void main(java.lang.String[]) {
+Box a, b; java.lang.Object o, p, x, y;
+a = new Box;
+b = new Box;
+o = new A;
+p = new B;
+virtualinvoke a.<Box: void set(java.lang.Object)>(o);
+virtualinvoke b.<Box: void set(java.lang.Object)>(p);
+x = virtualinvoke a.<Box: java.lang.Object get()>();
+y = virtualinvoke b.<Box: java.lang.Object get()>();
+return;
+}
+}
+";
+
+/// An object that is made, copied and made again in a loop.
+pub const LOOP: &str = "class A { }
+class Main {
+static void main(java.lang.String[]) {
+A x, y;
+x = new A;
+y = x;
+label1:
+if 0 == 1 goto label2;
+x = new A;
+goto label1;
+label2:
+return;
+}
+}
+";

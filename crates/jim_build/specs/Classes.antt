@@ -9,6 +9,7 @@ use Rattle.jim_grammar.specs.Grammar.{extends, implements, class, program}
 use Rattle.jim_stmts.specs.Meanings.{id, names_of}
 use Rattle.jim_build.specs.Members.{has, is_abstract, fields_of, methods_of}
 
+-- the word by which a class is an interface
 abbrev pub is_interface : Lead → Bool
 is_interface lead.Interface = true
 is_interface _ = false
@@ -23,6 +24,7 @@ abbrev pub interfaces_of : Tree (Opt implements) → List NameId
 interfaces_of None = []
 interfaces_of (Some (_, (ns, _))) = names_of ns
 
+-- the class that a tree means
 abbrev pub class_of : Tree class → Class
 class_of (mods, (word, (c, (parent, (interfaces, (_, (members, _))))))) = record {
   name = id c;
@@ -34,6 +36,7 @@ class_of (mods, (word, (c, (parent, (interfaces, (_, (members, _))))))) = record
   methods = methods_of members;
 }
 
+-- the classes of a program, in written order
 abbrev pub classes_of : Tree program → List Class
 classes_of trees = map class_of trees
 

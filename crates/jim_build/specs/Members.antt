@@ -14,14 +14,17 @@ use Rattle.jim_build.specs.Bodies.{body_of}
 
 -- the modifiers that count
 
+-- the modifier `static`
 abbrev pub is_static : Lead → Bool
 is_static lead.Static = true
 is_static _ = false
 
+-- the modifier `native`
 abbrev pub is_native : Lead → Bool
 is_native lead.Native = true
 is_native _ = false
 
+-- the modifier `abstract`
 abbrev pub is_abstract : Lead → Bool
 is_abstract lead.Abstract = true
 is_abstract _ = false

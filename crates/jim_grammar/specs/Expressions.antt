@@ -54,10 +54,12 @@ Tree (Shared n a b c) = Between n (Tree a) (Tree b) (Tree c)
 abbrev pub sign : Lead → ℕ → Sign
 sign l x = record { lead = l; text = x }
 
+-- what parts spell, one after the other, before a rest
 abbrev pub spell_each : {A : Type 0} → (A → List Sign → List Sign) → List A → List Sign → List Sign
 spell_each f [] r = r
 spell_each f (x ∷ xs) r = f x (spell_each f xs r)
 
+-- what a part spells before a rest, where it is there
 abbrev pub spell_some : {A : Type 0} → (A → List Sign → List Sign) → Option A → List Sign → List Sign
 spell_some f None r = r
 spell_some f (Some x) r = f x r

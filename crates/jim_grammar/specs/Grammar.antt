@@ -8,6 +8,7 @@ use Rattle.jim_grammar.specs.declared.set.LeadSet.TheVariants.{Modifiers, Bases,
 use Rattle.jim_grammar.specs.Forms.{ImmForm, LocalImm, NumberImm, TextImm, ClassImm, NullImm, ExprForm, UseExpr, NewExpr, ArrayExpr, MultiExpr, CastExpr, InstanceExpr, LengthExpr, NegExpr, BinaryExpr, FieldExpr, StaticExpr, CellExpr, InvokeExpr, InvokeForm, OnReceiver, OnClass, Dynamic, StmtForm, ThisStmt, ParamStmt, CaughtStmt, AssignStmt, PutFieldStmt, PutStaticStmt, PutCellStmt, CallStmt, IfStmt, GotoStmt, SwitchStmt, ReturnStmt, RetStmt, ThrowStmt, MonitorStmt, SkipStmt, LineForm, LabelLine, StmtLine, ResultForm, VoidResult, TypeResult, MemberForm, FieldMember, MethodMember, EndForm, NoBody, WithBody, DeclForm, TypeDecl, OddDecl, Imms, Exprs, Invokes, Stmts, Lines, Results, Members, Ends, Decls}
 use Rattle.jim_grammar.specs.Expressions.{Re, Eps, Tok, One, ◌·◌, Any, Star, Opt, UpTo, Shared}
 
+-- a name
 abbrev pub name : Re
 name = Tok lead.Name
 
@@ -20,6 +21,7 @@ seq (a ∷ more) = a · seq more
 abbrev pub comma_more : Re → Re
 comma_more a = seq (Tok lead.Comma ∷ a ∷ [])
 
+-- one or more, with a comma between each two
 abbrev pub commas : Re → Re
 commas a = seq (a ∷ Star (comma_more a) ∷ [])
 
@@ -47,6 +49,7 @@ by_imm TextImm = seq (Tok lead.Text ∷ [])
 by_imm ClassImm = seq (Tok lead.Class ∷ Tok lead.Text ∷ [])
 by_imm NullImm = seq (Tok lead.Null ∷ [])
 
+-- an operand
 abbrev pub imm : Re
 imm = Any Imms by_imm
 
@@ -63,6 +66,7 @@ abbrev pub by_result : ResultForm → Re
 by_result VoidResult = seq (Tok lead.Void ∷ [])
 by_result TypeResult = seq (ty ∷ [])
 
+-- `void`, or a type
 abbrev pub outcome : Re
 outcome = Any Results by_result
 
@@ -78,6 +82,7 @@ by_invoke OnReceiver = seq (One PlainInvokes ∷ name ∷ Tok lead.Dot ∷ msig 
 by_invoke OnClass = seq (Tok lead.StaticInvoke ∷ msig ∷ Tok lead.OpenParen ∷ Opt imms ∷ Tok lead.CloseParen ∷ [])
 by_invoke Dynamic = seq (Tok lead.DynamicInvoke ∷ Star (One NotEnds) ∷ [])
 
+-- a call
 abbrev pub invoke : Re
 invoke = Any Invokes by_invoke
 
@@ -109,6 +114,7 @@ by_expr StaticExpr = seq (fsig ∷ [])
 by_expr CellExpr = seq (name ∷ Tok lead.OpenBracket ∷ imm ∷ Tok lead.CloseBracket ∷ [])
 by_expr InvokeExpr = seq (invoke ∷ [])
 
+-- an expression
 abbrev pub expr : Re
 expr = Any Exprs by_expr
 
@@ -141,6 +147,7 @@ by_stmt ThrowStmt = seq (Tok lead.Throw ∷ imm ∷ Tok lead.Semicolon ∷ [])
 by_stmt MonitorStmt = seq (One MonitorWords ∷ imm ∷ Tok lead.Semicolon ∷ [])
 by_stmt SkipStmt = seq (One SkipWords ∷ Tok lead.Semicolon ∷ [])
 
+-- a statement
 abbrev pub stmt : Re
 stmt = Any Stmts by_stmt
 
@@ -149,6 +156,7 @@ abbrev pub by_line : LineForm → Re
 by_line LabelLine = seq (name ∷ Tok lead.Colon ∷ [])
 by_line StmtLine = seq (stmt ∷ [])
 
+-- a label or a statement
 abbrev pub line : Re
 line = Any Lines by_line
 
@@ -157,6 +165,7 @@ abbrev pub by_decl : DeclForm → Re
 by_decl TypeDecl = seq (ty ∷ names ∷ Tok lead.Semicolon ∷ [])
 by_decl OddDecl = seq (One OddTypes ∷ names ∷ Tok lead.Semicolon ∷ [])
 
+-- a declaration of locals
 abbrev pub decl : Re
 decl = Any Decls by_decl
 
@@ -173,6 +182,7 @@ abbrev pub by_end : EndForm → Re
 by_end NoBody = seq (Tok lead.Semicolon ∷ [])
 by_end WithBody = seq (body ∷ [])
 
+-- a semicolon, or a body
 abbrev pub ending : Re
 ending = Any Ends by_end
 
@@ -186,6 +196,7 @@ abbrev pub by_member : MemberForm → Re
 by_member FieldMember = seq (Star (One Modifiers) ∷ ty ∷ name ∷ Tok lead.Semicolon ∷ [])
 by_member MethodMember = seq (Star (One Modifiers) ∷ outcome ∷ name ∷ Tok lead.OpenParen ∷ Opt types ∷ Tok lead.CloseParen ∷ Opt throws ∷ ending ∷ [])
 
+-- a field or a method
 abbrev pub member : Re
 member = Any Members by_member
 
@@ -193,6 +204,7 @@ member = Any Members by_member
 abbrev pub extends : Re
 extends = seq (Tok lead.Extends ∷ name ∷ [])
 
+-- the interfaces of a class
 abbrev pub implements : Re
 implements = seq (Tok lead.Implements ∷ names ∷ [])
 

@@ -6,6 +6,7 @@ use Rattle.jim_text.specs.declared.lead.Lead.TheVariants as lead
 use Rattle.jim_grammar.specs.declared.set.LeadSet.{LeadSet}
 use Rattle.jim_grammar.specs.declared.set.LeadSet.TheVariants.{Modifiers, Bases, ClassWords, Relations, Operators, PlainInvokes, SwitchWords, MonitorWords, SkipWords, OddTypes, NotEnds}
 
+-- the modifiers
 abbrev pub is_modifier : Lead → Bool
 is_modifier lead.Abstract = true
 is_modifier lead.Final = true
@@ -22,6 +23,7 @@ is_modifier lead.Enum = true
 is_modifier lead.Annotation = true
 is_modifier _ = false
 
+-- the types without brackets: the primitive ones, and names
 abbrev pub is_base : Lead → Bool
 is_base lead.Boolean = true
 is_base lead.Byte = true
@@ -34,11 +36,13 @@ is_base lead.Double = true
 is_base lead.Name = true
 is_base _ = false
 
+-- `class` and `interface`
 abbrev pub is_class_word : Lead → Bool
 is_class_word lead.Class = true
 is_class_word lead.Interface = true
 is_class_word _ = false
 
+-- the marks that compare
 abbrev pub is_relation : Lead → Bool
 is_relation lead.Equal = true
 is_relation lead.NotEqual = true
@@ -48,6 +52,7 @@ is_relation lead.Greater = true
 is_relation lead.GreaterEqual = true
 is_relation _ = false
 
+-- the marks and words between two operands
 abbrev pub is_operator : Lead → Bool
 is_operator lead.Equal = true
 is_operator lead.NotEqual = true
@@ -71,32 +76,38 @@ is_operator lead.Cmpg = true
 is_operator lead.Cmpl = true
 is_operator _ = false
 
+-- the words of calls on a receiver
 abbrev pub is_plain_invoke : Lead → Bool
 is_plain_invoke lead.SpecialInvoke = true
 is_plain_invoke lead.VirtualInvoke = true
 is_plain_invoke lead.InterfaceInvoke = true
 is_plain_invoke _ = false
 
+-- the words of switches
 abbrev pub is_switch_word : Lead → Bool
 is_switch_word lead.TableSwitch = true
 is_switch_word lead.LookupSwitch = true
 is_switch_word _ = false
 
+-- the words of monitors
 abbrev pub is_monitor_word : Lead → Bool
 is_monitor_word lead.EnterMonitor = true
 is_monitor_word lead.ExitMonitor = true
 is_monitor_word _ = false
 
+-- the words of statements that do nothing
 abbrev pub is_skip_word : Lead → Bool
 is_skip_word lead.Nop = true
 is_skip_word lead.Breakpoint = true
 is_skip_word _ = false
 
+-- the types that only declarations have
 abbrev pub is_odd_type : Lead → Bool
 is_odd_type lead.Unknown = true
 is_odd_type lead.NullType = true
 is_odd_type _ = false
 
+-- all classes that may stand in a `dynamicinvoke`
 abbrev pub is_not_end : Lead → Bool
 is_not_end lead.Semicolon = false
 is_not_end lead.OpenBrace = false
@@ -104,6 +115,7 @@ is_not_end lead.CloseBrace = false
 is_not_end lead.Other = false
 is_not_end _ = true
 
+-- whether a class is in a set
 abbrev pub is_in : LeadSet → Lead → Bool
 is_in Modifiers l = is_modifier l
 is_in Bases l = is_base l

@@ -63,6 +63,7 @@ object = class_of "java.lang.Object" (
     ∷ new_of "java.lang.String" "java.lang.String toString()"
     ∷ [])
 
+-- the stand-in for texts
 abbrev string : List ℕ
 string = class_of "java.lang.String implements java.lang.CharSequence" (
     idle "void <init>()"
@@ -138,6 +139,7 @@ system = class_of "java.lang.System" (
     ∷ idle "static void exit(int)"
     ∷ [])
 
+-- the stand-in for output
 abbrev print_stream : List ℕ
 print_stream = class_of "java.io.PrintStream" (
     idle "void println()"
@@ -155,12 +157,15 @@ print_stream = class_of "java.io.PrintStream" (
     ∷ text_of_first "void print(java.lang.Object)"
     ∷ [])
 
+-- the interface of what has characters
 abbrev char_sequence : List ℕ
 char_sequence = interface_of "java.lang.CharSequence" (bare "int length()" ∷ [])
 
+-- the interface of what can be compared
 abbrev comparable : List ℕ
 comparable = interface_of "java.lang.Comparable" (bare "int compareTo(java.lang.Object)" ∷ [])
 
+-- the stand-in for boxed numbers
 abbrev integer : List ℕ
 integer = class_of "java.lang.Integer" (
     idle "void <init>(int)"

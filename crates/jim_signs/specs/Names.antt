@@ -29,6 +29,7 @@ contents kind.Mark text = None
 abbrev pub with_text : List (List ℕ) → List ℕ → List (List ℕ)
 with_text names text = if list_any (bytes_eq text) names then names else names ++ text ∷ []
 
+-- the texts with what a token says behind them, where it says something new
 abbrev pub with_contents : List (List ℕ) → Option (List ℕ) → List (List ℕ)
 with_contents names None = names
 with_contents names (Some text) = with_text names text

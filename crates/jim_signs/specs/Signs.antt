@@ -25,6 +25,7 @@ number_of names kind.Word text = 0
 number_of names kind.Number text = 0
 number_of names kind.Mark text = 0
 
+-- a token as the grammar sees it: its class, and the number of what it says
 abbrev pub sign_of : List ℕ → List (List ℕ) → Token → Sign
 sign_of bytes names token = record {
   lead = lead_of token.kind (text_of bytes token);

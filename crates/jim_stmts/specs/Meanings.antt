@@ -36,10 +36,12 @@ more_of a f ((_, (x, _)) ∷ xs) = f x ∷ more_of a f xs
 abbrev pub commas_of : {V : Type 0} → (a : Re) → (Tree a → V) → Tree (commas a) → List V
 commas_of a f (x, (xs, _)) = f x ∷ more_of a f xs
 
+-- what each of a list with commas means, where there is one
 abbrev pub maybe_commas_of : {V : Type 0} → (a : Re) → (Tree a → V) → Tree (Opt (commas a)) → List V
 maybe_commas_of a f None = []
 maybe_commas_of a f (Some x) = commas_of a f x
 
+-- names with commas between them
 abbrev pub names_of : Tree names → List NameId
 names_of x = commas_of name id x
 
@@ -55,12 +57,14 @@ base_by lead.Float n = base.Float
 base_by lead.Double n = base.Double
 base_by _ n = base.Class (id n)
 
+-- a type: its base, and how many pairs of brackets it has
 abbrev pub ty_of : Tree ty → Ty
 ty_of (b, (pairs, _)) = record { base = base_by b.lead b.text; dims = length pairs.items }
 
 abbrev pub types_of : Tree types → List Ty
 types_of x = commas_of ty ty_of x
 
+-- the types of parameters, none at all too
 abbrev pub maybe_types_of : Tree (Opt types) → List Ty
 maybe_types_of x = maybe_commas_of ty ty_of x
 
@@ -69,6 +73,7 @@ abbrev pub outcome_of : Tree outcome → Ty
 outcome_of (VoidResult, _) = record { base = base.Void; dims = 0 }
 outcome_of (TypeResult, (t, _)) = ty_of t
 
+-- an operand
 abbrev pub imm_of : Tree imm → Imm
 imm_of (LocalImm, (x, _)) = operands.Local (id x)
 imm_of (NumberImm, _) = operands.Number
@@ -76,6 +81,7 @@ imm_of (TextImm, (x, _)) = operands.Text (id x)
 imm_of (ClassImm, (_, (x, _))) = operands.ClassConst (id x)
 imm_of (NullImm, _) = operands.Null
 
+-- an operand, where there is one
 abbrev pub maybe_imm_of : Tree (Opt imm) → Option Imm
 maybe_imm_of None = None
 maybe_imm_of (Some i) = Some (imm_of i)
@@ -83,12 +89,15 @@ maybe_imm_of (Some i) = Some (imm_of i)
 abbrev pub imms_of : Tree imms → List Imm
 imms_of x = commas_of imm imm_of x
 
+-- the arguments of a call
 abbrev pub args_of : Tree (Opt imms) → List Imm
 args_of x = maybe_commas_of imm imm_of x
 
+-- the signature of a field
 abbrev pub fsig_of : Tree fsig → FieldSig
 fsig_of (_, (c, (_, (t, (f, _))))) = record { class = id c; ty = ty_of t; name = id f }
 
+-- the signature of a method
 abbrev pub msig_of : Tree msig → MethodSig
 msig_of (_, (c, (_, (t, (m, (_, (ts, _))))))) = record { class = id c; result = outcome_of t; name = id m; params = maybe_types_of ts }
 
@@ -98,6 +107,7 @@ mode_by lead.SpecialInvoke = mode.Special
 mode_by lead.VirtualInvoke = mode.Virtual
 mode_by _ = mode.Interface
 
+-- a call: on a receiver, on a class, or a dynamic one
 abbrev pub invoke_of : Tree invoke → Invoke
 invoke_of (OnReceiver, (w, (x, (_, (m, (_, (is, _))))))) = invokes.Plain (mode_by w.lead) (Some (id x)) (msig_of m) (args_of is)
 invoke_of (OnClass, (_, (m, (_, (is, _))))) = invokes.Plain mode.Static None (msig_of m) (args_of is)
@@ -118,11 +128,13 @@ abbrev pub multi_of : Base → Between 254 (Tree pair) (Tree first_own) (Tree ow
 multi_of b m = let owns = owns_of m.middle m.after in
     exprs.NewMulti (record { base = b; dims = length m.before + (length owns - sized_of owns) }) (sized_of owns)
 
+-- the operators that divide
 abbrev pub is_division : Lead → Bool
 is_division lead.Slash = true
 is_division lead.Percent = true
 is_division _ = false
 
+-- an expression
 abbrev pub expr_of : Tree expr → Expr
 expr_of (UseExpr, (i, _)) = exprs.Use (imm_of i)
 expr_of (NewExpr, (_, (x, _))) = exprs.New (id x)
@@ -146,6 +158,7 @@ case_of (_, (_, (_, (_, (_, (l, _)))))) = id l
 abbrev pub switch_of : List (Tree case_line) → ℕ → List NameId
 switch_of cases l = map case_of cases ++ id l ∷ []
 
+-- a statement
 abbrev pub stmt_of : Tree stmt → Stmt
 stmt_of (ThisStmt, (x, _)) = stmts.This (id x)
 stmt_of (ParamStmt, (x, (_, (n, _)))) = stmts.Param (id x) n

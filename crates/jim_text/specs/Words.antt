@@ -10,6 +10,7 @@ two_words = (codes "if", lead.If)
     ∷ (codes "to", lead.To)
     ∷ []
 
+-- the reserved words of three letters, with their classes
 abbrev pub three_words : List (List ℕ × Lead)
 three_words = (codes "int", lead.Int)
     ∷ (codes "new", lead.New)
@@ -19,6 +20,7 @@ three_words = (codes "int", lead.Int)
     ∷ (codes "nop", lead.Nop)
     ∷ []
 
+-- the reserved words of four letters, with their classes
 abbrev pub four_words : List (List ℕ × Lead)
 four_words = (codes "enum", lead.Enum)
     ∷ (codes "void", lead.Void)
@@ -34,6 +36,7 @@ four_words = (codes "enum", lead.Enum)
     ∷ (codes "with", lead.With)
     ∷ []
 
+-- the reserved words of five letters, with their classes
 abbrev pub five_words : List (List ℕ × Lead)
 five_words = (codes "final", lead.Final)
     ∷ (codes "class", lead.Class)
@@ -43,6 +46,7 @@ five_words = (codes "final", lead.Final)
     ∷ (codes "catch", lead.Catch)
     ∷ []
 
+-- the reserved words of six letters, with their classes
 abbrev pub six_words : List (List ℕ × Lead)
 six_words = (codes "native", lead.Native)
     ∷ (codes "public", lead.Public)
@@ -52,6 +56,7 @@ six_words = (codes "native", lead.Native)
     ∷ (codes "return", lead.Return)
     ∷ []
 
+-- the reserved words of seven letters, with their classes
 abbrev pub seven_words : List (List ℕ × Lead)
 seven_words = (codes "private", lead.Private)
     ∷ (codes "extends", lead.Extends)
@@ -60,6 +65,7 @@ seven_words = (codes "private", lead.Private)
     ∷ (codes "default", lead.Default)
     ∷ []
 
+-- the reserved words of eight letters, with their classes
 abbrev pub eight_words : List (List ℕ × Lead)
 eight_words = (codes "abstract", lead.Abstract)
     ∷ (codes "volatile", lead.Volatile)
@@ -68,6 +74,7 @@ eight_words = (codes "abstract", lead.Abstract)
     ∷ (codes "lengthof", lead.LengthOf)
     ∷ []
 
+-- the reserved words of nine letters, with their classes
 abbrev pub nine_words : List (List ℕ × Lead)
 nine_words = (codes "protected", lead.Protected)
     ∷ (codes "transient", lead.Transient)
@@ -75,6 +82,7 @@ nine_words = (codes "protected", lead.Protected)
     ∷ (codes "null_type", lead.NullType)
     ∷ []
 
+-- the reserved words of ten letters, with their classes
 abbrev pub ten_words : List (List ℕ × Lead)
 ten_words = (codes "annotation", lead.Annotation)
     ∷ (codes "implements", lead.Implements)
@@ -82,11 +90,13 @@ ten_words = (codes "annotation", lead.Annotation)
     ∷ (codes "breakpoint", lead.Breakpoint)
     ∷ []
 
+-- the reserved words of eleven letters, with their classes
 abbrev pub eleven_words : List (List ℕ × Lead)
 eleven_words = (codes "tableswitch", lead.TableSwitch)
     ∷ (codes "exitmonitor", lead.ExitMonitor)
     ∷ []
 
+-- the reserved words of twelve letters, with their classes
 abbrev pub twelve_words : List (List ℕ × Lead)
 twelve_words = (codes "synchronized", lead.Synchronized)
     ∷ (codes "lookupswitch", lead.LookupSwitch)
@@ -94,6 +104,7 @@ twelve_words = (codes "synchronized", lead.Synchronized)
     ∷ (codes "staticinvoke", lead.StaticInvoke)
     ∷ []
 
+-- the reserved words of thirteen letters, with their classes
 abbrev pub thirteen_words : List (List ℕ × Lead)
 thirteen_words = (codes "newmultiarray", lead.NewMultiArray)
     ∷ (codes "specialinvoke", lead.SpecialInvoke)
@@ -101,9 +112,11 @@ thirteen_words = (codes "newmultiarray", lead.NewMultiArray)
     ∷ (codes "dynamicinvoke", lead.DynamicInvoke)
     ∷ []
 
+-- the reserved words of fifteen letters, with their classes
 abbrev pub fifteen_words : List (List ℕ × Lead)
 fifteen_words = (codes "interfaceinvoke", lead.InterfaceInvoke) ∷ []
 
+-- all reserved words, with their classes
 unfoldable pub words : List (List ℕ × Lead)
 words = two_words
     ++ three_words
@@ -144,6 +157,7 @@ single_marks = (codes "{", lead.OpenBrace)
     ∷ (codes "|", lead.Or)
     ∷ []
 
+-- the marks of two characters
 abbrev pub double_marks : List (List ℕ × Lead)
 double_marks = (codes ":=", lead.Define)
     ∷ (codes "==", lead.Equal)
@@ -154,9 +168,11 @@ double_marks = (codes ":=", lead.Define)
     ∷ (codes ">>", lead.ShiftRight)
     ∷ []
 
+-- the marks of three characters
 abbrev pub triple_marks : List (List ℕ × Lead)
 triple_marks = (codes ">>>", lead.ShiftRightUnsigned) ∷ []
 
+-- all marks, with their classes
 unfoldable pub marks : List (List ℕ × Lead)
 marks = single_marks ++ double_marks ++ triple_marks
 

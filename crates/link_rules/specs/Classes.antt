@@ -17,6 +17,7 @@ pub record DeclaredClass : Type 0 where
 abbrev pub classes_of : Program → List DeclaredClass
 classes_of program = map (λ c. record { names = program.names; class = c }) program.classes
 
+-- the name of a class, by bytes
 abbrev pub class_name : DeclaredClass → List ℕ
 class_name c = text_of c.names c.class.name
 
@@ -42,6 +43,7 @@ pub data IsCompleted : List DeclaredClass → List DeclaredClass → List Declar
 abbrev pub IsClassOrder : Program → Program → List DeclaredClass → Type 0
 IsClassOrder input prelude classes = IsCompleted (classes_of input) (classes_of prelude) classes
 
+-- the name of the class at the top
 abbrev pub object_name : List ℕ
 object_name = codes "java.lang.Object"
 

@@ -111,6 +111,7 @@ IsPrimitiveBase base.Float = Unit {0}
 IsPrimitiveBase base.Double = Unit {0}
 IsPrimitiveBase _ = ⊥
 
+-- a type of numbers, without brackets
 abbrev pub IsPrimitive : Ty → Type 0
 IsPrimitive ty = IsPrimitiveBase ty.base × (ty.dims ≡ 0)
 

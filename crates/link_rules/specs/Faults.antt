@@ -132,6 +132,7 @@ pub record MakesObject (m : DeclaredMethod) (index : ℕ) (name : List ℕ) : Ty
 abbrev pub CallsReflection : DeclaredMethod → ℕ → Type 0
 CallsReflection m index = (name : List ℕ) × CallsIn m index name × IsReflective name
 
+-- the class of threads
 abbrev pub thread_name : List ℕ
 thread_name = codes "java.lang.Thread"
 

@@ -16,6 +16,7 @@ pub record MethodKey : Type 0 where
   pub result : TypeKey
   pub is_static : Bool
 
+-- name, types and static flag of a method, by bytes
 abbrev pub method_key : DeclaredMethod → MethodKey
 method_key m =
     record {
@@ -52,6 +53,7 @@ pub record FieldKey : Type 0 where
   pub type : TypeKey
   pub is_static : Bool
 
+-- name, type and static flag of a field, by bytes
 abbrev pub field_key : DeclaredField → FieldKey
 field_key f = record { name = text_of f.names f.decl.name; type = type_key f.names f.decl.ty; is_static = f.decl.is_static }
 

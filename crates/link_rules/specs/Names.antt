@@ -15,6 +15,7 @@ pub data BaseKey : Type 0 where
   built_in : Base → BaseKey
   named : List ℕ → BaseKey
 
+-- a type without brackets, with its class by bytes
 abbrev pub base_key : List (List ℕ) → Base → BaseKey
 base_key names (Class name) = named (text_of names name)
 base_key names base = built_in base
@@ -24,6 +25,7 @@ pub record TypeKey : Type 0 where
   pub base : BaseKey
   pub dims : ℕ
 
+-- a type, with its class by bytes
 abbrev pub type_key : List (List ℕ) → Ty → TypeKey
 type_key names ty = record { base = base_key names ty.base; dims = ty.dims }
 

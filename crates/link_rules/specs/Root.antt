@@ -20,24 +20,31 @@ abbrev pub root_names : World → List (List ℕ)
 root_names w = codes "text" ∷ codes "args" ∷ codes "java.lang.String" ∷ codes "<clinit>" ∷ codes "main" ∷ w.entry
     ∷ map class_name w.classes
 
+-- a name of the root, by its number
 abbrev pub name_at : ℕ → NameId
 name_at number = record { 0 = number }
 
+-- the local that holds the text of the arguments
 abbrev pub text_local : NameId
 text_local = name_at 0
 
+-- the local that holds the array of arguments
 abbrev pub args_local : NameId
 args_local = name_at 1
 
+-- the name of the class of texts
 abbrev pub string_class : NameId
 string_class = name_at 2
 
+-- no result
 abbrev pub void_type : Ty
 void_type = record { base = base.Void; dims = 0 }
 
+-- the type of texts
 abbrev pub string_type : Ty
 string_type = record { base = base.Class string_class; dims = 0 }
 
+-- the type of arrays of texts
 abbrev pub strings_type : Ty
 strings_type = record { base = base.Class string_class; dims = 1 }
 

@@ -125,6 +125,7 @@ pub record Access : Type 0 where
   pub sig : FieldSig
   pub is_static : Bool
 
+-- the field that an expression reads, if it reads one
 abbrev pub expr_access : Expr → Option Access
 expr_access (expr.Field base sig) = Some (record { sig = sig; is_static = false })
 expr_access (expr.Static sig) = Some (record { sig = sig; is_static = true })

@@ -37,6 +37,7 @@ kind_of_body (Some body) native = Plain
 kind_of_body None true = Native
 kind_of_body None false = Missing
 
+-- whether a method has statements, is native, or has nothing
 abbrev pub body_kind : DeclaredMethod → BodyKind
 body_kind m = kind_of_body m.decl.body m.decl.is_native
 

@@ -92,6 +92,7 @@ AreEndLinesBy p s ended lines = lines ≡ codes "end ended" ∷ []
 AreEndLinesBy p s (uncaught o) lines = (line : List ℕ) × IsUncaughtLine p s.heap o line × (lines ≡ line ∷ [])
 AreEndLinesBy p s ill_typed lines = lines ≡ codes "end ill-typed" ∷ []
 
+-- the lines that tell how a state has ended, or where it goes on
 abbrev pub AreEndLines : LinkedProgram → State → List (List ℕ) → Type 0
 AreEndLines p s lines = AreEndLinesBy p s s.ending lines
 

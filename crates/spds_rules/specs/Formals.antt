@@ -38,6 +38,7 @@ abbrev pub is_local : ℕ → Option ℕ → Bool
 is_local x (Some to) = to == x
 is_local x None = false
 
+-- whether a statement assigns the local
 abbrev pub assigns : ℕ → Code → Bool
 assigns x c = is_local x (assigned c)
 

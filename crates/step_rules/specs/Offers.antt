@@ -155,6 +155,7 @@ abbrev pub GivesBack : Option (Option Value) → List Effect → Type 0
 GivesBack None = Only (returns None ∷ [])
 GivesBack (Some source) = WithValue source (λ value. Only (returns (Some value) ∷ []))
 
+-- what a return gives back, if it gives something
 abbrev pub returned : LinkedProgram → Frame → Option Arg → Option (Option Value)
 returned p frame None = None
 returned p frame (Some a) = Some (operand_of p frame a)

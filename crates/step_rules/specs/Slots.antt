@@ -54,6 +54,7 @@ values_of object field = map (λ w. w.value) (filter (λ w. w.field == field) ob
 abbrev pub cells : HeapObject → List Value
 cells object = values_of object 0
 
+-- the value, or null where there is none
 abbrev pub or_null : Option Value → Value
 or_null (Some value) = value
 or_null None = Null

@@ -32,6 +32,7 @@ pub record Found : Type 0 where
   pub event : ℕ
   pub state : ℕ
 
+-- the same, of a finding as it is told
 abbrev pub IsFound : LinkedProgram → ProtocolParts → Asked → Found → Type 0
 IsFound p k q f = IsFinding p k q f.site f.place f.event f.state
 

@@ -42,6 +42,7 @@ abbrev pub is_settled_by : Var → List Code → Var → Bool
 is_settled_by (Local x) statements position = comes_first position statements
 is_settled_by _ statements position = true
 
+-- whether the formal of what is passed at the position is settled
 abbrev pub is_settled : List Code → Var → Bool
 is_settled statements position = is_settled_by (formal statements position) statements position
 
