@@ -1,25 +1,12 @@
 //! Call strings of methods.
-ghost use Rattle.std.specs.Prelude.{◌≡◌, ◌↔◌, IfNone, IfSome, IsTrue, false};
-ghost use Rattle.link_rules.specs.declared.code.Code.{Code as AnyCode};
+ghost use Rattle.std.specs.Prelude.{◌≡◌, ◌↔◌, IsTrue, false};
 ghost use Rattle.link_rules.specs.WellLinked.{HasTarget};
-ghost use Rattle.link_sites.specs.Places.{CodeAt};
 ghost use Rattle.spds_rules.specs.Systems.{IsString};
 
 use link_program::Linked;
 use link_rules::Code;
 use link_sites::Place;
-
-// The statement at an index of a method.
-fn code_at(linked: &Linked, method: u32, index: u32) -> Option<&Code>
-    ensures some { IfSome result (λ code. CodeAt linked.now method index code.now) }
-    ensures none { IfNone result ((code : AnyCode) → CodeAt linked.now method index code → ⊥) }
-{
-    if method < linked.methods() {
-        linked.code(method).get(index as usize)
-    } else {
-        None
-    }
-}
+use spds_nodes::code_at;
 
 // Whether the call, at which no exception is in flight, may run the method.
 fn may_run(linked: &Linked, call: Place, method: u32) -> bool

@@ -1,46 +1,11 @@
--- Formals that are locals, and those that are settled.
-use Rattle.std.proofs.Common.{◌≡◌, ◌↔◌, ℕ, zero, suc, ◌+◌, ◌&&◌, Bool, true, false, if◌then◌else◌, List, [], ◌∷◌, Option, Some, None, drop, filter_map, is_some, slice_get, refl, sym, ap, ◌∙◌, subst, add-one}
+-- Formals that are settled.
+use Rattle.std.proofs.Common.{◌≡◌, ℕ, zero, suc, ◌+◌, ◌&&◌, true, if◌then◌else◌, List, [], ◌∷◌, Some, drop, is_some, slice_get, refl, sym, ap, add-one}
 use Rattle.std.proofs.lemmas.Option.{same_Some}
 use Rattle.link_rules.specs.declared.code.Code.{Code}
 use Rattle.spds_rules.specs.declared.node.Var.{Var}
 use Rattle.spds_rules.specs.declared.node.Var.TheVariants.{Local}
-use Rattle.spds_rules.specs.Formals.{formal, formal_by, identity_of, is_assigned_once, only}
+use Rattle.spds_rules.specs.Formals.{formal, identity_of}
 use Rattle.track_systems.specs.Settled.{comes_first, is_identity, is_settled, is_settled_by}
-use Rattle.site_events.specs.declared.identities.Position.{Position}
-use Rattle.site_events.specs.declared.identities.Position.TheVariants as position
-use Rattle.site_events.specs.Passed.{var_of}
-
--- a position is no local
-no_local : (position : Position) (x : ℕ) → var_of position ≡ Local x → ⊥
-no_local position.This x is = cc (is)
-no_local (position.Param number) x is = cc (is)
-
-module _ (statements : List Code) (position : Position) where
-  -- the local of the only identity of the position
-  abbrev pub only_one : Option ℕ
-  only_one = only (filter_map (λ c. identity_of c (var_of position)) statements)
-
-  -- where it is assigned once, it is the formal
-  pub formal_local : (y : ℕ) → only_one ≡ Some y → is_assigned_once statements y ≡ true → (x : ℕ)
-      → (Some y ≡ Some x) ↔ (formal statements (var_of position) ≡ Local x)
-  formal_local y found once x =
-      let is : formal statements (var_of position) ≡ Local y =
-      ap (formal_by statements (var_of position)) found ∙ ap (λ (b : Bool). if b then Local y else var_of position) once in (
-        λ same. is ∙ ap Local (same_Some y x same),
-        λ other. let same : Local y ≡ Local x = sym is ∙ other in let e : y ≡ x = cc (same) in ap Some e,
-      )
-
-  -- else the formal is the position
-  itself : formal statements (var_of position) ≡ var_of position → (x : ℕ) → (None ≡ Some x) ↔ (formal statements (var_of position) ≡ Local x)
-  itself is x = (λ none. absurd (cc (none)), λ other. absurd (no_local position x (sym is ∙ other)))
-
-  pub formal_shared : (y : ℕ) → only_one ≡ Some y → is_assigned_once statements y ≡ false → (x : ℕ)
-      → (None ≡ Some x) ↔ (formal statements (var_of position) ≡ Local x)
-  formal_shared y found more =
-      itself (ap (formal_by statements (var_of position)) found ∙ ap (λ (b : Bool). if b then Local y else var_of position) more)
-
-  pub formal_none : only_one ≡ None → (x : ℕ) → (None ≡ Some x) ↔ (formal statements (var_of position) ≡ Local x)
-  formal_none found = itself (ap (formal_by statements (var_of position)) found)
 
 -- a formal that is a local is settled where its identity comes first
 pub settled_local : (statements : List Code) (v : Var) (x : ℕ) → formal statements v ≡ Local x → comes_first v statements ≡ is_settled statements v

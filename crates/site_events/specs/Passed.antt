@@ -5,19 +5,12 @@ use Rattle.link_rules.specs.declared.code.Arg.{Arg}
 use Rattle.link_rules.specs.Linked.{LinkedMethod, LinkedProgram}
 use Rattle.link_sites.specs.declared.place.Place.{Place}
 use Rattle.spds_rules.specs.declared.node.Var.{Var}
-use Rattle.spds_rules.specs.declared.node.Var.TheVariants.{Local, This, Param}
+use Rattle.spds_rules.specs.declared.node.Var.TheVariants.{Local}
 use Rattle.spds_rules.specs.Edges.{Passes}
 use Rattle.track_systems.specs.Events.{IsReceiver}
 use Rattle.track_systems.specs.Settled.{CallAt, IsKept, IsSettled, IsUnsettled, is_settled}
-use Rattle.site_events.specs.declared.identities.Position.{Position}
-use Rattle.site_events.specs.declared.identities.Position.TheVariants as position
 use Rattle.site_events.specs.declared.passed.Passing.{Passing}
 use Rattle.site_events.specs.declared.passed.Passing.TheVariants.{Kept, Settled, Unsettled}
-
--- the position as a variable
-abbrev pub var_of : Position → Var
-var_of position.This = This
-var_of (position.Param number) = Param number
 
 -- its formal is settled in each of the methods
 abbrev pub AreSettledIn : LinkedProgram → List ℕ → Var → Type 0

@@ -31,7 +31,6 @@ pub use event_statement::EventStatement;
 pub use events::{Events, events_of};
 pub use laws::loud_calls_enter;
 pub use loud::loud_methods;
-pub use places::code_at;
 pub use query::receivers;
 pub use site::{SiteEvents, site_events};
 pub use star::{closure, event_relation};

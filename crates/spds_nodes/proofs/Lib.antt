@@ -5,6 +5,7 @@ pub mod Complete
 pub mod Ends
 pub mod Filed
 pub mod Flights
+pub mod Formed
 pub mod Froms
 pub mod Identities
 pub mod Joined

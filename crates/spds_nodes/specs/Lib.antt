@@ -4,3 +4,4 @@ pub mod Into
 pub mod Backs
 pub mod Starts
 pub mod Stored
+pub mod Positions

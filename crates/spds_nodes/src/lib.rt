@@ -19,7 +19,11 @@ mod starts;
 mod stores;
 
 pub use edges::into;
+pub use flows::targets_of;
+pub use formals::{Position, identity_of, local_formal};
 pub use nodes::is_node;
+pub use places::code_at;
+pub use positions::is_local;
 pub use sites::{has_field, site_class};
 pub use spds_rules::site_of;
 pub use starts::starts_of;

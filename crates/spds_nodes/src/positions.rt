@@ -32,7 +32,8 @@ fn push_receiver(positions: &mut Vec<Var>, receiver: Option<u32>, x: u32) -> Res
     Ok(())
 }
 
-fn is_local(arg: Arg, x: u32) -> bool
+/// Whether the argument is the local.
+pub fn is_local(arg: Arg, x: u32) -> bool
     ensures { IsTrue result ↔ (arg ≡ LocalArg x) }
 {
     match arg {

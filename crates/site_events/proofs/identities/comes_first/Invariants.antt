@@ -1,6 +1,6 @@
 use Rattle.std.proofs.Common.{◌≡◌, drop}
 use Rattle.track_systems.specs.Settled.{comes_first}
-use Rattle.site_events.specs.Passed.{var_of}
+use Rattle.spds_nodes.specs.Positions.{var_of}
 use Rattle.site_events.proofs.identities.comes_first.Given as goal
 
 abbrev pub invariant-loop-statement : goal.invariant-loop-statement

@@ -1,5 +1,5 @@
 use Rattle.std.proofs.Common.{◌∙◌, refl}
-use Rattle.site_events.specs.Passed.{var_of}
+use Rattle.spds_nodes.specs.Positions.{var_of}
 use Rattle.site_events.proofs.Holding.{settled_local, settled_other}
 use Rattle.site_events.proofs.identities.is_settled.Goals as goal
 

@@ -1,5 +1,6 @@
 use Rattle.std.proofs.Common.{take}
-use Rattle.site_events.specs.Passed.{AreSettledIn, var_of}
+use Rattle.spds_nodes.specs.Positions.{var_of}
+use Rattle.site_events.specs.Passed.{AreSettledIn}
 use Rattle.site_events.proofs.settled.are_settled.Given as goal
 
 abbrev pub invariant-loop-target : goal.invariant-loop-target
