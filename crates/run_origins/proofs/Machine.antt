@@ -1,200 +1,288 @@
--- Each step of each run.
-use Rattle.std.proofs.Common.{◌≡◌, ℕ, ◌+◌, ◌++◌, Some, Bool, true, false, List, [], ◌∷◌, length, slice_get, refl, sym, ap, ◌∙◌, subst}
-use Rattle.lists.specs.Lists.{Has}
-use Rattle.lists.proofs.Places.{slice_get-push}
+-- Each step of each run has its origins: what explains its effect, as the law states it.
+use Rattle.std.proofs.Common.{◌≡◌, ℕ, ◌+◌, ◌++◌, ◌<◌, Option, Some, Bool, true, false, List, [], ◌∷◌, slice_get, refl, sym, ap, ◌∙◌, subst, inl, inr}
+use Rattle.std.specs.List.{slice_set}
+use Rattle.std.proofs.lemmas.Option.{same_Some}
+use Rattle.lists.proofs.Places.{slice_get-append_left, slice_get-set_same}
 use Rattle.link_rules.specs.declared.code.Code.{Code}
 use Rattle.link_rules.specs.declared.code.Code.TheVariants as code
-use Rattle.link_rules.specs.Linked.{LinkedMethod, LinkedProgram}
-use Rattle.link_rules.specs.WellLinked.{FitsCode, HasTarget, IsWellLinked}
-use Rattle.link_laws.proofs.Lists.{at_all}
-use Rattle.link_sites.specs.Places.{before}
-use Rattle.run_covers.proofs.Offered.{AllOf, one_of}
+use Rattle.link_rules.specs.Flow.{MayRaise}
+use Rattle.link_rules.specs.Linked.{LinkedProgram}
+use Rattle.link_rules.specs.WellLinked.{FitsMethod, HasTarget, IsWellLinked}
+use Rattle.link_sites.specs.Places.{before, in_flight}
 use Rattle.run_covers.specs.Covers.{IsCovered}
+use Rattle.spds_rules.specs.declared.node.Node.{Node}
+use Rattle.spds_rules.specs.declared.node.Var.{Var}
 use Rattle.spds_rules.specs.declared.reach.Reach.{Reach}
 use Rattle.spds_rules.specs.Demand.{Asked}
+use Rattle.spds_rules.specs.Edges.{AssignsTo}
+use Rattle.step_rules.specs.declared.parts.Slot.{Slot}
+use Rattle.step_rules.specs.declared.parts.Value.{Value}
 use Rattle.step_rules.specs.declared.parts.Value.TheVariants.{Object}
 use Rattle.step_rules.specs.Effects as effect
 use Rattle.step_rules.specs.Effects.{Effect, calls}
-use Rattle.step_rules.specs.Offers.{OffersBy, Row}
 use Rattle.step_rules.specs.Runs.{Run}
-use Rattle.step_rules.specs.States.{Frame, Point, State, enters, place_of, state_of}
-use Rattle.step_rules.specs.Steps.{Becomes, Step}
-use Rattle.run_sound.specs.Agrees.{Agrees}
-use Rattle.run_sound.proofs.Invariant.{IsKept, IsShaped}
-use Rattle.run_sound.proofs.Nodes.{has_node}
-use Rattle.run_sound.proofs.Simulating.{kept_run, runs_agree, tracked_at}
+use Rattle.step_rules.specs.Shapes.{IsCall}
+use Rattle.step_rules.specs.Slots.{if_set, local_of}
+use Rattle.step_rules.specs.States.{Frame, Point, State, gets, new_object, place_of, state_of, written}
+use Rattle.step_rules.specs.Steps.{Becomes}
+use Rattle.run_sound.specs.Frames.{node_of}
+use Rattle.run_sound.proofs.Came.{Came, Stays, enters, stays_catches, stays_gets, stays_goes, stays_makes, stays_nests, stays_raises, stays_throws}
+use Rattle.run_sound.proofs.Came as by
+use Rattle.run_sound.proofs.Explained.{CanGet, CanSet, Gives, IsExplained, IsOnNull, IsPlain, IsUnwound, Stands, by_class, by_slot, by_text, caught, left, node_in}
+use Rattle.run_sound.proofs.Invariant.{IsKeptAt, IsShaped}
+use Rattle.run_sound.proofs.Keeping.{callers}
+use Rattle.run_sound.proofs.Lists.{slice_get-slice_set}
+use Rattle.run_sound.proofs.Machine.{going_on}
+use Rattle.run_sound.proofs.Moves.{Moves, code_at, same_code, var_node}
+use Rattle.run_sound.proofs.Returning.{Left, leaves, returns}
+use Rattle.run_sound.proofs.Simulating.{kept_run}
 use Rattle.run_sound.proofs.Standing.{method_fits}
-use Rattle.run_origins.specs.Origins.{HasOrigins, IsEntry, IsStoredStatic, KeepsObjects, Origins}
+use Rattle.run_sound.proofs.Table.{explained}
+use Rattle.run_origins.specs.Origins.{CallsOnNull, CameFrom, GoesOnAs, HasOrigins, IsStoredStatic, IsWithin, KeepsObjects, Origins, TakesBy}
 use Rattle.run_origins.specs.Origins as origins
-use Rattle.run_origins.specs.Standing.{node_at}
-use Rattle.run_origins.proofs.Calling.{call_row}
-use Rattle.run_origins.proofs.Callers.{returns}
-use Rattle.run_origins.proofs.Explained.{CanEnter, CanSet, IsExplained}
-use Rattle.run_origins.proofs.Objects.{objects_kept}
-use Rattle.run_origins.proofs.Rows.{array_row, cast_row, caught_row, copy_row, goto_row, if_row, length_row, load_cell_row, load_row, load_static_row, monitor_row, nested_row, new_row, numeric_row, param_row, return_row, skip_row, store_cell_row, store_row, store_static_row, switch_row, this_row, throw_row}
-use Rattle.run_origins.proofs.Steps.{var_node, within_gets, within_goes, within_makes, within_nests, within_raises, within_throws}
-use Rattle.run_origins.proofs.Unwinding.{unwound}
+use Rattle.run_origins.specs.Standing.{StandsFor}
+use Rattle.run_origins.specs.Standing as stands
+use Rattle.run_origins.proofs.Objects.{Keeps, both, more_heap, same_heap, set_heap}
 
-module _ (p : LinkedProgram) (reach : Reach) (well : IsWellLinked p) (at : Point) (agree : Agrees p (state_of at))
-    (shapes : (number : ℕ) (f : Frame) → slice_get (state_of at).frames number ≡ Some f → IsShaped p f) (shaped : IsShaped p at.top) (new : State)
-    (shaped_new : (below : List Frame) (g : Frame) → new.frames ≡ below ++ g ∷ [] → IsShaped p g) where
-  module _ (m : LinkedMethod) (there : slice_get p.methods at.top.method ≡ Some m) (unraised : at.top.raised ≡ false) where
-    -- the rows of the table
-    rows : (c : Code) → slice_get m.code at.top.index ≡ Some c → FitsCode p m c → (offered : List Effect) → Row p at c offered
-        → AllOf (IsExplained p at m c) offered
-    rows (code.This to) here fits offered h = this_row p at m offered to fits h
-    rows (code.Param to number) here fits offered h = param_row p at m offered to number fits h
-    rows (code.Caught to) here fits offered h = caught_row p at m offered to fits h
-    rows (code.Copy to a) here fits offered h = copy_row p at m offered to a fits h
-    rows (code.Cast to a) here fits offered h = cast_row p at m offered to a fits h
-    rows (code.New to class) here fits offered h = new_row p at m offered to class fits h
-    rows (code.NewArray to) here fits offered h = array_row p at m offered to fits h
-    rows (code.NewMulti to levels) here fits offered h = nested_row p at m offered to levels fits h
-    rows (code.Numeric to divides) here fits offered h = numeric_row p at m offered to divides fits h
-    rows (code.Length to a) here fits offered h = length_row p at m offered to a fits h
-    rows (code.Load to base field) here fits offered h = load_row p at m offered to base field fits h
-    rows (code.Store base field a) here fits offered h = store_row p at m offered base field a fits h
-    rows (code.LoadCell to base) here fits offered h = load_cell_row p at m offered to base fits h
-    rows (code.StoreCell base a) here fits offered h = store_cell_row p at m offered base a fits h
-    rows (code.LoadStatic to field) here fits offered h = load_static_row p at m offered to field fits h
-    rows (code.StoreStatic field a) here fits offered h = store_static_row p at m offered field a fits h
-    rows (code.Call to mode class key receiver args targets) here fits offered h =
-        call_row p at m there to mode class key args targets offered receiver here fits h
-    rows (code.If jump) here fits offered h = if_row p at m offered jump fits h
-    rows (code.Goto jump) here fits offered h = goto_row p at m offered jump fits h
-    rows (code.Switch jumps) here fits offered h = switch_row p at m offered jumps fits h
-    rows (code.Return a) here fits offered h = return_row p at m offered a fits h
-    rows (code.Throw a) here fits offered h = throw_row p at m offered a fits h
-    rows (code.Monitor a) here fits offered h = monitor_row p at m offered a fits h
-    rows code.Skip here fits offered h = skip_row p at m offered fits h
+-- ---- what is no identity takes nothing, and what is no call enters nothing
 
-    module _ (c : Code) (here : slice_get m.code at.top.index ≡ Some c) where
-      -- a method is entered
-      entered : (g : Frame) → CanEnter p at m c g → HasTarget p at.top.method at.top.index g.method → new ≡ state_of (enters g at)
-          → Origins p reach at (calls g) new
-      entered g can target becomes =
-          let frames : new.frames ≡ (at.below ++ at.top ∷ []) ++ g ∷ [] = ap (λ (s : State). s.frames) becomes in
-          let shaped_too = shaped_new (at.below ++ at.top ∷ []) g frames in
-          let begins : place_of g ≡ before g.method 0 =
-          ap (λ (n : ℕ). record { method = g.method; index = n; raised = g.raised }) can.begins.0
-          ∙ ap (λ (r : Bool). record { method = g.method; index = 0; raised = r }) can.begins.1 in
+plain_taken : (c : Code) (f g : Frame) → IsPlain c → TakesBy c f g
+plain_taken (code.This to) f g h = absurd h
+plain_taken (code.Param to number) f g h = absurd h
+plain_taken (code.Caught to) f g h = absurd h
+plain_taken _ f g h = tt
+
+raised_taken : (c : Code) (f g : Frame) (kind : ℕ) → MayRaise c kind → TakesBy c f g
+raised_taken (code.This to) f g kind h = absurd h
+raised_taken (code.Param to number) f g kind h = absurd h
+raised_taken (code.Caught to) f g kind h = absurd h
+raised_taken _ f g kind h = tt
+
+plain_quiet : (c : Code) → IsPlain c → IsCall c → ⊥
+plain_quiet (code.Call to mode class key receiver args targets) h is_call = h
+plain_quiet _ h is_call = is_call
+
+gives_quiet : (f : Frame) (c : Code) (value : Value) → Gives f c value → IsCall c → ⊥
+gives_quiet f (code.Call to mode class key receiver args targets) value h is_call = h
+gives_quiet f _ value h is_call = is_call
+
+on_null : (f : Frame) (c : Code) → IsOnNull f c → IsCall c → CallsOnNull f c
+on_null f (code.Call to mode class key receiver args targets) h is_call = h
+on_null f _ h is_call = absurd is_call
+
+-- ---- the words of the law
+
+stands_for : (p : LinkedProgram) (f : Frame) (x : ℕ) {v : Var} → Stands p f x v → StandsFor p f x v
+stands_for p f x (by_slot from e) = stands.slot from e
+stands_for p f x (by_text below is) = stands.text below is
+stands_for p f x (by_class below is) = stands.class below is
+
+came_from : (p : LinkedProgram) (reach : Reach) (at : Point) (new : State) (n : Node) (x : ℕ) → Came p reach at new.heap n x → CameFrom p reach at new n x
+came_from p reach at new n x (by.flowed held edge) = origins.flowed (stands_for p at.top x held) edge
+came_from p reach at new n x (by.made {v} {object} last there start edge) =
+    origins.made (record { last = last; object = object; there = there; start = start }) edge
+came_from p reach at new n x (by.loaded {base} {field} {o} {object} holds there w edge) =
+    origins.loaded {base = base} {field = field} {o = o} holds (record { object = object; there = there; written = w }) edge
+came_from p reach at new n x (by.static {field} is load) = origins.static {field = field} is load
+
+goes_on_as : (p : LinkedProgram) (reach : Reach) (at : Point) (form : IsShaped p at.top) (g : Frame) (Held : Slot → ℕ → Type 0)
+    → Moves p reach at form g Held → GoesOnAs p at.top g
+goes_on_as p reach at form g Held moves = record {
+  method = moves.method;
+  this = moves.this;
+  params = moves.params;
+  locals = λ x. elim (moves.locals x) [
+    | inl same ↦ inl same
+    | inr set ↦ inr (set.0, record { code = form.code; at = code_at p reach at form; is_so = set.1 })
+  ];
+}
+
+module _ (p : LinkedProgram) (q : Asked) (well : IsWellLinked p) (at : Point) (kept : IsKeptAt p q at) where
+  abbrev reach : Reach
+  reach = q.reach
+
+  abbrev form : IsShaped p at.top
+  form = kept.frames.tracked.shaped
+
+  fits : FitsMethod p form.method
+  fits = method_fits p well at.top.method form.method form.there
+
+  abbrev IsNoCall : Effect → Type 0
+  IsNoCall e = (frame : Frame) → e ≡ calls frame → ⊥
+
+  -- the step has its origins, and objects stay
+  abbrev Both : Effect → State → Type 0
+  Both e new = Origins p reach at e new × KeepsObjects p at new
+
+  keeps : (new : State) → Keeps at.heap new.heap → new.statics ≡ at.statics → KeepsObjects p at new
+  keeps new objects same =
+      record { objects = objects; statics = λ field x e. inl (subst (λ (vs : List Value). slice_get vs field ≡ Some (Object x)) same e) }
+
+  -- the top frame goes on
+  goes : (e : Effect) (g : Frame) (new : State) → new.frames ≡ at.below ++ g ∷ [] → Stays p reach at form fits new.heap g → IsNoCall e
+      → (at.top.raised ≡ false → TakesBy form.code at.top g)
+      → (at.top.raised ≡ false → IsCall form.code → CallsOnNull at.top form.code × (place_of g ≡ in_flight at.top.method at.top.index))
+      → Origins p reach at e new
+  goes e g new frames stays no_call takes null = origins.within (record {
+    g = g;
+    frames = frames;
+    goes_on = goes_on_as p reach at form g _ stays;
+    no_call = no_call;
+    origins = λ to x h. came_from p reach at new (node_of g to) x (stays.slots to x h);
+    identity = λ c is_at unraised. subst (λ (c : Code). TakesBy c at.top g) (same_code p at.top form c is_at) (takes unraised);
+    null = λ c is_at is_call unraised.
+        let same = same_code p at.top form c is_at in
+        let n = null unraised (subst IsCall (sym same) is_call) in
+        (subst (CallsOnNull at.top) same n.0, n.1);
+  })
+
+  -- by a statement that is neither a call nor an identity
+  goes_plain : (e : Effect) (g : Frame) (new : State) → new.frames ≡ at.below ++ g ∷ [] → Stays p reach at form fits new.heap g → IsNoCall e → IsPlain form.code
+      → Origins p reach at e new
+  goes_plain e g new frames stays no_call plain =
+      goes e g new frames stays no_call (λ r. plain_taken form.code at.top g plain) (λ r is_call. absurd (plain_quiet form.code plain is_call))
+
+  -- a method is left
+  left_both : (e : Effect) → IsNoCall e → (new : State) → Left p reach at new → Both e new
+  left_both e no_call new (inl ends) = subst (Both e) (sym ends.1) (origins.ends refl no_call, keeps _ (same_heap at.heap) refl)
+  left_both e no_call new (inr b) = subst (Both e) (sym b.becomes) (
+    origins.way_back (record {
+      below = b.below;
+      caller = b.caller;
+      under = b.is_under;
+      g = b.g;
+      frames = refl;
+      goes_on = goes_on_as p reach _ b.its.form b.g _ b.moves;
+      unraised = b.its.unraised;
+      target = b.its.target;
+      way = elim b.way [ inl w ↦ origins.return w.0 w.1 w.2 | inr w ↦ origins.exception w.0 w.1 ];
+      no_call = no_call;
+      origins = λ to x h. elim (b.moves.slots to x h) [
+        | inl old ↦ inl old
+        | inr given ↦ inr (given.0, stands_for p at.top x given.1, given.2)
+      ];
+    }),
+    keeps _ (same_heap at.heap) refl,
+  )
+
+  module _ (unraised : at.top.raised ≡ false) where
+    -- an identity takes what it names
+    taken : (to : ℕ) (value : Value) → CanGet p at form.method form.code to value → TakesBy form.code at.top (gets to value at).top
+    taken to value can = by_code form.code can.sets.1 can.gives
+      where
+        g : Frame
+        g = (gets to value at).top
+
+        behind : place_of g ≡ before at.top.method (at.top.index + 1)
+        behind = ap (λ (r : Bool). record { method = at.top.method; index = at.top.index + 1; raised = r }) unraised
+
+        holds : (y : ℕ) (given : Option Value) → Some y ≡ Some to → given ≡ Some value → local_of g y ≡ given
+        holds y given only gives =
+            let below = subst (λ n. to < n) (sym form.locals) can.sets.2 in
+            subst (λ (y : ℕ). local_of g y ≡ given) (sym (same_Some y to only)) (ap if_set (slice_get-set_same at.top.locals to (Some value) below) ∙ sym gives)
+
+        by_code : (c : Code) → AssignsTo c to → Gives at.top c value → TakesBy c at.top g
+        by_code (code.This y) only gives = record { behind = behind; holds = holds y at.top.this only gives }
+        by_code (code.Param y number) only gives = record { behind = behind; holds = holds y (slice_get at.top.params number) only gives }
+        by_code (code.Caught y) only gives = record { behind = behind; holds = holds y at.top.caught only gives }
+        by_code _ only gives = tt
+
+    -- a static field is set
+    set_kept : (field : ℕ) (value : Value) → CanSet p at form.method form.code field value → (new : State) → new.heap ≡ at.heap
+        → new.statics ≡ slice_set at.statics field value → KeepsObjects p at new
+    set_kept field value can new heap statics = record {
+      objects = subst (Keeps at.heap) (sym heap) (same_heap at.heap);
+      statics = λ to x e. elim (slice_get-slice_set at.statics field to value (Object x) (subst (λ (vs : List Value). slice_get vs to ≡ Some (Object x)) statics e)) [
+        | inl set ↦
+            let from = can.from x (sym set.1) in
+            inr (subst (IsStoredStatic p) (sym set.0) (record {
+              n = node_in at.top from.var;
+              node = var_node p reach at form unraised from.var from.has;
+              unraised = unraised;
+              stores = record { code = form.code; at = code_at p reach at form; is_so = from.fact };
+            }))
+        | inr old ↦ inl old
+      ];
+    }
+
+    by_effect : (e : Effect) → IsExplained p at form.method form.code e → ((g : Frame) → e ≡ calls g → HasTarget p at.top.method at.top.index g.method)
+        → (new : State) → Becomes p at e new → Both e new
+    by_effect effect.is_ill_typed j target new b = subst (Both effect.is_ill_typed) (sym b) (origins.ends refl (λ f e. cc (e)), keeps _ (same_heap at.heap) refl)
+    by_effect (effect.raises kind) j target new b = subst (Both (effect.raises kind)) (sym b.2) (
+      goes (effect.raises kind) _ _ refl (stays_raises p reach at form fits unraised kind b.0 j.0) (λ f e. cc (e))
+          (λ r. raised_taken form.code at.top _ kind j.0) (λ r is_call. (on_null at.top form.code j.1 is_call, refl)),
+      keeps _ (more_heap at.heap _) refl,
+    )
+    by_effect (effect.throws o) j target new b = subst (Both (effect.throws o)) (sym b) (
+      goes_plain (effect.throws o) _ _ refl (stays_throws p reach at form fits unraised o j) (λ f e. cc (e)) j.plain,
+      keeps _ (same_heap at.heap) refl,
+    )
+    by_effect (effect.goes index) j target new b = subst (Both (effect.goes index)) (sym b) (
+      goes_plain (effect.goes index) _ _ refl (stays_goes p reach at form fits unraised at.heap index j) (λ f e. cc (e)) j.2,
+      keeps _ (same_heap at.heap) refl,
+    )
+    by_effect (effect.gets to value) j target new b = subst (Both (effect.gets to value)) (sym b) (
+      goes (effect.gets to value) _ _ refl (stays_gets p reach at form fits unraised to value j) (λ f e. cc (e)) (λ r. taken to value j)
+          (λ r is_call. absurd (gives_quiet at.top form.code value j.gives is_call)),
+      keeps _ (same_heap at.heap) refl,
+    )
+    by_effect (effect.makes to class) j target new b = subst (Both (effect.makes to class)) (sym b) (
+      goes_plain (effect.makes to class) _ _ refl (stays_makes p reach at form fits unraised to class j) (λ f e. cc (e)) j.plain,
+      keeps _ (more_heap at.heap _) refl,
+    )
+    by_effect (effect.nests to o inner class) j target new b = subst (Both (effect.nests to o inner class)) (sym b.2) (
+      goes_plain (effect.nests to o inner class) _ _ refl (stays_nests p reach at form fits unraised to o inner class j b.0 b.1) (λ f e. cc (e)) j.plain,
+      keeps _ (both at.heap (at.heap ++ new_object inner class ∷ []) _ (more_heap at.heap (new_object inner class))
+          (set_heap (at.heap ++ new_object inner class ∷ []) o 0 _ b.0 (slice_get-append_left at.heap (new_object inner class ∷ []) o b.0 b.1))) refl,
+    )
+    by_effect (effect.writes o field value) j target new b = subst (Both (effect.writes o field value)) (sym b.2) (
+      goes_plain (effect.writes o field value) _ _ refl
+          (stays_goes p reach at form fits unraised (slice_set at.heap o (written b.0 field value)) (at.top.index + 1) j.goes) (λ f e. cc (e)) j.goes.2,
+      keeps _ (set_heap at.heap o field value b.0 b.1) refl,
+    )
+    by_effect (effect.sets field value) j target new b = subst (Both (effect.sets field value)) (sym b) (
+      goes_plain (effect.sets field value) _ _ refl (stays_goes p reach at form fits unraised at.heap (at.top.index + 1) j.goes) (λ f e. cc (e)) j.goes.2,
+      set_kept field value j _ refl refl,
+    )
+    by_effect (effect.calls g) j target new b =
+        let its = target g refl in
+        let entry = enters p reach at form fits unraised g its (j its) in
+        subst (Both (effect.calls g)) (sym b) (
           origins.entry (record {
             g = g;
             is_call = refl;
-            frames = frames;
+            frames = refl;
             unraised = unraised;
-            begins = begins;
-            target = target;
-            origins = λ to x e.
-                let by = can.from target to x e in (
-                  by.var,
-                  by.stands,
-                  record {
-                    from = var_node p reach at m there c here unraised shaped by.var by.has;
-                    to = has_node p g shaped_too to (Object x) e;
-                    row = record { from = refl; unraised = unraised; target = target; begins = begins; passes = by.fact };
-                  },
-                );
-            passed = can.passed target;
-          })
+            begins = entry.begins;
+            target = its;
+            origins = λ to x h. let from = entry.slots to x h in (from.0, stands_for p at.top x from.1, from.2);
+            passed = (j its).passed;
+          }),
+          keeps _ (same_heap at.heap) refl,
+        )
+    by_effect (effect.returns value) j target new b =
+        left_both (effect.returns value) (λ f e. cc (e)) new (returns p reach at well form (callers p q well at kept) new unraised value j b)
+    by_effect (effect.handles handler o) j target new b = absurd j
+    by_effect (effect.leaves o) j target new b = absurd j
 
-      -- by its effect
-      by_effect : (e : Effect) → IsExplained p at m c e → ((g : Frame) → e ≡ calls g → HasTarget p at.top.method at.top.index g.method)
-          → Becomes p at e new → Origins p reach at e new
-      by_effect effect.is_ill_typed j target b = origins.ends (ap (λ (s : State). s.frames) b) (λ f e. cc (e))
-      by_effect (effect.raises kind) j target b =
-          origins.within (within_raises p reach at m there c here unraised shaped new (effect.raises kind) (λ f e. cc (e)) kind b.0 j.0 j.1 b.2
-          (shaped_new at.below _ (ap (λ (s : State). s.frames) b.2)))
-      by_effect (effect.throws o) j target b =
-          let frames = ap (λ (s : State). s.frames) b in
-          origins.within (within_throws p reach at m there c here unraised shaped new (effect.throws o) (λ f e. cc (e)) o j frames (shaped_new at.below _ frames))
-      by_effect (effect.goes index) j target b =
-          let frames = ap (λ (s : State). s.frames) b in
-          origins.within (within_goes p reach at m there c here unraised shaped new (effect.goes index) (λ f e. cc (e)) index j frames (shaped_new at.below _ frames))
-      by_effect (effect.gets to value) j target b =
-          origins.within (within_gets p reach at m there c here unraised shaped new (effect.gets to value) (λ f e. cc (e)) to value j b
-          (shaped_new at.below _ (ap (λ (s : State). s.frames) b)))
-      by_effect (effect.makes to class) j target b =
-          origins.within (within_makes p reach at m there c here unraised shaped new (effect.makes to class) (λ f e. cc (e)) to class j b
-          (shaped_new at.below _ (ap (λ (s : State). s.frames) b)))
-      by_effect (effect.nests to o inner class) j target b =
-          origins.within (within_nests p reach at m there c here unraised shaped new (effect.nests to o inner class) (λ f e. cc (e)) to o inner class j b.0 b.1 b.2
-          (shaped_new at.below _ (ap (λ (s : State). s.frames) b.2)))
-      by_effect (effect.writes o field value) j target b =
-          let frames = ap (λ (s : State). s.frames) b.2 in
-          origins.within (within_goes p reach at m there c here unraised shaped new (effect.writes o field value) (λ f e. cc (e)) (at.top.index + 1) j frames
-          (shaped_new at.below _ frames))
-      by_effect (effect.sets field value) j target b =
-          let frames = ap (λ (s : State). s.frames) b in
-          origins.within (within_goes p reach at m there c here unraised shaped new (effect.sets field value) (λ f e. cc (e)) (at.top.index + 1) j.goes frames
-          (shaped_new at.below _ frames))
-      by_effect (effect.calls g) j target b = entered g j (target g refl) b
-      by_effect (effect.returns value) j target b =
-          returns p reach well at agree shapes new shaped_new (effect.returns value) (λ f e. cc (e)) m there c here unraised shaped value j b
-      by_effect (effect.handles handler o) j target b = absurd j
-      by_effect (effect.leaves o) j target b = absurd j
-
-      -- what a static field gets is stored by the statement
-      stored : (e : Effect) → IsExplained p at m c e → (field x : ℕ) → e ≡ effect.sets field (Object x) → IsStoredStatic p field
-      stored e j field x same =
-          let can : CanSet p at m c field (Object x) = subst (IsExplained p at m c) same j in
-          let by = can.from x refl in
-          record {
-            n = node_at at.top by.var;
-            node = var_node p reach at m there c here unraised shaped by.var by.has;
-            unraised = unraised;
-            stores = record { code = c; at = record { method = m; there = there; here = here }; is_so = by.fact };
-          }
-
-  -- by whether an exception is in flight
-  abbrev Has_both : Effect → Type 0
-  Has_both e = Origins p reach at e new × KeepsObjects p at new
-
-  by_raised : (r : Bool) → at.top.raised ≡ r → (offered : List Effect) → OffersBy r p at offered → (e : Effect) → Has offered e
-      → ((g : Frame) → e ≡ calls g → HasTarget p at.top.method at.top.index g.method)
-      → Becomes p at e new → Has_both e
-  by_raised false is offered h e has target b =
-      let m = h.at.method in
-      let fits = at_all (FitsCode p m) m.code at.top.index h.code (method_fits p well at.top.method m h.at.there).codes h.at.here in
-      let all = rows m h.at.there is h.code h.at.here fits offered h.is_so in
-      let explained = one_of (IsExplained p at m h.code) offered e all has in (
-        by_effect m h.at.there is h.code h.at.here e explained target b,
-        objects_kept p at new e (stored m h.at.there is h.code h.at.here e explained) b,
-      )
-  by_raised true is offered h e has target b =
-      let comes = unwound p reach well at agree shapes new shaped_new shaped is offered h e has in
-      (comes.0 b, objects_kept p at new e (λ field x same. absurd (comes.1 field (Object x) same)) b)
-
-module _ (p : LinkedProgram) (well : IsWellLinked p) (covered : IsCovered p) (reach : Reach) {count choice : ℕ} {old new : State} (run : Run p count old)
-    (step : Step p old choice new) where
-  abbrev at : Point
-  at = step.at
-
-  abbrev q : Asked
-  q = record { targets = []; reach = reach }
-
-  run_there : Run p count (state_of at)
-  run_there = subst (Run p count) step.stands run
-
-  kept : IsKept p q (state_of at)
-  kept = kept_run p q well covered run_there
-
-  kept_new : IsKept p q new
-  kept_new = kept_run p q well covered (Run.steps run step)
-
-  shapes : (number : ℕ) (f : Frame) → slice_get (state_of at).frames number ≡ Some f → IsShaped p f
-  shapes number f e = (tracked_at p q (state_of at) kept number f e).shaped
-
-  shaped_new : (below : List Frame) (g : Frame) → new.frames ≡ below ++ g ∷ [] → IsShaped p g
-  shaped_new below g frames =
-      (tracked_at p q new kept_new (length below) g (subst (λ (fs : List Frame). slice_get fs (length below) ≡ Some g) (sym frames) (slice_get-push below g))).shaped
-
-  pub step_originates : Origins p reach step.at step.effect new × KeepsObjects p step.at new
-  step_originates =
-      by_raised p reach well at (runs_agree p well covered count (state_of at) run_there) shapes (shapes (length at.below) at.top (slice_get-push at.below at.top)) new shaped_new
-      at.top.raised refl step.offered step.offers step.effect (choice, step.chosen)
-      (λ g same. covered count at step.offered g run_there step.offers (choice, step.chosen ∙ ap Some same)) step.becomes
+  by_flight : (raised : at.top.raised ≡ true) (e : Effect) → IsUnwound p at form.method form.code e → (new : State) → Becomes p at e new → Both e new
+  by_flight raised e (caught {handler} {o} thrown handles) = λ new b. subst (Both (effect.handles handler o)) (sym b) (
+    goes (effect.handles handler o) _ _ refl (stays_catches p reach at form fits raised handler o thrown handles) (λ f e. cc (e))
+        (λ r. absurd (cc (r, raised))) (λ r is_call. absurd (cc (r, raised))),
+    keeps _ (same_heap at.heap) refl,
+  )
+  by_flight raised e (left {o} thrown) = λ new b.
+      left_both (effect.leaves o) (λ f e. cc (e)) new (leaves p reach at well form (callers p q well at kept) new raised o thrown b)
 
 -- each step of each run
 pub steps_originate : (p : LinkedProgram) → IsWellLinked p → IsCovered p → HasOrigins p
-steps_originate p well covered reach count choice old new run step = step_originates p well covered reach run step
+steps_originate p well covered reach count choice old new run step =
+    let at = step.at in
+    let q : Asked = record { targets = []; reach = reach } in
+    let run_there : Run p count (state_of at) = subst (Run p count) step.stands run in
+    let kept = going_on p q well at (kept_run p q well covered run_there) in
+    elim (explained p well at kept.frames.tracked.shaped at.top.raised refl step.offered step.offers step.effect (choice, step.chosen)) [
+      | inl so ↦ by_effect p q well at kept so.0 step.effect so.1
+          (λ g same. covered count at step.offered g run_there step.offers (choice, step.chosen ∙ ap Some same)) new step.becomes
+      | inr so ↦ by_flight p q well at kept so.0 step.effect so.1 new step.becomes
+    ]

@@ -1,47 +1,41 @@
--- Calls.
-use Rattle.std.proofs.Common.{◌≡◌, ℕ, zero, suc, ◌<◌, Option, Some, None, is_some, All, false, List, [], ◌∷◌, length, replicate, slice_get, refl, sym, ap, ◌∙◌, subst, inl, inr}
+-- The row of calls: the frame of a method that is called, and what it holds.
+use Rattle.std.proofs.Common.{◌≡◌, ℕ, zero, suc, ◌<◌, Option, Some, None, IfSome, is_some, All, List, [], ◌∷◌, length, replicate, slice_get, refl, sym, ap, ◌∙◌, subst, inl, inr, arith}
 use Rattle.std.proofs.lemmas.List.{length-replicate}
 use Rattle.lists.specs.Lists.{Has}
+use Rattle.lists.proofs.Places.{slice_get-below, slice_get-there}
 use Rattle.jim_ast.specs.declared.syntax.Mode.{Mode}
 use Rattle.jim_ast.specs.declared.syntax.Mode.TheVariants.{Special, Virtual, Interface, Static}
-use Rattle.lists.proofs.Places.{slice_get-below, slice_get-there}
 use Rattle.link_rules.specs.declared.code.Arg.{Arg}
+use Rattle.link_rules.specs.declared.code.Arg.TheVariants as arg
 use Rattle.link_rules.specs.declared.code.Code.{Code}
 use Rattle.link_rules.specs.declared.code.Code.TheVariants as code
 use Rattle.link_rules.specs.Linked.{LinkedMethod, LinkedProgram}
-use Rattle.link_rules.specs.WellLinked.{FitsArg, HasTarget, IsWellLinked, IsWellLinkedCode, SuitsCall}
+use Rattle.link_rules.specs.WellLinked.{FitsArg, FitsCode, HasTarget, IsLocalOf, IsWellLinked, IsWellLinkedCode, SuitsCall}
 use Rattle.link_laws.proofs.Lists.{at_all}
-use Rattle.link_sites.specs.declared.place.Place.{Place}
-use Rattle.link_sites.specs.Places.{before}
 use Rattle.run_covers.proofs.Offered.{AllOf, only}
-use Rattle.spds_rules.specs.declared.edge.EdgeKind.TheVariants as edge_kind
-use Rattle.spds_rules.specs.declared.node.Var.{Var}
 use Rattle.spds_rules.specs.declared.node.Var.TheVariants as var
-use Rattle.spds_rules.specs.Demand.{Asked, Demand}
-use Rattle.spds_rules.specs.Edges.{IsEdge, Passes}
-use Rattle.spds_rules.specs.Nodes.{HasVar, at}
-use Rattle.step_rules.specs.declared.parts.Slot.TheVariants.{Local, This, Param, Caught, Thrown}
+use Rattle.spds_rules.specs.Edges.{Passes}
+use Rattle.spds_rules.specs.Nodes.{arg_var}
+use Rattle.step_rules.specs.declared.parts.Slot.{Slot}
+use Rattle.step_rules.specs.declared.parts.Slot.TheVariants as slots
 use Rattle.step_rules.specs.declared.parts.Value.{Value}
-use Rattle.step_rules.specs.declared.parts.Value.TheVariants.{Object}
-use Rattle.step_rules.specs.Effects.{Effect, calls}
+use Rattle.step_rules.specs.declared.parts.Value.TheVariants.{Null, Number, Object}
+use Rattle.step_rules.specs.Effects.{Effect, calls, raises}
 use Rattle.step_rules.specs.Offers.{CallsOn, CallsWith, Enters, EntersBelow, EntersBy, Row}
-use Rattle.step_rules.specs.Slots.{before_all, if_set, local_of, operand_of, operands_of}
+use Rattle.step_rules.specs.Slots.{before_all, if_set, local_of, operand_of, operands_of, slot_of}
 use Rattle.step_rules.specs.States.{Frame, HeapObject, Point, new_frame}
-use Rattle.run_sound.proofs.Edges.{along_call}
-use Rattle.run_sound.proofs.Effects.{Comes, IsJustified}
-use Rattle.run_sound.proofs.Invariant.{AreSlots, IsReached, IsShaped, IsTracked, sites_of}
-use Rattle.run_sound.proofs.Nodes.{local_below, node_at}
-use Rattle.run_sound.proofs.Offered.{not_typed, of_object, of_value}
-use Rattle.run_sound.proofs.Operands.{IsSource, fits_here, source_of}
-use Rattle.run_sound.proofs.Standing.{IsStanding, StandsBefore, place_at, standing, unraised}
+use Rattle.run_sound.specs.Frames.{var_of}
+use Rattle.run_sound.proofs.Explained.{CanEnter, IsBy, IsExplained, by_slot, operand}
+use Rattle.run_sound.proofs.Invariant.{IsShaped}
+use Rattle.run_sound.proofs.Offered.{not_typed, of_value}
 
 -- the arguments, by the operands
-pub record AreOperands (p : LinkedProgram) (f : Frame) (args : List Arg) (values : List Value) : Type 0 where
+record AreOperands (p : LinkedProgram) (f : Frame) (args : List Arg) (values : List Value) : Type 0 where
   pub as_many : length values ≡ length args
   pub each : (i : ℕ) (v : Value) → slice_get values i ≡ Some v → (a : Arg) × (slice_get args i ≡ Some a) × (operand_of p f a ≡ Some v)
 
 -- the arguments are what the operands are
-pub operands : (p : LinkedProgram) (f : Frame) (args : List Arg) (values : List Value) → operands_of p f args ≡ Some values → AreOperands p f args values
+operands : (p : LinkedProgram) (f : Frame) (args : List Arg) (values : List Value) → operands_of p f args ≡ Some values → AreOperands p f args values
 operands p f [] values e = let none : [] ≡ values = cc in subst (AreOperands p f []) none (record { as_many = refl; each = λ i v h. cc })
 operands p f (a ∷ args) values e = by (operand_of p f a) (operands_of p f args) refl refl e (operands p f args)
   where
@@ -56,138 +50,141 @@ operands p f (a ∷ args) values e = by (operand_of p f a) (operands_of p f args
         elim [ zero ↦ λ w h. (a, refl, one ∙ h) | suc i ↦ λ w h. later.each i w h ] in
         subst (AreOperands p f (a ∷ args)) is (record { as_many = ap suc later.as_many; each = each })
 
+-- what an operand that is this local is
+local_operand : (p : LinkedProgram) (f : Frame) (a : Arg) (y : ℕ) → arg_var a ≡ Some (var.Local y) → operand_of p f a ≡ local_of f y
+local_operand p f (arg.Local x) y e = let same : x ≡ y = cc in ap (local_of f) same
+local_operand p f arg.Number y e = cc
+local_operand p f arg.Null y e = cc
+local_operand p f (arg.Text i) y e = cc
+local_operand p f (arg.Class i) y e = cc
+
 -- in a new frame no local is set
 pub unset : (n y : ℕ) (value : Value) → if_set (slice_get (replicate n None) y) ≡ Some value → ⊥
 unset zero y value e = cc
 unset (suc n) zero value e = cc
 unset (suc n) (suc y) value e = unset n y value e
 
-module _ (p : LinkedProgram) (q : Asked) (well : IsWellLinked p) (point : Point) (m : LinkedMethod) (string : List Place)
-    (st : IsStanding p q point m string) (to : Option ℕ) (mode : Mode) (class key : ℕ) (receiver : Option ℕ) (args : List Arg) (targets : List ℕ)
-    (here : StandsBefore point m (code.Call to mode class key receiver args targets)) where
-  -- the call
+module _ (p : LinkedProgram) (well : IsWellLinked p) (point : Point) (m : LinkedMethod) (there : slice_get p.methods point.top.method ≡ Some m)
+    (to : Option ℕ) (mode : Mode) (class key : ℕ) (receiver : Option ℕ) (args : List Arg) (targets : List ℕ)
+    (here : slice_get m.code point.top.index ≡ Some (code.Call to mode class key receiver args targets))
+    (fits : FitsCode p m (code.Call to mode class key receiver args targets)) where
   abbrev call : Code
   call = code.Call to mode class key receiver args targets
 
-  -- the receiver of the new frame is that of the call
-  pub record IsReceiver (this : Option Value) : Type 0 where
-    pub as_set : is_some this ≡ is_some receiver
-    pub each : (value : Value) → this ≡ Some value → (x : ℕ) × (receiver ≡ Some x) × (local_of (standing point.top) x ≡ Some value)
+  abbrev J : Effect → Type 0
+  J = IsExplained p point m call
 
-  -- a target is one of the call's
-  has_target : (number : ℕ) → HasTarget p point.top.method point.top.index number → Has targets number
-  has_target number target =
+  -- the receiver of the new frame is that of the call
+  record IsReceiver (this : Option Value) : Type 0 where
+    pub as_set : is_some this ≡ is_some receiver
+    pub each : (value : Value) → this ≡ Some value → (x : ℕ) × (receiver ≡ Some x) × (local_of point.top x ≡ Some value)
+    pub back : (x : ℕ) → receiver ≡ Some x → this ≡ local_of point.top x
+
+  -- a target of the call is one of this statement
+  same_call : (number : ℕ) (target : HasTarget p point.top.method point.top.index number)
+      → (target.receiver ≡ receiver) × (target.args ≡ args) × (target.targets ≡ targets)
+  same_call number target =
       let one = target.there in
-      let two = st.there in
+      let two = there in
       let same : target.method ≡ m = cc in
       let call_there = subst (λ (m : LinkedMethod). slice_get m.code point.top.index ≡ Some (code.Call target.to target.mode target.class target.key target.receiver target.args target.targets)) same target.call in
       let is = here in
-      let these : target.targets ≡ targets = cc in
-      subst (λ (ts : List ℕ). Has ts number) these target.has
+      let first : target.receiver ≡ receiver = cc in
+      let second : target.args ≡ args = cc in
+      let third : target.targets ≡ targets = cc in
+      (first, second, third)
 
-  -- it suits the call
+  -- a target suits the call
   suits : (number : ℕ) → Has targets number → SuitsCall p receiver (length args) number
   suits number has =
-      let codes = at_all (λ (m : LinkedMethod). All (IsWellLinkedCode p) m.code) p.methods point.top.method m well.codes st.there in
+      let codes = at_all (λ (m : LinkedMethod). All (IsWellLinkedCode p) m.code) p.methods point.top.method m well.codes there in
       let fits = at_all (IsWellLinkedCode p) m.code point.top.index call codes here in
       at_all (SuitsCall p receiver (length args)) targets has.0 number fits.0 has.1
 
-  module _ (number : ℕ) (callee : LinkedMethod) (there : slice_get p.methods number ≡ Some callee) (this : Option Value) (values : List Value)
-      (is_receiver : IsReceiver this) (are : AreOperands p (standing point.top) args values) (has : Has targets number) where
-    -- its method is that of the target
-    same : (suits number has).method ≡ callee
-    same = let one = (suits number has).there in cc
-
-    -- the statement at which it begins
-    code_there : (c : Code) × (slice_get callee.code 0 ≡ Some c)
-    code_there = slice_get-there callee.code 0 (subst (λ (m : LinkedMethod). 0 < length m.code) same (suits number has).has_statements)
+  module _ (number : ℕ) (callee : LinkedMethod) (its : slice_get p.methods number ≡ Some callee) (this : Option Value) (values : List Value)
+      (is_receiver : IsReceiver this) (are : AreOperands p point.top args values) where
+    abbrev g : Frame
+    g = new_frame number callee this values
 
     -- it has the form of its method
-    shaped : IsShaped p (new_frame number callee this values)
-    shaped = record {
-      method = callee;
-      there = there;
-      code = code_there.0;
-      here = code_there.1;
-      stands = tt;
-      locals = length-replicate (length callee.locals) None;
-      params = are.as_many ∙ sym (suits number has).params ∙ ap (λ (m : LinkedMethod). m.params) same;
-      this = is_receiver.as_set ∙ sym (suits number has).has_this ∙ ap (λ (m : LinkedMethod). m.has_this) same;
-      thrown = λ e. refl;
-      flies = λ e. cc;
-    }
-
-    -- what is passed comes to the first statement
-    passed : (v w : Var) (x : ℕ) → HasVar m call false v → HasVar callee code_there.0 false w → Passes receiver args v w
-        → Comes p q point m call string (at (place_at point) v) x
-        → Demand p q (at (before number 0) w)
-        → IsReached p q (sites_of point.heap) (at (before number 0) w) (place_at point ∷ string) x
-    passed v w x has_v has_w passes comes d =
-        along_call p q (sites_of point.heap) (at (place_at point) v) (at (before number 0) w) (place_at point) string x edge d comes
-      where
-        edge : IsEdge p q.reach (at (place_at point) v) (edge_kind.Call (place_at point)) (at (before number 0) w)
-        edge = record {
-          from = node_at p point.top.method point.top.index false m call st.there here tt v has_v;
-          to = node_at p number 0 false callee code_there.0 there code_there.1 tt w has_w;
-          row = record {
-            from = refl;
-            unraised = refl;
-            target = record {
-              method = m;
-              there = st.there;
-              to = to;
-              mode = mode;
-              class = class;
-              key = key;
-              receiver = receiver;
-              args = args;
-              targets = targets;
-              call = here;
-              has = has;
-            };
-            begins = refl;
-            passes = passes;
-          };
+    shaped : Has targets number → IsShaped p g
+    shaped has =
+        let fit = suits number has in
+        let same : fit.method ≡ callee = let one = fit.there in cc in
+        let code_there = slice_get-there callee.code 0 (subst (λ (m : LinkedMethod). 0 < length m.code) same fit.has_statements) in
+        record {
+          method = callee;
+          there = its;
+          code = code_there.0;
+          here = code_there.1;
+          stands = tt;
+          locals = length-replicate (length callee.locals) None;
+          params = are.as_many ∙ sym fit.params ∙ ap (λ (m : LinkedMethod). m.params) same;
+          this = is_receiver.as_set ∙ sym fit.has_this ∙ ap (λ (m : LinkedMethod). m.has_this) same;
+          thrown = λ e. refl;
+          flies = λ e. cc;
         }
 
-    -- what its slots hold was passed
-    slots : AreSlots p q (sites_of point.heap) (new_frame number callee this values) (place_at point ∷ string)
-    unfolding shaped
-    slots (Local y) x e d = absurd (unset (length callee.locals) y (Object x) e)
-    slots This x e d =
+    -- what stands for an object that it holds
+    from : (to : Slot) (x : ℕ) → slot_of g to ≡ Some (Object x) → IsBy p point m call (λ v. Passes receiver args v (var_of to)) x
+    from (slots.Local y) x e = absurd (unset _ y (Object x) e)
+    from slots.This x e =
         let r = is_receiver.each (Object x) e in
-        let has_this = sym shaped.this ∙ ap (λ (o : Option Value). is_some o) e in
-        let below = subst (λ n. r.0 < n) st.locals (local_below (standing point.top) r.0 (Object x) r.2) in
-        passed (var.Local r.0) var.This x below has_this (r.0, r.1, refl) (λ d. st.slots (Local r.0) x r.2 d) d
-    slots (Param i) x e d =
+        record {
+          var = var.Local r.0;
+          has = subst (λ (o : Option ℕ). IfSome o (IsLocalOf m)) r.1 fits.2;
+          stands = by_slot (slots.Local r.0) r.2;
+          fact = (r.0, r.1, refl);
+        }
+    from (slots.Param i) x e =
         let a = are.each i (Object x) e in
-        let fits = fits_here p q point m string st call here in
-        let from : IsSource p q point m call string a.0 x = source_of p q point m string st call here a.0 x (at_all (FitsArg p m) args i a.0 fits.4 a.1) (i, a.1) a.2 in
-        let below = subst (λ n. i < n) shaped.params (slice_get-below values i (Object x) e) in
-        passed from.var (var.Param i) x from.has below (a.0, a.1, from.is_var) from.comes d
-    slots Caught x e d = cc
-    slots Thrown x e d = cc
+        operand p point m call a.0 x (λ v. Passes receiver args v (var.Param i)) (at_all (FitsArg p m) args i a.0 fits.4 a.1) (i, a.1) a.2
+        (λ v is_var. (a.0, a.1, is_var))
+    from slots.Caught x e = cc (e)
+    from slots.Thrown x e = cc (e)
 
-    -- so it has the string of the call, in front of that of the caller
-    pub tracked : IsTracked p q (sites_of point.heap) (new_frame number callee this values) (place_at point ∷ string)
-    tracked = record { shaped = shaped; slots = slots }
+    -- a local that is passed
+    passed : (x : ℕ) (position : Slot) (value : Value) → Passes receiver args (var.Local x) (var_of position) → local_of point.top x ≡ Some value
+        → slot_of g position ≡ Some value
+    passed x slots.This value passes e =
+        let locals = passes.2 in
+        let same : x ≡ passes.0 = cc (locals) in
+        is_receiver.back passes.0 passes.1 ∙ ap (local_of point.top) (sym same) ∙ e
+    passed x (slots.Param i) value passes e =
+        let many = are.as_many in
+        let few = slice_get-below args i passes.0 passes.1 in
+        let v = slice_get-there values i (omega (arith, many, few)) in
+        let a = are.each i v.0 v.1 in
+        let one = passes.1 in
+        let two = a.1 in
+        let same : a.0 ≡ passes.0 = cc (one, two) in
+        v.1 ∙ sym a.2 ∙ ap (operand_of p point.top) same ∙ local_operand p point.top passes.0 x passes.2 ∙ e
+    passed x (slots.Local y) value passes e = elim passes [ ]
+    passed x slots.Caught value passes e = elim passes [ ]
+    passed x slots.Thrown value passes e = elim passes [ ]
 
-  -- ---- the row of calls
-
-  -- the effects of the call stand on its facts
-  abbrev J : Effect → Type 0
-  J = IsJustified p q point m call string
+    entered : (target : HasTarget p point.top.method point.top.index number) → CanEnter p point m call g target.receiver target.args
+    entered target =
+        let same = same_call number target in
+        let can : CanEnter p point m call g receiver args =
+        record {
+          begins = (refl, refl);
+          shaped = shaped (subst (λ (ts : List ℕ). Has ts number) same.2 target.has);
+          from = from;
+          passed = passed;
+        } in
+        subst (λ (r : Option ℕ). CanEnter p point m call g r target.args) (sym same.0) (subst (λ (given : List Arg). CanEnter p point m call g receiver given) (sym same.1) can)
 
   -- a method that is looked up is entered
-  enters : (from : ℕ) (this : Option Value) (values : List Value) (offered : List Effect) → IsReceiver this → AreOperands p (standing point.top) args values
+  enters : (from : ℕ) (this : Option Value) (values : List Value) (offered : List Effect) → IsReceiver this → AreOperands p point.top args values
       → Enters p from key this values offered → AllOf J offered
   enters from this values offered is_receiver are h = elim h [
-    | inl f ↦ only J (calls (new_frame f.0 f.1 this values) ∷ []) offered f.3 (λ target. tracked f.0 f.1 f.2.there this values is_receiver are (has_target f.0 target), tt)
+    | inl f ↦ only J (calls (new_frame f.0 f.1 this values) ∷ []) offered f.3 (λ target. entered f.0 f.1 f.2.there this values is_receiver are target, tt)
     | inr none ↦ not_typed J tt offered none.1
   ]
 
   -- the same, from a class that must be below one
-  enters_below : (from : ℕ) (this : Option Value) (values : List Value) (offered : List Effect) → IsReceiver this → AreOperands p (standing point.top) args values
+  enters_below : (from : ℕ) (this : Option Value) (values : List Value) (offered : List Effect) → IsReceiver this → AreOperands p point.top args values
       → EntersBelow p class from key this values offered → AllOf J offered
   enters_below from this values offered is_receiver are h = elim h [
     | inl f ↦ enters from this values offered is_receiver are f.1
@@ -196,7 +193,7 @@ module _ (p : LinkedProgram) (q : Asked) (well : IsWellLinked p) (point : Point)
 
   -- the same, by the mode
   enters_by : (way : Mode) (object : HeapObject) (this : Option Value) (values : List Value) (offered : List Effect) → IsReceiver this
-      → AreOperands p (standing point.top) args values
+      → AreOperands p point.top args values
       → EntersBy p way class key object this values offered
       → AllOf J offered
   enters_by Static object this values offered is_receiver are h = enters class this values offered is_receiver are h
@@ -204,27 +201,38 @@ module _ (p : LinkedProgram) (q : Asked) (well : IsWellLinked p) (point : Point)
   enters_by Virtual object this values offered is_receiver are h = enters_below object.class this values offered is_receiver are h
   enters_by Interface object this values offered is_receiver are h = enters_below object.class this values offered is_receiver are h
 
-module _ (p : LinkedProgram) (q : Asked) (well : IsWellLinked p) (point : Point) (m : LinkedMethod) (string : List Place)
-    (st : IsStanding p q point m string) (to : Option ℕ) (mode : Mode) (class key : ℕ) (args : List Arg) (targets : List ℕ) where
-  -- a call, with a receiver or without one
-  calls_with : (receiver : Option ℕ) → StandsBefore point m (code.Call to mode class key receiver args targets) → (values : Option (List Value))
-      → operands_of p (standing point.top) args ≡ values
-      → (offered : List Effect) → CallsWith p (unraised point) mode class key receiver values offered
-      → AllOf (IsJustified p q point m (code.Call to mode class key receiver args targets) string) offered
-  calls_with None here (Some values) e offered h =
-      enters p q well point m string st to mode class key None args targets here class None values offered (record { as_set = refl; each = λ value e. cc })
-      (operands p (standing point.top) args values e) h
-  calls_with (Some x) here (Some values) e offered h =
-      let J = IsJustified p q point m (code.Call to mode class key (Some x) args targets) string in
-      of_value J tt (local_of (standing point.top) x) (λ value. CallsOn p (unraised point) mode class key value values) offered (λ value is on.
-      of_object J tt refl value _ offered (λ o is_object there.
-      enters_by p q well point m string st to mode class key (Some x) args targets here mode there.0 (Some value) values offered
-      (record { as_set = refl; each = λ v of. (x, refl, is ∙ of) }) (operands p (standing point.top) args values e) there.2) on) h
-  calls_with None here None e offered h = not_typed (IsJustified p q point m (code.Call to mode class key None args targets) string) tt offered h
-  calls_with (Some x) here None e offered h = not_typed (IsJustified p q point m (code.Call to mode class key (Some x) args targets) string) tt offered h
+module _ (p : LinkedProgram) (well : IsWellLinked p) (point : Point) (m : LinkedMethod) (there : slice_get p.methods point.top.method ≡ Some m)
+    (to : Option ℕ) (mode : Mode) (class key : ℕ) (args : List Arg) (targets : List ℕ) (offered : List Effect) where
+  abbrev call_on : Option ℕ → Code
+  call_on receiver = code.Call to mode class key receiver args targets
 
-  -- the row of calls
-  pub call_row : (receiver : Option ℕ) → StandsBefore point m (code.Call to mode class key receiver args targets) → (offered : List Effect)
-      → Row p (unraised point) (code.Call to mode class key receiver args targets) offered
-      → AllOf (IsJustified p q point m (code.Call to mode class key receiver args targets) string) offered
-  call_row receiver here offered h = calls_with receiver here (operands_of p (standing point.top) args) refl offered h
+  abbrev K : Option ℕ → Effect → Type 0
+  K receiver = IsExplained p point m (call_on receiver)
+
+  -- what is said of the call
+  abbrev Fine : Option ℕ → Type 0 → Type 0
+  Fine receiver Offers = slice_get m.code point.top.index ≡ Some (call_on receiver) → FitsCode p m (call_on receiver) → Offers → AllOf (K receiver) offered
+
+  -- on a value
+  calls_on : (x : ℕ) (values : List Value) → AreOperands p point.top args values → (value : Value) → local_of point.top x ≡ Some value
+      → Fine (Some x) (CallsOn p point mode class key value values offered)
+  calls_on x values are (Object o) is here fits h =
+      enters_by p well point m there to mode class key (Some x) args targets here fits mode h.0 (Some (Object o)) values offered
+      (record { as_set = refl; each = λ v of. (x, refl, is ∙ of); back = λ y of. sym (ap (local_of point.top) (cc (of)) ∙ is) }) are h.2
+  calls_on x values are Null is here fits h = only (K (Some x)) (raises 0 ∷ []) offered h ((refl, (x, refl, is)), tt)
+  calls_on x values are Number is here fits h = not_typed (K (Some x)) tt offered h
+
+  -- a call, with a receiver or without one
+  calls_with : (receiver : Option ℕ) (values : Option (List Value)) → operands_of p point.top args ≡ values
+      → Fine receiver (CallsWith p point mode class key receiver values offered)
+  calls_with None (Some values) e here fits h =
+      enters p well point m there to mode class key None args targets here fits class None values offered
+      (record { as_set = refl; each = λ value e. cc (e); back = λ x e. cc (e) }) (operands p point.top args values e) h
+  calls_with (Some x) (Some values) e here fits h =
+      of_value (K (Some x)) tt (local_of point.top x) (λ value. CallsOn p point mode class key value values) offered
+      (λ value is on. calls_on x values (operands p point.top args values e) value is here fits on) h
+  calls_with None None e here fits h = not_typed (K None) tt offered h
+  calls_with (Some x) None e here fits h = not_typed (K (Some x)) tt offered h
+
+  pub call_row : (receiver : Option ℕ) → Fine receiver (Row p point (call_on receiver) offered)
+  call_row receiver here fits h = calls_with receiver (operands_of p point.top args) refl here fits h

@@ -2,7 +2,7 @@
 use Rattle.std.proofs.Common.{◌≡◌, ℕ, ◌++◌, List, [], ◌∷◌, Some, slice_get, refl, sym, subst, inl, inr}
 use Rattle.std.specs.List.{slice_set}
 use Rattle.lists.proofs.Places.{slice_get-pushed}
-use Rattle.link_rules.specs.Linked.{LinkedMethod, LinkedProgram}
+use Rattle.link_rules.specs.Linked.{LinkedProgram}
 use Rattle.link_sites.specs.declared.place.Place.{Place}
 use Rattle.link_sites.specs.declared.site.Site.{Site}
 use Rattle.link_sites.specs.Sites.{HasField, IsSiteClass}
@@ -11,30 +11,13 @@ use Rattle.spds_rules.specs.Demand.{Asked, Demand}
 use Rattle.spds_rules.specs.Systems.{IsString}
 use Rattle.step_rules.specs.declared.parts.Value.{Value}
 use Rattle.step_rules.specs.declared.parts.Value.TheVariants.{Object}
-use Rattle.step_rules.specs.States.{HeapObject, Point, Write, new_object, written}
+use Rattle.step_rules.specs.States.{HeapObject, Write, new_object, written}
 use Rattle.run_sound.specs.Simulated.{IsLoadedFrom}
-use Rattle.run_sound.proofs.Growing.{Extends, constants_more, extends_more, extends_same, object_more, slots_more, statics_more, waits_more}
+use Rattle.run_sound.proofs.Growing.{Extends, constants_more, extends_more, extends_same, object_more, statics_more}
 use Rattle.run_sound.proofs.Invariant.{IsMemory, IsObject, IsReached, IsStored, sites_of}
 use Rattle.run_sound.proofs.Lists.{map-slice_set, slice_get-slice_set}
-use Rattle.run_sound.proofs.Standing.{IsStanding, standing}
 
 module _ (p : LinkedProgram) (q : Asked) where
-  -- what is known at a point stays so over a heap that extends its heap
-  pub over_memory : (point : Point) (m : LinkedMethod) (string : List Place) → IsStanding p q point m string → (heap : List HeapObject) (statics : List Value)
-      → Extends (sites_of point.heap) (sites_of heap) → IsMemory p q heap statics
-      → IsStanding p q (record point { heap = heap; statics = statics }) m string
-  over_memory point m string st heap statics grows memory = record {
-    there = st.there;
-    fits = st.fits;
-    waits = waits_more p q (sites_of point.heap) (sites_of heap) grows st.waits;
-    locals = st.locals;
-    params = st.params;
-    this = st.this;
-    thrown = st.thrown;
-    slots = slots_more p q (sites_of point.heap) (sites_of heap) grows (standing point.top) string st.slots;
-    memory = memory;
-  }
-
   -- one more object, into which nothing was written
   pub memory_allocated : (heap : List HeapObject) (statics : List Value) → IsMemory p q heap statics → (site : Site) (class : ℕ) → IsSiteClass p site class
       → IsMemory p q (heap ++ new_object site class ∷ []) statics

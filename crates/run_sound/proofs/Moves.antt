@@ -1,166 +1,199 @@
--- Effects that move the top frame keep what is known.
-use Rattle.std.proofs.Common.{◌≡◌, ℕ, ◌+◌, ◌<◌, ◌⊎◌, Some, None, true, false, List, length, slice_get, refl, sym, ◌∙◌, subst, inl, inr}
+-- How the top frame goes on: over its statement, or with an exception in flight there.
+use Rattle.std.proofs.Common.{◌≡◌, ℕ, ◌+◌, ◌<◌, ◌⊎◌, Option, Some, Bool, true, false, List, length, slice_get, refl, sym, ap, ◌∙◌, subst, inl, inr}
+use Rattle.std.specs.List.{slice_set}
+use Rattle.std.proofs.lemmas.List.{length-set}
 use Rattle.std.proofs.lemmas.Option.{same_Some}
 use Rattle.lists.proofs.Places.{slice_get-there}
-use Rattle.std.proofs.lemmas.List.{length-set}
 use Rattle.link_rules.specs.declared.code.Code.{Code}
 use Rattle.link_rules.specs.Flow.{Next, IsRaised}
 use Rattle.link_rules.specs.Linked.{LinkedMethod, LinkedProgram}
-use Rattle.link_sites.specs.declared.place.Place.{Place}
-use Rattle.link_sites.specs.Places.{before, in_flight}
-use Rattle.spds_rules.specs.declared.node.Var.TheVariants as var
-use Rattle.spds_rules.specs.Demand.{Asked, Demand}
-use Rattle.spds_rules.specs.Edges.{AssignsTo, FlowsIn}
-use Rattle.spds_rules.specs.Formals.{assigned}
-use Rattle.spds_rules.specs.Nodes.{at}
+use Rattle.link_rules.specs.WellLinked.{FitsMethod}
+use Rattle.link_sites.specs.Places.{CodeAt}
+use Rattle.spds_rules.specs.declared.edge.EdgeKind.TheVariants.{Flow}
+use Rattle.spds_rules.specs.declared.node.Var.{Var}
+use Rattle.spds_rules.specs.declared.reach.Reach.{Reach}
+use Rattle.spds_rules.specs.Edges.{AssignsTo, FlowsIn, IsEdge}
+use Rattle.spds_rules.specs.Nodes.{HasVar, IsNode, MayStand}
 use Rattle.step_rules.specs.declared.parts.Slot.{Slot}
 use Rattle.step_rules.specs.declared.parts.Slot.TheVariants.{Local, This, Param, Caught, Thrown}
 use Rattle.step_rules.specs.declared.parts.Value.{Value}
 use Rattle.step_rules.specs.declared.parts.Value.TheVariants.{Object}
-use Rattle.step_rules.specs.Slots.{slot_of}
-use Rattle.step_rules.specs.States.{Frame, Point, gets, goes_to, state_of, throws}
+use Rattle.step_rules.specs.Slots.{if_set, local_of, slot_of}
+use Rattle.step_rules.specs.States.{Frame, Point, gets, goes_to, throws}
 use Rattle.run_sound.specs.Frames.{node_of, var_of}
-use Rattle.run_sound.proofs.Edges.{carried}
-use Rattle.run_sound.proofs.Invariant.{AreSlots, IsKept, IsReached, IsShaped, sites_of}
-use Rattle.run_sound.proofs.Standing.{IsStanding, StandsBefore, set_local, shaped_here, standing, unraised}
+use Rattle.run_sound.proofs.Explained.{AssignsNone, node_in}
+use Rattle.run_sound.proofs.Invariant.{IsShaped}
+use Rattle.run_sound.proofs.Nodes.{has_node}
+use Rattle.run_sound.proofs.Standing.{other_local, set_local}
 
--- the statement assigns nothing
-abbrev pub AssignsNone : Code → Type 0
-AssignsNone c = assigned c ≡ None
+-- no other statement stands there
+pub same_code : (p : LinkedProgram) (f : Frame) (form : IsShaped p f) (c : Code) → CodeAt p f.method f.index c → form.code ≡ c
+same_code p f form c at =
+    let one = form.there in
+    let two = at.there in
+    let same : form.method ≡ at.method = cc in
+    let first : slice_get at.method.code f.index ≡ Some form.code = subst (λ (m : LinkedMethod). slice_get m.code f.index ≡ Some form.code) same form.here in
+    let second = at.here in
+    cc
 
--- nothing else than this does it leave alone
-leaves_all : (c : Code) (y : ℕ) → AssignsNone c → AssignsTo c y → ⊥
-leaves_all c y none assigns = absurd (cc (none, assigns))
+module _ (p : LinkedProgram) (reach : Reach) (point : Point) (form : IsShaped p point.top) where
+  abbrev f : Frame
+  f = point.top
 
-only_this : (c : Code) (to y : ℕ) → AssignsTo c to → AssignsTo c y → y ≡ to
-only_this c to y assigns other = same_Some y to (sym other ∙ assigns)
+  -- the statement
+  pub code_at : CodeAt p f.method f.index form.code
+  code_at = record { method = form.method; there = form.there; here = form.here }
 
-module _ (p : LinkedProgram) (q : Asked) (point : Point) (m : LinkedMethod) (string : List Place) (st : IsStanding p q point m string) (c : Code)
-    (here : StandsBefore point m c) where
-  -- the slots of a frame of the same method, each of which is as it was, or is reached anew
-  slots_from : (g : Frame) (shaped : IsShaped p g) → g.method ≡ point.top.method
-      → ((from : Slot) (x : ℕ) → slot_of g from ≡ Some (Object x)
-      → ((slot_of (standing point.top) from ≡ Some (Object x))
-      × FlowsIn m c point.top.index false (var_of from) g.index g.raised (var_of from))
-      ⊎ (Demand p q (node_of g from) → IsReached p q (sites_of point.heap) (node_of g from) string x))
-      → AreSlots p q (sites_of point.heap) g string
-  slots_from g shaped same each from x e d = elim (each from x e) [
-    | inl old ↦ carried p q (sites_of point.heap) (standing point.top) g string (shaped_here p q point m string st c here) st.slots shaped same from from x old.0 e old.1 d
-    | inr anew ↦ anew d
-  ]
+  -- f goes on as g, which has the same receiver and parameters, and the same locals but for one that the statement assigns. Of each object that a slot
+  -- of g holds this is so
+  pub record Moves (g : Frame) (Held : Slot → ℕ → Type 0) : Type 0 where
+    pub shaped : IsShaped p g
+    pub method : g.method ≡ f.method
+    pub this : g.this ≡ f.this
+    pub params : g.params ≡ f.params
+    pub locals : (y : ℕ) → (local_of g y ≡ local_of f y) ⊎ ((f.raised ≡ false) × AssignsTo form.code y)
+    pub slots : (to : Slot) (x : ℕ) → slot_of g to ≡ Some (Object x) → Held to x
 
-  -- the frame goes on at a statement
-  pub kept_goes : (index : ℕ) → Next c point.top.index index → AssignsNone c → IsKept p q (state_of (goes_to index (unraised point)))
-  kept_goes index next none = record {
-    frames = inr (point.below, g, refl, record { string = string; waits = st.waits; tracked = record { shaped = shaped; slots = slots_from g shaped refl each } });
-    memory = st.memory;
+  -- an edge to a slot of it
+  pub edge : (v : Var) → IsNode p (node_in f v) → (g : Frame) → g.method ≡ f.method → (r s : Bool) → f.raised ≡ r → g.raised ≡ s → (to : Slot)
+      → IsNode p (node_of g to) → FlowsIn form.method form.code f.index r v g.index s (var_of to)
+      → IsEdge p reach (node_in f v) Flow (node_of g to)
+  edge v from g same r s is is_too to node flows = record {
+    from = from;
+    to = node;
+    row = record {
+      same = same;
+      method = form.method;
+      there = form.there;
+      code = form.code;
+      here = form.here;
+      flows = subst (λ (r : Bool). FlowsIn form.method form.code f.index r v g.index g.raised (var_of to)) (sym is)
+          (subst (λ (s : Bool). FlowsIn form.method form.code f.index r v g.index s (var_of to)) (sym is_too) flows);
+    };
   }
-    where
-      g : Frame
-      g = (goes_to index (unraised point)).top
 
-      there : (c : Code) × (slice_get m.code index ≡ Some c)
-      there = slice_get-there m.code index (st.fits.stays point.top.index index c here next)
+  -- what a slot held is so of it, as there is an edge
+  abbrev pub Keeps : Frame → (Slot → ℕ → Type 0) → Type 0
+  Keeps g Held = (to : Slot) (x : ℕ) → slot_of f to ≡ Some (Object x) → IsEdge p reach (node_of f to) Flow (node_of g to) → Held to x
 
-      shaped : IsShaped p g
-      shaped = record {
-        method = m;
-        there = st.there;
-        code = there.0;
-        here = there.1;
-        stands = tt;
-        locals = st.locals;
-        params = st.params;
-        this = st.this;
-        thrown = λ e. st.thrown;
-        flies = λ e. cc;
-      }
+  module _ (unraised : f.raised ≡ false) where
+    -- a variable of the statement has a node
+    pub var_node : (v : Var) → HasVar form.method form.code false v → IsNode p (node_in f v)
+    var_node v has = record {
+      method = form.method;
+      there = form.there;
+      code = form.code;
+      here = form.here;
+      stands = form.stands;
+      has = subst (λ (r : Bool). HasVar form.method form.code r v) (sym unraised) has;
+    }
 
-      each : (from : Slot) (x : ℕ) → slot_of g from ≡ Some (Object x)
-          → ((slot_of (standing point.top) from ≡ Some (Object x)) × FlowsIn m c point.top.index false (var_of from) index false (var_of from))
-          ⊎ (Demand p q (node_of g from) → IsReached p q (sites_of point.heap) (node_of g from) string x)
-      each (Local y) x e = inl (e, (next, inl (leaves_all c y none, refl)))
-      each This x e = inl (e, (next, inl (tt, refl)))
-      each (Param i) x e = inl (e, (next, inl (tt, refl)))
-      each Caught x e = inl (e, (next, inl (tt, refl)))
-      each Thrown x e = let unset = st.thrown in cc
+    -- the frame goes on at a statement, with these locals
+    goes_on : FitsMethod p form.method → (index : ℕ) (values : List (Option Value)) → Next form.code f.index index → length values ≡ length form.method.locals
+        → (Held : Slot → ℕ → Type 0) → Keeps (record f { index = index; locals = values }) Held
+        → ((y : ℕ) → (if_set (slice_get values y) ≡ local_of f y) ⊎ AssignsTo form.code y)
+        → ((y x : ℕ) → if_set (slice_get values y) ≡ Some (Object x) → IsNode p (node_of (record f { index = index; locals = values }) (Local y))
+        → ((local_of f y ≡ Some (Object x)) × (AssignsTo form.code y → ⊥)) ⊎ Held (Local y) x)
+        → Moves (record f { index = index; locals = values }) Held
+    goes_on fits index values next many Held keeps as_before each = record {
+      shaped = shaped;
+      method = refl;
+      this = refl;
+      params = refl;
+      locals = λ y. elim (as_before y) [ inl same ↦ inl same | inr set ↦ inr (unraised, set) ];
+      slots = slots;
+    }
+      where
+        g : Frame
+        g = record f { index = index; locals = values }
 
-  -- a local gets a value, and the frame goes on
-  pub kept_gets : (to : ℕ) (value : Value) → Next c point.top.index (point.top.index + 1) → AssignsTo c to → to < length m.locals
-      → ((x : ℕ) → value ≡ Object x → Demand p q (at (before point.top.method (point.top.index + 1)) (var.Local to))
-      → IsReached p q (sites_of point.heap) (at (before point.top.method (point.top.index + 1)) (var.Local to)) string x)
-      → IsKept p q (state_of (gets to value (unraised point)))
-  kept_gets to value next only below reached = record {
-    frames = inr (point.below, g, refl, record { string = string; waits = st.waits; tracked = record { shaped = shaped; slots = slots_from g shaped refl each } });
-    memory = st.memory;
-  }
-    where
-      g : Frame
-      g = (gets to value (unraised point)).top
+        there : (c : Code) × (slice_get form.method.code index ≡ Some c)
+        there = slice_get-there form.method.code index (fits.stays f.index index form.code form.here next)
 
-      there : (c : Code) × (slice_get m.code (point.top.index + 1) ≡ Some c)
-      there = slice_get-there m.code (point.top.index + 1) (st.fits.stays point.top.index (point.top.index + 1) c here next)
+        shaped : IsShaped p g
+        shaped = record {
+          method = form.method;
+          there = form.there;
+          code = there.0;
+          here = there.1;
+          stands = subst (λ (r : Bool). MayStand there.0 r) (sym unraised) tt;
+          locals = many;
+          params = form.params;
+          this = form.this;
+          thrown = form.thrown;
+          flies = form.flies;
+        }
 
-      shaped : IsShaped p g
-      shaped = record {
-        method = m;
-        there = st.there;
-        code = there.0;
-        here = there.1;
-        stands = tt;
-        locals = length-set point.top.locals to (Some value) ∙ st.locals;
-        params = st.params;
-        this = st.this;
-        thrown = λ e. st.thrown;
-        flies = λ e. cc;
-      }
+        same : (to : Slot) (x : ℕ) → slot_of f to ≡ Some (Object x) → slot_of g to ≡ Some (Object x)
+            → FlowsIn form.method form.code f.index false (var_of to) index false (var_of to) → Held to x
+        same to x e e_too flows = keeps to x e
+            (edge (var_of to) (has_node p f form to (Object x) e) g refl false false unraised unraised to (has_node p g shaped to (Object x) e_too) flows)
 
-      each : (from : Slot) (x : ℕ) → slot_of g from ≡ Some (Object x)
-          → ((slot_of (standing point.top) from ≡ Some (Object x))
-          × FlowsIn m c point.top.index false (var_of from) (point.top.index + 1) false (var_of from))
-          ⊎ (Demand p q (node_of g from) → IsReached p q (sites_of point.heap) (node_of g from) string x)
-      each (Local y) x e = elim (set_local point.top.locals to y value (Object x) (subst (λ n. to < n) (sym st.locals) below) e) [
-        | inl set ↦ inr (subst (λ y. Demand p q (node_of g (Local y)) → IsReached p q (sites_of point.heap) (node_of g (Local y)) string x) (sym set.0) (reached x set.1))
-        | inr kept ↦ inl (kept.1, (next, inl (λ a. kept.0 (only_this c to y only a), refl)))
-      ]
-      each This x e = inl (e, (next, inl (tt, refl)))
-      each (Param i) x e = inl (e, (next, inl (tt, refl)))
-      each Caught x e = inl (e, (next, inl (tt, refl)))
-      each Thrown x e = let unset = st.thrown in cc
+        slots : (to : Slot) (x : ℕ) → slot_of g to ≡ Some (Object x) → Held to x
+        slots (Local y) x e = elim (each y x e (has_node p g shaped (Local y) (Object x) e)) [
+          | inl old ↦ same (Local y) x old.0 e (next, inl (old.1, refl))
+          | inr anew ↦ anew
+        ]
+        slots This x e = same This x e e (next, inl (tt, refl))
+        slots (Param i) x e = same (Param i) x e e (next, inl (tt, refl))
+        slots Caught x e = same Caught x e e (next, inl (tt, refl))
+        slots Thrown x e = let unset = form.thrown unraised in cc
 
-  -- an object is in flight at the statement
-  pub kept_throws : (o : ℕ) → IsRaised c
-      → (Demand p q (at (in_flight point.top.method point.top.index) var.Thrown)
-      → IsReached p q (sites_of point.heap) (at (in_flight point.top.method point.top.index) var.Thrown) string o)
-      → IsKept p q (state_of (throws o (unraised point)))
-  kept_throws o raised reached = record {
-    frames = inr (point.below, g, refl, record { string = string; waits = st.waits; tracked = record { shaped = shaped; slots = slots_from g shaped refl each } });
-    memory = st.memory;
-  }
-    where
-      g : Frame
-      g = (throws o (unraised point)).top
+    -- nothing is assigned
+    pub goes_moves : FitsMethod p form.method → (index : ℕ) → Next form.code f.index index → AssignsNone form.code
+        → (Held : Slot → ℕ → Type 0) → Keeps (goes_to index point).top Held
+        → Moves (goes_to index point).top Held
+    goes_moves fits index next none Held keeps =
+        goes_on fits index f.locals next form.locals Held keeps (λ y. inl refl) (λ y x e node. inl (e, λ a. absurd (cc (none, a))))
 
-      shaped : IsShaped p g
-      shaped = record {
-        method = m;
-        there = st.there;
-        code = c;
-        here = here;
-        stands = raised;
-        locals = st.locals;
-        params = st.params;
-        this = st.this;
-        thrown = λ e. cc;
-        flies = λ e. (o, refl);
-      }
+    -- a local gets a value
+    pub gets_moves : FitsMethod p form.method → (to : ℕ) (value : Value) → Next form.code f.index (f.index + 1) → AssignsTo form.code to
+        → to < length form.method.locals
+        → (Held : Slot → ℕ → Type 0) → Keeps (gets to value point).top Held
+        → ((x : ℕ) → value ≡ Object x → IsNode p (node_of (gets to value point).top (Local to)) → Held (Local to) x)
+        → Moves (gets to value point).top Held
+    gets_moves fits to value next only below Held keeps anew =
+        goes_on fits (f.index + 1) (slice_set f.locals to (Some value)) next (length-set f.locals to (Some value) ∙ form.locals) Held keeps
+        (λ y. elim (other_local f.locals to y (Some value)) [ inl same ↦ inl same | inr set ↦ inr (only ∙ ap Some (sym set)) ])
+        (λ y x e node. elim (set_local f.locals to y value (Object x) (subst (λ n. to < n) (sym form.locals) below) e) [
+          | inl set ↦
+              let at_to = subst (λ (y : ℕ). IsNode p (node_of (gets to value point).top (Local y))) set.0 node in
+              inr (subst (λ (y : ℕ). Held (Local y) x) (sym set.0) (anew x set.1 at_to))
+          | inr kept ↦ inl (kept.1, λ a. kept.0 (same_Some y to (sym a ∙ only)))
+        ])
 
-      each : (from : Slot) (x : ℕ) → slot_of g from ≡ Some (Object x)
-          → ((slot_of (standing point.top) from ≡ Some (Object x))
-          × FlowsIn m c point.top.index false (var_of from) point.top.index true (var_of from))
-          ⊎ (Demand p q (node_of g from) → IsReached p q (sites_of point.heap) (node_of g from) string x)
-      each (Local y) x e = inl (e, (refl, inl (tt, refl)))
-      each This x e = inl (e, (refl, inl (tt, refl)))
-      each (Param i) x e = inl (e, (refl, inl (tt, refl)))
-      each Caught x e = inl (e, (refl, inl (tt, refl)))
-      each Thrown x e = let same : o ≡ x = cc in inr (subst (λ o. Demand p q (node_of g Thrown) → IsReached p q (sites_of point.heap) (node_of g Thrown) string o) same reached)
+    -- an object is in flight at the statement
+    pub throws_moves : (o : ℕ) → IsRaised form.code → (Held : Slot → ℕ → Type 0) → Keeps (throws o point).top Held
+        → (IsNode p (node_of (throws o point).top Thrown) → Held Thrown o)
+        → Moves (throws o point).top Held
+    throws_moves o raised Held keeps anew =
+        record { shaped = shaped; method = refl; this = refl; params = refl; locals = λ y. inl refl; slots = slots }
+      where
+        g : Frame
+        g = (throws o point).top
+
+        shaped : IsShaped p g
+        shaped = record {
+          method = form.method;
+          there = form.there;
+          code = form.code;
+          here = form.here;
+          stands = raised;
+          locals = form.locals;
+          params = form.params;
+          this = form.this;
+          thrown = λ e. cc;
+          flies = λ e. (o, refl);
+        }
+
+        same : (to : Slot) (x : ℕ) → slot_of f to ≡ Some (Object x) → slot_of g to ≡ Some (Object x)
+            → FlowsIn form.method form.code f.index false (var_of to) f.index true (var_of to) → Held to x
+        same to x e e_too flows = keeps to x e
+            (edge (var_of to) (has_node p f form to (Object x) e) g refl false true unraised refl to (has_node p g shaped to (Object x) e_too) flows)
+
+        slots : (to : Slot) (x : ℕ) → slot_of g to ≡ Some (Object x) → Held to x
+        slots (Local y) x e = same (Local y) x e e (refl, inl (tt, refl))
+        slots This x e = same This x e e (refl, inl (tt, refl))
+        slots (Param i) x e = same (Param i) x e e (refl, inl (tt, refl))
+        slots Caught x e = same Caught x e e (refl, inl (tt, refl))
+        slots Thrown x e = let is : o ≡ x = cc (e) in subst (Held Thrown) is (anew (has_node p g shaped Thrown (Object o) refl))

@@ -2,12 +2,15 @@
 use Rattle.std.proofs.Common.{◌≡◌, ℕ, ◌<◌, Option, Some, None, Bool, true, false, is_some, length, slice_get, refl, sym, ap, ◌∙◌, subst}
 use Rattle.lists.proofs.Places.{slice_get-below, slice_get-there}
 use Rattle.link_rules.specs.declared.code.Code.{Code}
+use Rattle.link_rules.specs.declared.code.Code.TheVariants as code
 use Rattle.link_rules.specs.Flow.{Next}
 use Rattle.link_rules.specs.Linked.{LinkedMethod, LinkedProgram}
-use Rattle.link_rules.specs.WellLinked.{FitsMethod}
-use Rattle.link_sites.specs.Places.{before}
+use Rattle.link_rules.specs.WellLinked.{FitsCode, IsWellLinked}
+use Rattle.link_laws.proofs.Lists.{at_all}
+use Rattle.link_sites.specs.Places.{CodeAt}
+use Rattle.spds_rules.specs.declared.node.Node.{Node}
 use Rattle.spds_rules.specs.declared.node.Var.{Var}
-use Rattle.spds_rules.specs.declared.node.Var.TheVariants as var
+use Rattle.spds_rules.specs.Edges.{LoadsStatic}
 use Rattle.spds_rules.specs.Nodes.{HasVar, IsNode, MayStand, at}
 use Rattle.step_rules.specs.declared.parts.Slot.{Slot}
 use Rattle.step_rules.specs.declared.parts.Slot.TheVariants.{Local, This, Param, Caught, Thrown}
@@ -15,7 +18,9 @@ use Rattle.step_rules.specs.declared.parts.Value.{Value}
 use Rattle.step_rules.specs.Slots.{if_set, local_of, slot_of}
 use Rattle.step_rules.specs.States.{Frame}
 use Rattle.run_sound.specs.Frames.{node_of, var_of}
+use Rattle.run_sound.specs.Simulated.{IsLoadedFrom}
 use Rattle.run_sound.proofs.Invariant.{IsShaped}
+use Rattle.run_sound.proofs.Standing.{method_fits}
 
 -- a local that is set is one of the frame's
 pub local_below : (f : Frame) (x : ℕ) (value : Value) → local_of f x ≡ Some value → x < length f.locals
@@ -58,10 +63,26 @@ pub node_at : (p : LinkedProgram) (number index : ℕ) (raised : Bool) (m : Link
 node_at p number index raised m c there here stands v has =
     record { method = m; there = there; code = c; here = here; stands = stands; has = has }
 
--- so has a local at the next statement
-pub node_next : (p : LinkedProgram) (number t next : ℕ) (m : LinkedMethod) (c : Code) → slice_get p.methods number ≡ Some m → FitsMethod p m
-    → slice_get m.code t ≡ Some c → Next c t next → (x : ℕ) → x < length m.locals
-    → IsNode p (at (before number next) (var.Local x))
-node_next p number t next m c there fits here goes x below =
-    let code = slice_get-there m.code next (fits.stays t next c here goes) in
-    node_at p number next false m code.0 there code.1 tt (var.Local x) below
+module _ (p : LinkedProgram) (well : IsWellLinked p) where
+  -- where a static field is loaded into there is a node
+  loaded_by : (field : ℕ) (n : Node) (load : ℕ) (c : Code) → CodeAt p n.place.method load c → LoadsStatic c field n.var → Next c load n.place.index
+      → n.place.raised ≡ false
+      → IsNode p n
+  loaded_by field n load (code.LoadStatic to f) code_at loads next unraised =
+      let m = code_at.method in
+      let fits = method_fits p well n.place.method m code_at.there in
+      let fits_code = at_all (FitsCode p m) m.code load (code.LoadStatic to f) fits.codes code_at.here in
+      let next_code = slice_get-there m.code n.place.index (fits.stays load n.place.index (code.LoadStatic to f) code_at.here next) in
+      record {
+        method = m;
+        there = code_at.there;
+        code = next_code.0;
+        here = next_code.1;
+        stands = subst (λ (r : Bool). MayStand next_code.0 r) (sym unraised) tt;
+        has = subst (λ (v : Var). HasVar m next_code.0 n.place.raised v) (sym loads.1) fits_code.0;
+      }
+  loaded_by field n load other code_at loads next unraised = elim loads [ ]
+
+  -- so the node of a local that a static field is loaded into is one
+  pub loaded_node : (field : ℕ) (n : Node) → IsLoadedFrom p field n → IsNode p n
+  loaded_node field n from = loaded_by field n from.load from.loads.code from.loads.at from.loads.is_so.0 from.loads.is_so.1 from.unraised

@@ -1,125 +1,181 @@
--- A return keeps what is known.
-use Rattle.std.proofs.Common.{◌≡◌, ℕ, ◌+◌, ◌<◌, Option, Some, None, IfSome, false, List, length, slice_get, refl, sym, ap, ◌∙◌, subst, inl, inr}
+-- A method is left, by a return or with an exception: the run ends, or the frame below goes on.
+use Rattle.std.proofs.Common.{◌≡◌, ℕ, ◌+◌, ◌<◌, ◌⊎◌, ◌++◌, Option, Some, None, IfSome, Bool, true, false, List, [], ◌∷◌, length, refl, sym, ap, ◌∙◌, subst, inl, inr}
 use Rattle.link_rules.specs.declared.code.Code.{Code}
 use Rattle.link_rules.specs.declared.code.Code.TheVariants as code
-use Rattle.link_rules.specs.Linked.{LinkedMethod, LinkedProgram}
-use Rattle.link_rules.specs.WellLinked.{FitsCode, IsLocalOf, IsWellLinked}
+use Rattle.link_rules.specs.Flow.{IsRaised, IsReturn, Next}
+use Rattle.link_rules.specs.Linked.{LinkedProgram}
+use Rattle.link_rules.specs.WellLinked.{FitsCode, FitsMethod, HasTarget, IsLocalOf, IsWellLinked}
 use Rattle.link_laws.proofs.Lists.{at_all}
-use Rattle.link_sites.specs.declared.place.Place.{Place}
-use Rattle.link_sites.specs.Places.{CodeAt, before}
-use Rattle.spds_rules.specs.declared.edge.EdgeKind.TheVariants.{Return}
-use Rattle.spds_rules.specs.declared.node.Node.{Node}
-use Rattle.spds_rules.specs.declared.node.Var.TheVariants.{Local}
-use Rattle.spds_rules.specs.Demand.{Asked, Demand}
+use Rattle.link_sites.specs.Places.{CodeAt, HasCode, before, in_flight}
+use Rattle.spds_rules.specs.declared.edge.EdgeKind.TheVariants as edge_kind
+use Rattle.spds_rules.specs.declared.node.Var.{Var}
+use Rattle.spds_rules.specs.declared.node.Var.TheVariants as var
+use Rattle.spds_rules.specs.declared.reach.Reach.{Reach}
 use Rattle.spds_rules.specs.Edges.{IsEdge}
-use Rattle.spds_rules.specs.Nodes.{at}
+use Rattle.spds_rules.specs.Formals.{assigned}
+use Rattle.spds_rules.specs.Nodes.{IsNode}
+use Rattle.step_rules.specs.declared.parts.Slot.{Slot}
+use Rattle.step_rules.specs.declared.parts.Slot.TheVariants.{Local, Thrown}
 use Rattle.step_rules.specs.declared.parts.Value.{Value}
 use Rattle.step_rules.specs.declared.parts.Value.TheVariants.{Object}
-use Rattle.step_rules.specs.States.{Frame, Point, State, ended, gets, goes_on, ill_typed, state_of, under}
-use Rattle.step_rules.specs.Steps.{Receives, ReceivesAt, Returns}
-use Rattle.run_sound.proofs.Callers.{as_standing, call_here, caller_stands}
-use Rattle.run_sound.proofs.Edges.{along_return}
-use Rattle.run_sound.proofs.Effects.{IsGiven, kept_stopped}
-use Rattle.run_sound.proofs.Invariant.{IsKept, IsReached, sites_of}
-use Rattle.run_sound.proofs.Moves.{kept_gets, kept_goes}
-use Rattle.run_sound.proofs.Nodes.{node_at, node_next}
-use Rattle.run_sound.proofs.Standing.{IsStanding, StandsBefore, place_at, unraised}
-use Rattle.run_sound.proofs.Waiting.{HasCaller, caller_of}
+use Rattle.step_rules.specs.Slots.{slot_of}
+use Rattle.step_rules.specs.States.{Ending, Frame, Point, State, ended, gets, goes_on, ill_typed, place_of, state_of, stopped, throws, uncaught, under}
+use Rattle.step_rules.specs.Steps.{Leaves, Receives, ReceivesAt, Returns}
+use Rattle.run_sound.specs.Frames.{node_of}
+use Rattle.run_sound.proofs.Explained.{CanReturn, Stands, by_slot, node_in}
+use Rattle.run_sound.proofs.Invariant.{IsShaped}
+use Rattle.run_sound.proofs.Moves.{Moves, code_at, gets_moves, goes_moves, same_code, throws_moves, var_node}
+use Rattle.run_sound.proofs.Nodes.{has_node}
+use Rattle.run_sound.proofs.Standing.{method_fits}
 
-module _ (p : LinkedProgram) (q : Asked) (well : IsWellLinked p) (point : Point) (m : LinkedMethod) (string : List Place)
-    (st : IsStanding p q point m string) (c : Code) (here : StandsBefore point m c) (value : Option Value)
-    (gives : (x : ℕ) → value ≡ Some (Object x) → IsGiven p q point m c string x) where
-  module _ (below : List Frame) (caller : Frame) (has : HasCaller p q (sites_of point.heap) below caller point.top.method string) where
-    -- the caller, and the call at which it waits
+-- the frame waits, unraised, at a call that has the method of the one above it among its targets
+pub record IsCaller (p : LinkedProgram) (caller above : Frame) : Type 0 where
+  pub form : IsShaped p caller
+  pub unraised : caller.raised ≡ false
+  pub target : HasTarget p caller.method caller.index above.method
+
+module _ (p : LinkedProgram) (reach : Reach) (point : Point) where
+  abbrev f : Frame
+  f = point.top
+
+  -- of an object that a slot of the caller holds, which goes on as g: it was there, or the top frame gave it back
+  abbrev pub Back : Frame → Frame → Slot → ℕ → Type 0
+  Back caller g to x = ((slot_of caller to ≡ Some (Object x)) × IsEdge p reach (node_of caller to) edge_kind.Flow (node_of g to))
+      ⊎ ((v : Var) × Stands p f x v × IsEdge p reach (node_in f v) (edge_kind.Return (place_of caller)) (node_of g to))
+
+  -- the caller goes on as g, just behind the call, or with an exception in flight there
+  pub record ComesBack (new : State) : Type 0 where
+    pub below : List Frame
+    pub caller : Frame
+    pub is_under : point.below ≡ below ++ caller ∷ []
+    pub its : IsCaller p caller f
+    pub g : Frame
+    pub becomes : new ≡ state_of (under below g point)
+    pub way : ((f.raised ≡ false) × HasCode p f.method f.index IsReturn × (place_of g ≡ before caller.method (caller.index + 1)))
+        ⊎ ((f.raised ≡ true) × (place_of g ≡ in_flight caller.method caller.index))
+    pub moves : Moves p reach (under below caller point) its.form g (Back caller g)
+
+  -- what the state is after it
+  abbrev pub Left : State → Type 0
+  Left new = ((how : Ending) × (new ≡ stopped how point)) ⊎ ComesBack new
+
+  module _ (well : IsWellLinked p) (form : IsShaped p f) (new : State) (below : List Frame) (caller : Frame) (is_under : point.below ≡ below ++ caller ∷ [])
+      (its : IsCaller p caller f) where
     abbrev outer : Point
     outer = under below caller point
 
-    abbrev its : LinkedMethod
-    its = has.tracked.shaped.method
-
-    -- what is known of the caller
-    stands : IsStanding p q outer its has.outer
-    stands = caller_stands p q well below caller point.top.method string point st.memory has
-
-    abbrev call : Code
-    call = code.Call has.target.to has.target.mode has.target.class has.target.key has.target.receiver has.target.args has.target.targets
+    abbrev target : HasTarget p caller.method caller.index f.method
+    target = its.target
 
     -- it stands at the call
-    at_call : StandsBefore outer its call
-    at_call = call_here p q well below caller point.top.method string point st.memory has
+    at_call : its.form.code ≡ code.Call target.to target.mode target.class target.key target.receiver target.args target.targets
+    at_call = same_code p caller its.form _ (record { method = target.method; there = target.there; here = target.call })
 
-    -- the local that takes the result is one of the caller's
-    local_fits : (to : ℕ) → has.target.to ≡ Some to → to < length its.locals
+    fits : FitsMethod p its.form.method
+    fits = method_fits p well caller.method its.form.method its.form.there
+
+    -- behind which it goes on
+    next : Next its.form.code caller.index (caller.index + 1)
+    next = subst (λ (c : Code). Next c caller.index (caller.index + 1)) (sym at_call) refl
+
+    -- with the local that takes the result
+    takes : assigned its.form.code ≡ target.to
+    takes = ap assigned at_call
+
+    local_fits : (to : ℕ) → target.to ≡ Some to → to < length its.form.method.locals
     local_fits to is =
-        let fits = at_all (FitsCode p its) its.code caller.index call stands.fits.codes at_call in
-        subst (λ (o : Option ℕ). IfSome o (IsLocalOf its)) is fits.0
+        let fit = at_all (FitsCode p its.form.method) its.form.method.code caller.index its.form.code fits.codes its.form.here in
+        let at : FitsCode p its.form.method (code.Call target.to target.mode target.class target.key target.receiver target.args target.targets) = subst (FitsCode p its.form.method) at_call fit in
+        subst (λ (o : Option ℕ). IfSome o (IsLocalOf its.form.method)) is at.0
 
-    -- and what is returned comes to it
-    comes : (to : ℕ) → has.target.to ≡ Some to → (x : ℕ) → value ≡ Some (Object x)
-        → Demand p q (at (before caller.method (caller.index + 1)) (Local to))
-        → IsReached p q (sites_of point.heap) (at (before caller.method (caller.index + 1)) (Local to)) has.outer x
-    comes to is x e demanded =
-        along_return p q (sites_of point.heap) from goal (before caller.method caller.index) has.outer x edge demanded
-        (λ d. subst (λ s. IsReached p q (sites_of point.heap) from s x) has.is (given.comes d))
-      where
-        given : IsGiven p q point m c string x
-        given = gives x e
+    -- ---- a return
 
-        from : Node
-        from = at (place_at point) given.var
+    module _ (unraised : f.raised ≡ false) (value : Option Value) (can : CanReturn p point form.method form.code value) where
+      behind : (g : Frame) → place_of g ≡ place_of (goes_on outer).top → place_of g ≡ before caller.method (caller.index + 1)
+      behind g same = same ∙ ap (λ (r : Bool). record { method = caller.method; index = caller.index + 1; raised = r }) its.unraised
 
-        goal : Node
-        goal = at (before caller.method (caller.index + 1)) (Local to)
+      -- the result's edge
+      result : (to : ℕ) (v : Value) (x : ℕ) → target.to ≡ Some to → value ≡ Some (Object x) → IsNode p (node_of (gets to v outer).top (Local to))
+          → (w : Var) × Stands p f x w × IsEdge p reach (node_in f w) (edge_kind.Return (place_of caller)) (node_of (gets to v outer).top (Local to))
+      result to v x is given node =
+          let by = can.from x given in (
+            by.var,
+            by.stands,
+            record {
+              from = var_node p reach point form unraised by.var by.has;
+              to = node;
+              row = inl (record {
+                unraised = its.unraised;
+                target = target;
+                gives = inl (record {
+                  returned = record { code = form.code; at = code_at p reach point form; is_so = by.fact };
+                  unraised = unraised;
+                  goes_on = behind (gets to v outer).top refl;
+                  local = to;
+                  taken = is;
+                  is_local = refl;
+                });
+              });
+            },
+          )
 
-        edge : IsEdge p q.reach from (Return (before caller.method caller.index)) goal
-        edge = record {
-          from = node_at p point.top.method point.top.index false m c st.there here tt given.var given.has;
-          to = node_next p caller.method caller.index (caller.index + 1) its call stands.there stands.fits at_call refl to (local_fits to is);
-          row = inl (record {
-            unraised = refl;
-            target = has.target;
-            gives = inl (record {
-              returned = record { code = c; at = record { method = m; there = st.there; here = here }; is_so = given.returns };
-              unraised = refl;
-              goes_on = refl;
-              local = to;
-              taken = is;
-              is_local = refl;
-            });
-          });
-        }
+      back : (g : Frame) → new ≡ state_of (under below g point) → place_of g ≡ place_of (goes_on outer).top
+          → Moves p reach outer its.form g (Back caller g)
+          → Left new
+      back g becomes same moves = inr (record {
+        below = below;
+        caller = caller;
+        is_under = is_under;
+        its = its;
+        g = g;
+        becomes = becomes;
+        way = inl (unraised, record { code = form.code; at = code_at p reach point form; is_so = can.is_return }, behind g same);
+        moves = moves;
+      })
 
-    -- the caller takes the value
-    kept_receives : (to : Option ℕ) (given : Option Value) (new : State) → has.target.to ≡ to → value ≡ given → Receives to given outer new → IsKept p q new
-    kept_receives None given new is same becomes =
-        let kept = kept_goes p q outer its has.outer stands call at_call (caller.index + 1) refl is in
-        let is_state : state_of (goes_on outer) ≡ state_of (goes_on (unraised outer)) = ap (λ (f : Frame). state_of (goes_on (under below f point))) (as_standing caller has.unraised) in
-        subst (IsKept p q) (sym (becomes ∙ is_state)) kept
-    kept_receives (Some to) (Some v) new is same becomes =
-        let kept = kept_gets p q outer its has.outer stands call at_call to v refl is (local_fits to is) (λ x e. comes to is x (same ∙ ap Some e)) in
-        let is_state : state_of (gets to v outer) ≡ state_of (gets to v (unraised outer)) = ap (λ (f : Frame). state_of (gets to v (under below f point))) (as_standing caller has.unraised) in
-        subst (IsKept p q) (sym (becomes ∙ is_state)) kept
-    kept_receives (Some to) None new is same becomes = subst (IsKept p q) (sym becomes) (kept_stopped p q outer ill_typed st.memory)
+      receives : (to : Option ℕ) (given : Option Value) → target.to ≡ to → value ≡ given → Receives to given outer new → Left new
+      receives None given is same becomes = back (goes_on outer).top becomes refl
+          (goes_moves p reach outer its.form its.unraised fits (caller.index + 1) next (takes ∙ is) _ (λ to x e edge. inl (e, edge)))
+      receives (Some to) (Some v) is same becomes = back (gets to v outer).top becomes refl
+          (gets_moves p reach outer its.form its.unraised fits to v next (takes ∙ is) (local_fits to is) _ (λ to x e edge. inl (e, edge))
+          (λ x of node. inr (result to v x is (same ∙ ap Some of) node)))
+      receives (Some to) None is same becomes = inl (ill_typed, becomes)
 
-    -- at its call
-    kept_receives_at : (standing_at : Code) → CodeAt p caller.method caller.index standing_at → (new : State) → ReceivesAt standing_at value outer new → IsKept p q new
-    kept_receives_at (code.Call to mode class key receiver args targets) code_at new becomes =
-        let one = stands.there in
-        let two = code_at.there in
-        let same_method : its ≡ code_at.method = cc in
-        let here_too : slice_get its.code caller.index ≡ Some (code.Call to mode class key receiver args targets) = subst (λ (m : LinkedMethod). slice_get m.code caller.index ≡ Some (code.Call to mode class key receiver args targets)) (sym same_method) code_at.here in
-        let here_now = at_call in
-        let same : has.target.to ≡ to = cc in
-        kept_receives to value new same refl becomes
-    kept_receives_at other code_at new becomes = elim becomes [ ]
+      receives_at : (c : Code) → CodeAt p caller.method caller.index c → ReceivesAt c value outer new → Left new
+      receives_at (code.Call to mode class key receiver args targets) is_at becomes =
+          let same = same_code p caller its.form _ is_at in
+          receives to value (sym takes ∙ ap assigned same) refl becomes
+      receives_at _ is_at becomes = absurd becomes
 
-  -- the root's return ends the run, and that of another method goes on at its caller
-  pub kept_returns : (new : State) → Returns p (unraised point) value new → IsKept p q new
-  kept_returns new becomes = elim becomes [
-    | inl root ↦ subst (IsKept p q) (sym root.1) (kept_stopped p q point ended st.memory)
-    | inr called ↦
-        let below = called.0 in
-        let caller = called.1 in
-        let has = caller_of p q (sites_of point.heap) st.waits below caller called.2 in
-        kept_receives_at below caller has called.3.code called.3.at new called.3.is_so
-  ]
+    -- ---- an exception
+
+    escapes : f.raised ≡ true → (o : ℕ) → f.thrown ≡ Some (Object o) → new ≡ state_of (throws o outer) → Left new
+    escapes raised o thrown becomes = inr (record {
+      below = below;
+      caller = caller;
+      is_under = is_under;
+      its = its;
+      g = (throws o outer).top;
+      becomes = becomes;
+      way = inr (raised, refl);
+      moves = throws_moves p reach outer its.form its.unraised o (subst IsRaised (sym at_call) tt) _ (λ to x e edge. inl (e, edge)) (λ node. inr (
+        var.Thrown,
+        by_slot Thrown thrown,
+        record {
+          from = has_node p f form Thrown (Object o) thrown;
+          to = node;
+          row = inl (record { unraised = its.unraised; target = target; gives = inr (record { raised = raised; at_call = refl; thrown = (refl, refl) }) });
+        },
+      ));
+    })
+
+  module _ (well : IsWellLinked p) (form : IsShaped p f) (callers : (below : List Frame) (caller : Frame) → point.below ≡ below ++ caller ∷ [] → IsCaller p caller f)
+      (new : State) where
+    pub returns : f.raised ≡ false → (value : Option Value) → CanReturn p point form.method form.code value → Returns p point value new → Left new
+    returns unraised value can (inl root) = inl (ended, root.1)
+    returns unraised value can (inr called) = receives_at well form new called.0 called.1 called.2 (callers called.0 called.1 called.2) unraised value can
+        called.3.code called.3.at called.3.is_so
+
+    pub leaves : f.raised ≡ true → (o : ℕ) → f.thrown ≡ Some (Object o) → Leaves point o new → Left new
+    leaves raised o thrown (inl root) = inl (uncaught o, root.1)
+    leaves raised o thrown (inr called) = escapes well form new called.0 called.1 called.2 (callers called.0 called.1 called.2) raised o thrown called.3
