@@ -33,10 +33,10 @@ use Rattle.run_sound.proofs.Invariant.{IsKeptAt, IsShaped}
 use Rattle.run_sound.proofs.Keeping.{callers}
 use Rattle.run_sound.proofs.Lists.{slice_get-slice_set}
 use Rattle.run_sound.proofs.Machine.{going_on}
-use Rattle.run_sound.proofs.Moves.{Moves, code_at, same_code, var_node}
+use Rattle.run_sound.proofs.Moves.{Moves, code_so, same_code, var_node}
 use Rattle.run_sound.proofs.Returning.{Left, leaves, returns}
 use Rattle.run_sound.proofs.Simulating.{kept_run}
-use Rattle.run_sound.proofs.Standing.{method_fits}
+use Rattle.run_sound.proofs.Standing.{form_fits}
 use Rattle.run_sound.proofs.Table.{explained}
 use Rattle.run_origins.specs.Origins.{CallsOnNull, CameFrom, GoesOnAs, HasOrigins, IsStoredStatic, IsWithin, KeepsObjects, Origins, TakesBy}
 use Rattle.run_origins.specs.Origins as origins
@@ -93,7 +93,7 @@ goes_on_as p reach at form g Held moves = record {
   params = moves.params;
   locals = λ x. elim (moves.locals x) [
     | inl same ↦ inl same
-    | inr set ↦ inr (set.0, record { code = form.code; at = code_at p reach at form; is_so = set.1 })
+    | inr set ↦ inr (set.0, code_so p at.top form _ set.1)
   ];
 }
 
@@ -105,7 +105,7 @@ module _ (p : LinkedProgram) (q : Asked) (well : IsWellLinked p) (at : Point) (k
   form = kept.frames.tracked.shaped
 
   fits : FitsMethod p form.method
-  fits = method_fits p well at.top.method form.method form.there
+  fits = form_fits p well at.top form
 
   abbrev IsNoCall : Effect → Type 0
   IsNoCall e = (frame : Frame) → e ≡ calls frame → ⊥
@@ -192,22 +192,25 @@ module _ (p : LinkedProgram) (q : Asked) (well : IsWellLinked p) (at : Point) (k
         → new.statics ≡ slice_set at.statics field value → KeepsObjects p at new
     set_kept field value can new heap statics = record {
       objects = subst (Keeps at.heap) (sym heap) (same_heap at.heap);
-      statics = λ to x e. elim (slice_get-slice_set at.statics field to value (Object x) (subst (λ (vs : List Value). slice_get vs to ≡ Some (Object x)) statics e)) [
-        | inl set ↦
-            let from = can.from x (sym set.1) in
-            inr (subst (IsStoredStatic p) (sym set.0) (record {
-              n = node_in at.top from.var;
-              node = var_node p reach at form unraised from.var from.has;
-              unraised = unraised;
-              stores = record { code = form.code; at = code_at p reach at form; is_so = from.fact };
-            }))
-        | inr old ↦ inl old
-      ];
+      statics = λ to x e.
+          let there = subst (λ (vs : List Value). slice_get vs to ≡ Some (Object x)) statics e in
+          elim (slice_get-slice_set at.statics field to value (Object x) there) [
+            | inl set ↦
+                let from = can.from x (sym set.1) in
+                inr (subst (IsStoredStatic p) (sym set.0) (record {
+                  n = node_in at.top from.var;
+                  node = var_node p reach at form unraised from.var from.has;
+                  unraised = unraised;
+                  stores = code_so p at.top form _ from.fact;
+                }))
+            | inr old ↦ inl old
+          ];
     }
 
     by_effect : (e : Effect) → IsExplained p at form.method form.code e → ((g : Frame) → e ≡ calls g → HasTarget p at.top.method at.top.index g.method)
         → (new : State) → Becomes p at e new → Both e new
-    by_effect effect.is_ill_typed j target new b = subst (Both effect.is_ill_typed) (sym b) (origins.ends refl (λ f e. cc (e)), keeps _ (same_heap at.heap) refl)
+    by_effect effect.is_ill_typed j target new b =
+        subst (Both effect.is_ill_typed) (sym b) (origins.ends refl (λ f e. cc (e)), keeps _ (same_heap at.heap) refl)
     by_effect (effect.raises kind) j target new b = subst (Both (effect.raises kind)) (sym b.2) (
       goes (effect.raises kind) _ _ refl (stays_raises p reach at form fits unraised kind b.0 j.0) (λ f e. cc (e))
           (λ r. raised_taken form.code at.top _ kind j.0) (λ r is_call. (on_null at.top form.code j.1 is_call, refl)),

@@ -87,7 +87,8 @@ module _ (p : LinkedProgram) (well : IsWellLinked p) (point : Point) (m : Linked
       let one = target.there in
       let two = there in
       let same : target.method ≡ m = cc in
-      let call_there = subst (λ (m : LinkedMethod). slice_get m.code point.top.index ≡ Some (code.Call target.to target.mode target.class target.key target.receiver target.args target.targets)) same target.call in
+      let its = code.Call target.to target.mode target.class target.key target.receiver target.args target.targets in
+      let call_there : slice_get m.code point.top.index ≡ Some its = subst (λ (m : LinkedMethod). slice_get m.code point.top.index ≡ Some its) same target.call in
       let is = here in
       let first : target.receiver ≡ receiver = cc in
       let second : target.args ≡ args = cc in
@@ -173,7 +174,8 @@ module _ (p : LinkedProgram) (well : IsWellLinked p) (point : Point) (m : Linked
           from = from;
           passed = passed;
         } in
-        subst (λ (r : Option ℕ). CanEnter p point m call g r target.args) (sym same.0) (subst (λ (given : List Arg). CanEnter p point m call g receiver given) (sym same.1) can)
+        subst (λ (r : Option ℕ). CanEnter p point m call g r target.args) (sym same.0)
+        (subst (λ (given : List Arg). CanEnter p point m call g receiver given) (sym same.1) can)
 
   -- a method that is looked up is entered
   enters : (from : ℕ) (this : Option Value) (values : List Value) (offered : List Effect) → IsReceiver this → AreOperands p point.top args values

@@ -28,7 +28,7 @@ use Rattle.run_sound.specs.Frames.{node_of, var_of}
 use Rattle.run_sound.specs.Simulated.{IsLoadedFrom}
 use Rattle.run_sound.proofs.Explained.{CanEnter, CanGet, CanGo, CanMake, CanNest, CanThrow, GetsFrom, Sets, Stands, assigned, by_slot, loaded as by_load, node_in, static as by_static}
 use Rattle.run_sound.proofs.Invariant.{IsShaped}
-use Rattle.run_sound.proofs.Moves.{Moves, code_at, edge, gets_moves, goes_moves, throws_moves, var_node}
+use Rattle.run_sound.proofs.Moves.{Moves, code_so, edge, gets_moves, goes_moves, throws_moves, var_node}
 use Rattle.run_sound.proofs.Nodes.{has_node}
 use Rattle.run_sound.proofs.Words.{WasWritten}
 
@@ -82,7 +82,7 @@ module _ (p : LinkedProgram) (reach : Reach) (point : Point) (form : IsShaped p 
     load_edge base field o to value holds loads next node = record {
       from = has_node p f form (Local base) (Object o) holds;
       to = node;
-      row = record { same = refl; unraised = (unraised, unraised); loads = record { code = form.code; at = code_at p reach point form; is_so = (loads, next) } };
+      row = record { same = refl; unraised = (unraised, unraised); loads = code_so p f form _ (loads, next) };
     }
 
     -- a local gets a value
@@ -92,7 +92,7 @@ module _ (p : LinkedProgram) (reach : Reach) (point : Point) (form : IsShaped p 
     got to x value next (by_load base field o object holds there written loads) node =
         loaded {base = base} {field = field} {o = o} {object = object} holds there written (load_edge base field o to value holds loads next node)
     got to x value next (by_static field is loads) node = static {field = field} is
-        (record { load = f.index; unraised = unraised; loads = record { code = form.code; at = code_at p reach point form; is_so = (loads, next) } })
+        (record { load = f.index; unraised = unraised; loads = code_so p f form _ (loads, next) })
 
     sets_stay : (heap : List HeapObject) (to : ℕ) (value : Value) → Sets p point form.method form.code to
         → ((x : ℕ) → value ≡ Object x → IsNode p (node_of (gets to value point).top (Local to))
@@ -207,8 +207,8 @@ module _ (p : LinkedProgram) (reach : Reach) (point : Point) (form : IsShaped p 
       along : (from to : Slot) (x : ℕ) → slot_of f from ≡ Some (Object x) → slot_of g to ≡ Some (Object x)
           → FlowsIn form.method form.code f.index true (var_of from) handler false (var_of to)
           → Came p reach point point.heap (node_of g to) x
-      along from to x e e_too flows = flowed (by_slot from e)
-          (edge p reach point form (var_of from) (has_node p f form from (Object x) e) g refl true false raised refl to (has_node p g shaped to (Object x) e_too) flows)
+      along from to x e e_too flows = flowed (by_slot from e) (edge p reach point form (var_of from) (has_node p f form from (Object x) e) g refl
+          true false raised refl to (has_node p g shaped to (Object x) e_too) flows)
 
       slots : (to : Slot) (x : ℕ) → slot_of g to ≡ Some (Object x) → Came p reach point point.heap (node_of g to) x
       slots (Local y) x e = along (Local y) (Local y) x e e (handles, refl)

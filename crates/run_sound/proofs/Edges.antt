@@ -30,13 +30,15 @@ module _ (p : LinkedProgram) (q : Asked) (sites : List Site) where
   pub along_call : (a b : Node) (call : Place) (string : List Place) (x : ℕ) → IsEdge p q.reach a (Call call) b → Demand p q b
       → (Demand p q a → IsReached p q sites a string x)
       → IsReached p q sites b (call ∷ string) x
-  along_call a b call string x edge demanded from = along a b (Call call) string (call ∷ string) x edge demanded tt (λ o c. InCalls.push (edge, demanded) c) from
+  along_call a b call string x edge demanded from =
+      along a b (Call call) string (call ∷ string) x edge demanded tt (λ o c. InCalls.push (edge, demanded) c) from
 
   -- back from a call
   pub along_return : (a b : Node) (call : Place) (string : List Place) (x : ℕ) → IsEdge p q.reach a (Return call) b → Demand p q b
       → (Demand p q a → IsReached p q sites a (call ∷ string) x)
       → IsReached p q sites b string x
-  along_return a b call string x edge demanded from = along a b (Return call) (call ∷ string) string x edge demanded tt (λ o c. InCalls.pop (edge, demanded) c) from
+  along_return a b call string x edge demanded from =
+      along a b (Return call) (call ∷ string) string x edge demanded tt (λ o c. InCalls.pop (edge, demanded) c) from
 
   -- through a static field, where the string is forgotten
   pub along_jump : (a b : Node) (old string : List Place) (x : ℕ) → IsEdge p q.reach a Jump b → Demand p q b → (Demand p q a → IsReached p q sites a old x)

@@ -9,7 +9,7 @@ use Rattle.spds_rules.specs.declared.node.Node.{Node}
 use Rattle.spds_rules.specs.Demand.{Asked}
 use Rattle.step_rules.specs.declared.parts.Value.{Value}
 use Rattle.step_rules.specs.States.{Frame, HeapObject}
-use Rattle.run_sound.proofs.Invariant.{AreFrames, AreSlots, AreStatics, HasConstants, IsObject, IsReached, IsStored, IsTracked, Waits, more, none, sites_of}
+use Rattle.run_sound.proofs.Invariant.{AreSlots, AreStatics, HasConstants, IsObject, IsReached, IsStored, IsTracked, Waits, more, none, sites_of}
 
 -- the objects of the first heap are in the second, with the same sites
 abbrev pub Extends : List Site → List Site → Type 0
@@ -40,10 +40,6 @@ module _ (p : LinkedProgram) (q : Asked) (old new : List Site) (grows : Extends 
   pub waits_more : {below : List Frame} {callee : ℕ} {string : List Place} → Waits p q old below callee string → Waits p q new below callee string
   waits_more (none is_root) = none is_root
   waits_more (more {below} {caller} {string} {callee} waits unraised target tracked) = more (waits_more waits) unraised target (tracked_more caller string tracked)
-
-  -- and all of them
-  pub frames_more : (below : List Frame) (top : Frame) → AreFrames p q old below top → AreFrames p q new below top
-  frames_more below top f = record { string = f.string; waits = waits_more f.waits; tracked = tracked_more top f.string f.tracked }
 
   -- what was stored was stored
   pub stored_more : (base : Site) (field x : ℕ) → IsStored p q old base field x → IsStored p q new base field x

@@ -37,11 +37,11 @@ use Rattle.run_sound.proofs.Growing.{Extends, extends_more, extends_same, reache
 use Rattle.run_sound.proofs.Invariant.{IsKept, IsKeptAt, IsMemory, IsReached, IsShaped, IsStored, Waits, more, sites_of}
 use Rattle.run_sound.proofs.Lists.{map-slice_set}
 use Rattle.run_sound.proofs.Memory.{memory_allocated, memory_set, memory_written}
-use Rattle.run_sound.proofs.Moves.{code_at, var_node}
+use Rattle.run_sound.proofs.Moves.{code_so, var_node}
 use Rattle.run_sound.proofs.Nesting.{inner_class, nested_stored}
 use Rattle.run_sound.proofs.Nodes.{loaded_node}
 use Rattle.run_sound.proofs.Returning.{IsCaller, Left, leaves, returns}
-use Rattle.run_sound.proofs.Standing.{method_fits}
+use Rattle.run_sound.proofs.Standing.{form_fits}
 use Rattle.run_sound.proofs.Waiting.{HasCaller, caller_of, is_string}
 use Rattle.run_sound.proofs.Words.{IsMet, met, site_there}
 
@@ -60,7 +60,7 @@ module _ (p : LinkedProgram) (q : Asked) (well : IsWellLinked p) (point : Point)
   sites = sites_of point.heap
 
   fits : FitsMethod p form.method
-  fits = method_fits p well f.method form.method form.there
+  fits = form_fits p well f form
 
   strings : IsString p f.method string
   strings = is_string p q sites kept.frames.waits
@@ -122,7 +122,8 @@ module _ (p : LinkedProgram) (q : Asked) (well : IsWellLinked p) (point : Point)
         stored = subst (λ f. IsStored p q (sites_of heap) object.site f x) w.2 ((memory.objects o object there).stored w.0 x w.1 w.3)
 
         other : IsMet p q (sites_of heap) object.site stored.store x
-        other = met p q (sites_of heap) object.site field x stored (subst (HasField p object.site) w.2 ((memory.objects o object there).fields w.0 w.1)) field_in
+        other = met p q (sites_of heap) object.site field x stored
+            (subst (HasField p object.site) w.2 ((memory.objects o object there).fields w.0 w.1)) field_in
 
         longer : Fields p q other.site from (stored.store.field ∷ [])
         longer = words_composed p q other.site object.site stored.store other.meets from [] [] reached.0 other.at_arg
@@ -137,7 +138,8 @@ module _ (p : LinkedProgram) (q : Asked) (well : IsWellLinked p) (point : Point)
         refl,
         record {
           string = string;
-          waits = subst (λ (m : ℕ). Waits p q (sites_of heap) point.below m string) (sym stays.method) (waits_more p q sites (sites_of heap) grows kept.frames.waits);
+          waits = subst (λ (m : ℕ). Waits p q (sites_of heap) point.below m string) (sym stays.method)
+              (waits_more p q sites (sites_of heap) grows kept.frames.waits);
           tracked = record { shaped = stays.shaped; slots = λ to x e d. came_reached (node_of g to) x stays.method (stays.slots to x e) d };
         },
       );
@@ -154,13 +156,15 @@ module _ (p : LinkedProgram) (q : Asked) (well : IsWellLinked p) (point : Point)
   kept_same g stays = kept_stays point.heap point.statics (extends_same sites sites refl) kept.memory g stays
 
   -- there is one more object
-  kept_more : (is_site : Site) (class : ℕ) → IsSiteClass p is_site class → (g : Frame) → Stays p q.reach point form fits (point.heap ++ new_object is_site class ∷ []) g
+  kept_more : (is_site : Site) (class : ℕ) → IsSiteClass p is_site class → (g : Frame)
+      → Stays p q.reach point form fits (point.heap ++ new_object is_site class ∷ []) g
       → IsKept p q (record { frames = point.below ++ g ∷ []; heap = point.heap ++ new_object is_site class ∷ []; statics = point.statics; ending = running })
-  kept_more is_site class is g stays = kept_stays (point.heap ++ new_object is_site class ∷ []) point.statics (extends_more point.heap (new_object is_site class))
-      (memory_allocated p q point.heap point.statics kept.memory is_site class is) g stays
+  kept_more is_site class is g stays = kept_stays (point.heap ++ new_object is_site class ∷ []) point.statics
+      (extends_more point.heap (new_object is_site class)) (memory_allocated p q point.heap point.statics kept.memory is_site class is) g stays
 
   -- a method is entered
-  kept_enters : (g : Frame) → f.raised ≡ false → HasTarget p f.method f.index g.method → Enters p q.reach point g → IsKept p q (state_of (states.enters g point))
+  kept_enters : (g : Frame) → f.raised ≡ false → HasTarget p f.method f.index g.method → Enters p q.reach point g
+      → IsKept p q (state_of (states.enters g point))
   kept_enters g unraised target e = record {
     frames = inr (
       point.below ++ f ∷ [],
@@ -220,7 +224,8 @@ module _ (p : LinkedProgram) (q : Asked) (well : IsWellLinked p) (point : Point)
     by_reached Fact x by d = stands_reached by.var x by.stands (var_node p q.reach point form unraised by.var by.has) d
 
     -- a value is written
-    kept_writes : (o field : ℕ) (value : Value) → CanWrite p point form.method form.code o field value → (object : HeapObject) → slice_get point.heap o ≡ Some object
+    kept_writes : (o field : ℕ) (value : Value) → CanWrite p point form.method form.code o field value → (object : HeapObject)
+        → slice_get point.heap o ≡ Some object
         → IsKept p q (state_of (states.goes_on (record point { heap = slice_set point.heap o (written object field value) })))
     kept_writes o field value can object there =
         let same = map-slice_set (λ (h : HeapObject). h.site) point.heap o (written object field value) object there refl in
@@ -241,15 +246,11 @@ module _ (p : LinkedProgram) (q : Asked) (well : IsWellLinked p) (point : Point)
         stored : (x : ℕ) → value ≡ Object x → IsStored p q sites object.site field x
         stored x e = let by = can.from x e in record {
           store = record { place = place_of f; field = field; base = node_in f (var.Local can.base); arg = node_in f by.var };
-          is_store = record {
-            unraised = unraised;
-            base_there = refl;
-            arg_there = refl;
-            stores = record { code = form.code; at = code_at p q.reach point form; is_so = by.fact };
-          };
+          is_store = record { unraised = unraised; base_there = refl; arg_there = refl; stores = code_so p f form _ by.fact };
           is_field = refl;
           string = string;
-          at_base = of_base point.heap point.statics (extends_same sites sites refl) kept.memory can.base o object can.holds (site_there point.heap o object there);
+          at_base = of_base point.heap point.statics (extends_same sites sites refl) kept.memory can.base o object can.holds
+              (site_there point.heap o object there);
           at_arg = by_reached _ x by;
         }
 
@@ -295,8 +296,9 @@ module _ (p : LinkedProgram) (q : Asked) (well : IsWellLinked p) (point : Point)
             (subst (λ n. slice_get (sites_of more_heap) n ≡ Some inner) (let same : count ≡ x = cc (e) in same) last))
 
         grows : Extends sites (sites_of (slice_set more_heap o held))
-        grows x of e = extends_same (sites_of more_heap) (sites_of (slice_set more_heap o held)) (map-slice_set (λ (h : HeapObject). h.site) more_heap o held outer there_too refl) x of
-            (extends_more point.heap (new_object inner class) x of e)
+        grows x of e =
+            let same = map-slice_set (λ (h : HeapObject). h.site) more_heap o held outer there_too refl in
+            extends_same (sites_of more_heap) (sites_of (slice_set more_heap o held)) same x of (extends_more point.heap (new_object inner class) x of e)
 
     -- a static field is set
     kept_sets : (field : ℕ) (value : Value) → CanSet p point form.method form.code field value
@@ -317,7 +319,7 @@ module _ (p : LinkedProgram) (q : Asked) (well : IsWellLinked p) (point : Point)
                 field = field;
                 load = load.load;
                 unraised = (unraised, load.unraised);
-                stores = record { code = form.code; at = code_at p q.reach point form; is_so = by.fact };
+                stores = code_so p f form _ by.fact;
                 loads = load.loads;
               };
             } in
@@ -331,13 +333,13 @@ module _ (p : LinkedProgram) (q : Asked) (well : IsWellLinked p) (point : Point)
         → IsKept p q new
     kept_effect effect.is_ill_typed j target new b = subst (IsKept p q) (sym b) (kept_stopped ill_typed)
     kept_effect (effect.raises kind) j target new b = subst (IsKept p q) (sym b.2) (kept_more (site.Raised (place_of f) kind) b.0
-        ((unraised, record { code = form.code; at = code_at p q.reach point form; is_so = j.0 }), b.1) _
+        ((unraised, code_so p f form _ j.0), b.1) _
         (stays_raises p q.reach point form fits unraised kind b.0 j.0))
     kept_effect (effect.throws o) j target new b = subst (IsKept p q) (sym b) (kept_same _ (stays_throws p q.reach point form fits unraised o j))
     kept_effect (effect.goes index) j target new b = subst (IsKept p q) (sym b) (kept_same _ (stays_goes p q.reach point form fits unraised point.heap index j))
     kept_effect (effect.gets to value) j target new b = subst (IsKept p q) (sym b) (kept_same _ (stays_gets p q.reach point form fits unraised to value j))
     kept_effect (effect.makes to class) j target new b = subst (IsKept p q) (sym b) (kept_more (site.New (place_of f)) class
-        (unraised, record { code = form.code; at = code_at p q.reach point form; is_so = j.class_made }) _
+        (unraised, code_so p f form _ j.class_made) _
         (stays_makes p q.reach point form fits unraised to class j))
     kept_effect (effect.nests to o inner class) j target new b = subst (IsKept p q) (sym b.2) (kept_nests to o inner class j b.0 b.1)
     kept_effect (effect.writes o field value) j target new b = subst (IsKept p q) (sym b.2) (kept_writes o field value j b.0 b.1)

@@ -8,7 +8,7 @@ use Rattle.link_rules.specs.declared.code.Code.{Code}
 use Rattle.link_rules.specs.Flow.{Next, IsRaised}
 use Rattle.link_rules.specs.Linked.{LinkedMethod, LinkedProgram}
 use Rattle.link_rules.specs.WellLinked.{FitsMethod}
-use Rattle.link_sites.specs.Places.{CodeAt}
+use Rattle.link_sites.specs.Places.{CodeAt, HasCode}
 use Rattle.spds_rules.specs.declared.edge.EdgeKind.TheVariants.{Flow}
 use Rattle.spds_rules.specs.declared.node.Var.{Var}
 use Rattle.spds_rules.specs.declared.reach.Reach.{Reach}
@@ -36,13 +36,13 @@ same_code p f form c at =
     let second = at.here in
     cc
 
+-- what is so of the statement
+pub code_so : (p : LinkedProgram) (f : Frame) (form : IsShaped p f) (Fact : Code → Type 0) → Fact form.code → HasCode p f.method f.index Fact
+code_so p f form Fact so = record { code = form.code; at = record { method = form.method; there = form.there; here = form.here }; is_so = so }
+
 module _ (p : LinkedProgram) (reach : Reach) (point : Point) (form : IsShaped p point.top) where
   abbrev f : Frame
   f = point.top
-
-  -- the statement
-  pub code_at : CodeAt p f.method f.index form.code
-  code_at = record { method = form.method; there = form.there; here = form.here }
 
   -- f goes on as g, which has the same receiver and parameters, and the same locals but for one that the statement assigns. Of each object that a slot
   -- of g holds this is so

@@ -30,14 +30,6 @@ local_below f x value e = by (slice_get f.locals x) refl e
     by (Some v) is e = slice_get-below f.locals x v is
     by None is e = cc
 
--- where it is, and what stands there
-pub local_there : (f : Frame) (x : ℕ) (value : Value) → local_of f x ≡ Some value → slice_get f.locals x ≡ Some (Some value)
-local_there f x value e = by (slice_get f.locals x) refl e
-  where
-    by : (o : Option (Option Value)) → slice_get f.locals x ≡ o → if_set o ≡ Some value → slice_get f.locals x ≡ Some (Some value)
-    by (Some v) is e = is ∙ ap Some e
-    by None is e = cc
-
 -- the variable of a slot that holds something stands at the frame's place
 pub has_var : (p : LinkedProgram) (f : Frame) (shaped : IsShaped p f) (from : Slot) (value : Value) → slot_of f from ≡ Some value
     → HasVar shaped.method shaped.code f.raised (var_of from)

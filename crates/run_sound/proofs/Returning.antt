@@ -5,7 +5,6 @@ use Rattle.link_rules.specs.declared.code.Code.TheVariants as code
 use Rattle.link_rules.specs.Flow.{IsRaised, IsReturn, Next}
 use Rattle.link_rules.specs.Linked.{LinkedProgram}
 use Rattle.link_rules.specs.WellLinked.{FitsCode, FitsMethod, HasTarget, IsLocalOf, IsWellLinked}
-use Rattle.link_laws.proofs.Lists.{at_all}
 use Rattle.link_sites.specs.Places.{CodeAt, HasCode, before, in_flight}
 use Rattle.spds_rules.specs.declared.edge.EdgeKind.TheVariants as edge_kind
 use Rattle.spds_rules.specs.declared.node.Var.{Var}
@@ -24,9 +23,9 @@ use Rattle.step_rules.specs.Steps.{Leaves, Receives, ReceivesAt, Returns}
 use Rattle.run_sound.specs.Frames.{node_of}
 use Rattle.run_sound.proofs.Explained.{CanReturn, Stands, by_slot, node_in}
 use Rattle.run_sound.proofs.Invariant.{IsShaped}
-use Rattle.run_sound.proofs.Moves.{Moves, code_at, gets_moves, goes_moves, same_code, throws_moves, var_node}
+use Rattle.run_sound.proofs.Moves.{Moves, code_so, gets_moves, goes_moves, same_code, throws_moves, var_node}
 use Rattle.run_sound.proofs.Nodes.{has_node}
-use Rattle.run_sound.proofs.Standing.{method_fits}
+use Rattle.run_sound.proofs.Standing.{code_fits, form_fits}
 
 -- the frame waits, unraised, at a call that has the method of the one above it among its targets
 pub record IsCaller (p : LinkedProgram) (caller above : Frame) : Type 0 where
@@ -67,12 +66,15 @@ module _ (p : LinkedProgram) (reach : Reach) (point : Point) where
     abbrev target : HasTarget p caller.method caller.index f.method
     target = its.target
 
+    abbrev call : Code
+    call = code.Call target.to target.mode target.class target.key target.receiver target.args target.targets
+
     -- it stands at the call
-    at_call : its.form.code ≡ code.Call target.to target.mode target.class target.key target.receiver target.args target.targets
+    at_call : its.form.code ≡ call
     at_call = same_code p caller its.form _ (record { method = target.method; there = target.there; here = target.call })
 
     fits : FitsMethod p its.form.method
-    fits = method_fits p well caller.method its.form.method its.form.there
+    fits = form_fits p well caller its.form
 
     -- behind which it goes on
     next : Next its.form.code caller.index (caller.index + 1)
@@ -84,8 +86,7 @@ module _ (p : LinkedProgram) (reach : Reach) (point : Point) where
 
     local_fits : (to : ℕ) → target.to ≡ Some to → to < length its.form.method.locals
     local_fits to is =
-        let fit = at_all (FitsCode p its.form.method) its.form.method.code caller.index its.form.code fits.codes its.form.here in
-        let at : FitsCode p its.form.method (code.Call target.to target.mode target.class target.key target.receiver target.args target.targets) = subst (FitsCode p its.form.method) at_call fit in
+        let at : FitsCode p its.form.method call = subst (FitsCode p its.form.method) at_call (code_fits p well caller its.form) in
         subst (λ (o : Option ℕ). IfSome o (IsLocalOf its.form.method)) is at.0
 
     -- ---- a return
@@ -108,7 +109,7 @@ module _ (p : LinkedProgram) (reach : Reach) (point : Point) where
                 unraised = its.unraised;
                 target = target;
                 gives = inl (record {
-                  returned = record { code = form.code; at = code_at p reach point form; is_so = by.fact };
+                  returned = code_so p f form _ by.fact;
                   unraised = unraised;
                   goes_on = behind (gets to v outer).top refl;
                   local = to;
@@ -129,7 +130,7 @@ module _ (p : LinkedProgram) (reach : Reach) (point : Point) where
         its = its;
         g = g;
         becomes = becomes;
-        way = inl (unraised, record { code = form.code; at = code_at p reach point form; is_so = can.is_return }, behind g same);
+        way = inl (unraised, code_so p f form _ can.is_return, behind g same);
         moves = moves;
       })
 
@@ -169,8 +170,8 @@ module _ (p : LinkedProgram) (reach : Reach) (point : Point) where
       ));
     })
 
-  module _ (well : IsWellLinked p) (form : IsShaped p f) (callers : (below : List Frame) (caller : Frame) → point.below ≡ below ++ caller ∷ [] → IsCaller p caller f)
-      (new : State) where
+  module _ (well : IsWellLinked p) (form : IsShaped p f)
+      (callers : (below : List Frame) (caller : Frame) → point.below ≡ below ++ caller ∷ [] → IsCaller p caller f) (new : State) where
     pub returns : f.raised ≡ false → (value : Option Value) → CanReturn p point form.method form.code value → Returns p point value new → Left new
     returns unraised value can (inl root) = inl (ended, root.1)
     returns unraised value can (inr called) = receives_at well form new called.0 called.1 called.2 (callers called.0 called.1 called.2) unraised value can

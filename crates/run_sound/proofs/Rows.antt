@@ -162,7 +162,8 @@ module _ (p : LinkedProgram) (well : IsWellLinked p) (point : Point) (m : Linked
     record {
       sets = (refl, refl, fits.0);
       gives = tt;
-      from = λ x is. assigned (operand p point m (Copy to a) a x (λ v. Assigns (Copy to a) v (var.Local to)) fits.1 (0, refl) (e ∙ ap Some is) (λ v is_var. (is_var, refl)));
+      from = λ x is. assigned (operand p point m (Copy to a) a x (λ v. Assigns (Copy to a) v (var.Local to)) fits.1 (0, refl) (e ∙ ap Some is)
+          (λ v is_var. (is_var, refl)));
     },
     tt,
   ))
@@ -170,7 +171,8 @@ module _ (p : LinkedProgram) (well : IsWellLinked p) (point : Point) (m : Linked
     record {
       sets = (refl, refl, fits.0);
       gives = tt;
-      from = λ x is. assigned (operand p point m (Cast to a) a x (λ v. Assigns (Cast to a) v (var.Local to)) fits.1 (0, refl) (e ∙ ap Some is) (λ v is_var. (is_var, refl)));
+      from = λ x is. assigned (operand p point m (Cast to a) a x (λ v. Assigns (Cast to a) v (var.Local to)) fits.1 (0, refl) (e ∙ ap Some is)
+          (λ v is_var. (is_var, refl)));
     },
     ((refl, tt), tt),
   ))
@@ -195,7 +197,8 @@ module _ (p : LinkedProgram) (well : IsWellLinked p) (point : Point) (m : Linked
   row (StoreStatic field a) here fits h = by_value (J (StoreStatic field a)) tt (operand_of p point.top a) (λ v. sets field v ∷ []) offered h (λ v e. (
     record {
       goes = (refl, refl, tt);
-      from = λ x is. operand p point m (StoreStatic field a) a x (λ v. StoresStatic (StoreStatic field a) v field) fits.1 (0, refl) (e ∙ ap Some is) (λ v is_var. (refl, is_var));
+      from = λ x is. operand p point m (StoreStatic field a) a x (λ v. StoresStatic (StoreStatic field a) v field) fits.1 (0, refl) (e ∙ ap Some is)
+          (λ v is_var. (refl, is_var));
     },
     tt,
   ))

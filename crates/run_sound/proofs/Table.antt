@@ -5,8 +5,7 @@ use Rattle.link_rules.specs.declared.code.Catch.{Catch}
 use Rattle.link_rules.specs.declared.code.Code.{Code}
 use Rattle.link_rules.specs.Flow.{CoversPlace, Handles}
 use Rattle.link_rules.specs.Linked.{LinkedMethod, LinkedProgram}
-use Rattle.link_rules.specs.WellLinked.{FitsCode, IsWellLinked}
-use Rattle.link_laws.proofs.Lists.{at_all}
+use Rattle.link_rules.specs.WellLinked.{IsWellLinked}
 use Rattle.run_covers.proofs.Offered.{AllOf, one_of, only}
 use Rattle.step_rules.specs.declared.parts.Value.{Value}
 use Rattle.step_rules.specs.declared.parts.Value.TheVariants.{Null, Number, Object}
@@ -17,12 +16,13 @@ use Rattle.run_sound.proofs.Explained.{IsExplained, IsUnwound, caught, left}
 use Rattle.run_sound.proofs.Invariant.{IsShaped}
 use Rattle.run_sound.proofs.Moves.{same_code}
 use Rattle.run_sound.proofs.Rows.{row}
-use Rattle.run_sound.proofs.Standing.{method_fits}
+use Rattle.run_sound.proofs.Standing.{code_fits}
 
 module _ (p : LinkedProgram) (well : IsWellLinked p) (point : Point) (form : IsShaped p point.top) where
   -- by the statement, or by the exception in flight
   abbrev pub Explains : Effect → Type 0
-  Explains e = ((point.top.raised ≡ false) × IsExplained p point form.method form.code e) ⊎ ((point.top.raised ≡ true) × IsUnwound p point form.method form.code e)
+  Explains e = ((point.top.raised ≡ false) × IsExplained p point form.method form.code e)
+      ⊎ ((point.top.raised ≡ true) × IsUnwound p point form.method form.code e)
 
   abbrev Unwound : Effect → Type 0
   Unwound = IsUnwound p point form.method form.code
@@ -54,8 +54,7 @@ module _ (p : LinkedProgram) (well : IsWellLinked p) (point : Point) (form : IsS
 
   pub explained : (r : Bool) → point.top.raised ≡ r → (offered : List Effect) → OffersBy r p point offered → (e : Effect) → Has offered e → Explains e
   explained false is offered h e has =
-      let fits = at_all (FitsCode p form.method) form.method.code point.top.index form.code (method_fits p well point.top.method form.method form.there).codes form.here in
       let here = subst (λ (c : Code). Row p point c offered) (sym (same_code p point.top form h.code h.at)) h.is_so in
-      let all = row p well point form.method form.there offered form.code form.here fits here in
+      let all = row p well point form.method form.there offered form.code form.here (code_fits p well point.top form) here in
       inl (is, one_of (IsExplained p point form.method form.code) offered e all has)
   explained true is offered h e has = inr (is, one_of Unwound offered e (unwinding point.top.thrown refl offered h) has)
