@@ -4,8 +4,8 @@
 usage: tests/figure.py
 
 Each crate of crates.txt stands in it once. What a crate's sources, definitions and proofs name stands in a row below, or to its right in its row; crates of
-tests may name any. The first 11 columns of a row say what it is, and `|` parts code from laws. crates.txt lists no use that no file names. It prints each
-breach; the status is 1 where there is one.
+tests may name any. The first 11 columns of a row say what it is, and `|` parts code from laws. crates.txt lists the uses that files name, and
+no others. It prints each breach; the status is 1 where there is one.
 """
 import os
 import re
@@ -52,10 +52,16 @@ def unnamed(named):
     return {f'{crate}: {other}' for crate, others in listed().items() for other in set(others) - named[crate]}
 
 
+def unlisted(named):
+    """The uses that a file names and crates.txt doesn't list."""
+    return {f'{crate}: {other}' for crate, others in named.items() for other in others - set(listed()[crate])}
+
+
 def main():
     named = uses()
     found = list(breaches(rows_of('docs/ARCHITECTURE.md'), named))
     found += [f'crates.txt lists a use that no file names: {it}' for it in sorted(unnamed(named))]
+    found += [f'crates.txt lacks a use that a file names: {it}' for it in sorted(unlisted(named))]
     print(*found, f'{len(named)} crates, {len(found)} breaches in the figure of layers', sep='\n')
     return 1 if found else 0
 
