@@ -1,5 +1,5 @@
 -- What a request about a program that is linked is answered.
-use Rattle.std.proofs.Common.{◌≡◌, ℕ, zero, suc, List, [], ◌∷◌, ◌++◌, ◌⊎◌, ◌∙◌, Option, ap, codes, length, refl, subst, sym, arith, inl, inr, slice_get, Some}
+use Rattle.std.proofs.Common.{◌≡◌, ℕ, suc, List, [], ◌∷◌, ◌++◌, ◌⊎◌, ◌∙◌, Option, ap, codes, length, refl, subst, sym, arith, inl, inr, slice_get, Some}
 use Rattle.std.specs.Fmt.{decimal}
 use Rattle.std.proofs.lemmas.Option.{same_Some}
 use Rattle.std.specs.Io.KnownBytes.{Appends}
@@ -48,7 +48,7 @@ use Rattle.track_verdicts.specs.Verdicts as verdict
 use Rattle.explain_text.specs.Explanations.{IsExplainText}
 use Rattle.explain_text.proofs.Asked.{place_named}
 use Rattle.explain_text.proofs.Found.{has_explained}
-use Rattle.batch_lines.specs.Queries.{AreQueries, QueryParts}
+use Rattle.batch_lines.specs.Queries.{QueryParts}
 use Rattle.boom_top.proofs.Batched.{batch_answers, batch_enough, own_lines, texts, writes_each}
 use Rattle.boom_top.proofs.Ending.{says_none}
 use Rattle.boom_top.proofs.Judged.{demand_within, safe_verdict}

@@ -1,22 +1,21 @@
 -- The answers to a batch, and the text that they make.
-use Rattle.std.proofs.Common.{◌≡◌, ℕ, zero, suc, ◌+◌, ◌<◌, ◌++◌, List, [], ◌∷◌, Option, Some, codes, length, map, slice_get, take, refl, sym, ap, subst, ◌∙◌, inl, inr, arith, append-nil, append_assoc}
+use Rattle.std.proofs.Common.{◌≡◌, ℕ, zero, suc, ◌+◌, ◌++◌, List, [], ◌∷◌, Option, Some, codes, length, map, slice_get, take, refl, sym, ap, subst, ◌∙◌, inl, inr, arith, append-nil, append_assoc}
 use Rattle.std.specs.Fmt.{decimal}
 use Rattle.std.specs.Io.KnownBytes.{Appends}
 use Rattle.std.specs.List.{AllZip, concat, flat_map}
 use Rattle.std.proofs.lemmas.List.{length-map}
-use Rattle.std.proofs.lemmas.Option.{same_Some, slice_get_within}
+use Rattle.std.proofs.lemmas.Option.{same_Some}
 use Rattle.link_rules.specs.Linked.{LinkedProgram}
 use Rattle.link_rules.specs.WellLinked.{IsWellLinked}
 use Rattle.batch_join.specs.Told.{AreTold}
 use Rattle.batch_lines.specs.Queries.{AreQueries, QueryParts}
 use Rattle.batch_lines.proofs.Outcomes.{bad_one, not_both, queries_one}
 use Rattle.batch_lines.proofs.Spelled.{zip_length}
-use Rattle.report_text.specs.Answers.{IsAnswerText}
 use Rattle.report_text.specs.Lines.{text_of}
 use Rattle.report_text.proofs.Growing.{text_of-append}
 use Rattle.boom_top.specs.Batches.{Batch, IsOwnText, TellsNumber, TellsQuery}
 use Rattle.boom_top.specs.Parts.{IsGiven}
-use Rattle.boom_top.specs.Replies.{AnswersQuery, AreAnsweredAll, IsBatchReply, IsPlaceReply, asked_of}
+use Rattle.boom_top.specs.Replies.{AnswersQuery, AreAnsweredAll, IsBatchReply, asked_of}
 use Rattle.boom_top.specs.Runs.{WritesEach}
 use Rattle.boom_top.specs.declared.status.Status.{Status}
 use Rattle.boom_top.specs.declared.status.Status.TheVariants.{Done, NotBatch}

@@ -1,5 +1,5 @@
 -- What is asked is answered by one text, unless certificates are asked for.
-use Rattle.std.proofs.Common.{◌≡◌, ℕ, zero, suc, ◌+◌, ◌<◌, ◌++◌, ◌⊎◌, List, [], ◌∷◌, Option, Some, None, Bool, true, false, codes, length, map, slice_get, refl, sym, ap, subst, ◌∙◌, inl, inr, arith}
+use Rattle.std.proofs.Common.{◌≡◌, ℕ, suc, ◌++◌, ◌⊎◌, List, [], ◌∷◌, Option, Some, None, Bool, true, false, codes, length, map, refl, sym, ap, subst, ◌∙◌, inl, inr, arith}
 use Rattle.std.specs.Fmt.{decimal}
 use Rattle.std.specs.List.{AllZip, concat}
 use Rattle.std.proofs.lemmas.List.{length-map}
@@ -9,7 +9,7 @@ use Rattle.lists.proofs.Joined.{last_one}
 use Rattle.jim_ast.specs.declared.syntax.Program.{Program}
 use Rattle.jim_parse.proofs.ProgramLemmas.{spells_one}
 use Rattle.link_rules.specs.Linked.{LinkedClass, LinkedMethod, LinkedProgram, Links}
-use Rattle.link_rules.specs.WellLinked.{IsInForm, IsWellLinked}
+use Rattle.link_rules.specs.WellLinked.{IsInForm}
 use Rattle.link_laws.proofs.OneLink.{link_one}
 use Rattle.link_sites.specs.declared.site.Site.{Site}
 use Rattle.link_sites.specs.Sites.{Precedes}
@@ -29,7 +29,7 @@ use Rattle.path_query.specs.Fields.{ArePathFields}
 use Rattle.path_query.proofs.Determined.{path_fields_one}
 use Rattle.path_query.proofs.OneAnswer.{path_answer_one}
 use Rattle.refine_rules.proofs.Once.{rounds_determined}
-use Rattle.refined_query.specs.Answers.{IsAnswerOver, IsDemandedBy, IsRefinedAnswer}
+use Rattle.refined_query.specs.Answers.{IsAnswerOver, IsDemandedBy}
 use Rattle.narrow_rules.specs.Narrowed.{LacksPairs}
 use Rattle.cert_rules.specs.declared.certificate.Certificate.{Certificate}
 use Rattle.cert_rules.specs.declared.fact.Entry.TheVariants.{Base}
@@ -44,33 +44,31 @@ use Rattle.cert_text.proofs.OneText.{certificate_one}
 use Rattle.track_rules.specs.Protocols.{IsProtocolOf, ProtocolParts}
 use Rattle.track_systems.specs.Findings.{AreFindings, Found, IsToldBefore}
 use Rattle.track_verdicts.specs.declared.verdict.Finding.{Finding}
-use Rattle.track_verdicts.specs.declared.verdict.Verdict.{Verdict}
 use Rattle.track_verdicts.specs.Found.{found_of}
-use Rattle.track_verdicts.specs.Verdicts.{IsVerdict}
-use Rattle.track_report.specs.Reports.{IsHeadLine, IsUnsafeLine, IsVerdictText}
+use Rattle.track_report.specs.Reports.{IsUnsafeLine}
 use Rattle.track_report.specs.Reports as verdict
 use Rattle.run_report.specs.Named.{digits_of}
-use Rattle.run_report.specs.Reports.{AreEndLines, AreEndLinesBy, AreLocalLines, AreRunningLines, IsAtLine, IsFlightText, IsLocalLine, IsObjectText, IsRunText, IsUncaughtLine, IsValueText, LocalLines, none, set, unset}
+use Rattle.run_report.specs.Reports.{AreEndLines, AreEndLinesBy, AreLocalLines, AreRunningLines, IsAtLine, IsFlightText, IsLocalLine, IsObjectText, IsRunText, IsValueText, LocalLines, none, set, unset}
 use Rattle.run_report.proofs.OneRun.{named_one}
 use Rattle.batch_lines.specs.Queries.{AreQueries, QueryParts}
 use Rattle.batch_lines.proofs.Outcomes.{queries_one}
-use Rattle.boom_words.specs.Requests.{Alias, Paths, PointsTo, Question, Refined, Request, RunFor, Typestate, IsRequest, alias, batch, demo, explain, paths, points_to, refined, replay, run, typestate}
+use Rattle.boom_words.specs.Requests.{Alias, Paths, PointsTo, Question, Refined, Request, Typestate, alias, batch, demo, explain, paths, points_to, refined, replay, run, typestate}
 use Rattle.boom_words.proofs.Words.{request_one}
-use Rattle.report_text.specs.Aliases.{IsAliasLine, IsAliasText, verdict_lines}
-use Rattle.report_text.specs.Answers.{IsAcceptedText, IsAnswerText, IsQueryLine, IsRefinedText, count_lines, narrowed_line}
+use Rattle.report_text.specs.Aliases.{IsAliasText, verdict_lines}
+use Rattle.report_text.specs.Answers.{IsAcceptedText, IsAnswerText, IsRefinedText, count_lines, narrowed_line}
 use Rattle.report_text.specs.Lines.{text_of}
-use Rattle.report_text.specs.Paths.{IsPathLine, IsPathText}
+use Rattle.report_text.specs.Paths.{IsPathText}
 use Rattle.report_text.specs.Texts.{IsSiteText}
 use Rattle.explain_text.specs.Explanations.{IsExplainText}
 use Rattle.boom_top.specs.Demo.{IsDemoText, demo_asked}
 use Rattle.boom_top.specs.Laws.{AsksWhy, RepliesAreOne}
 use Rattle.boom_top.specs.Paths.{IsPathReply, IsPathTold}
-use Rattle.boom_top.specs.Queries.{Accepted, IsPrelude, limit, program_in, rest_in, source_of}
+use Rattle.boom_top.specs.Queries.{Accepted, rest_in, source_of}
 use Rattle.boom_top.specs.Refined.{IsRefinedReply, IsRefinedTold}
 use Rattle.boom_top.specs.Refusals.{IsRefusedBy, refusal}
-use Rattle.boom_top.specs.Replies.{AnswersQuery, AreAliased, AreAnsweredAll, IsAliasReply, IsAnswered, IsBatchReply, IsCertificateReply, IsClaimTold, IsJudged, IsLinkedReply, IsPlaceReply, IsReply, IsReplayReply, IsReplyTo, IsRunReply, IsSourceReply, IsTypestateReply, IsUnread, asked_of}
+use Rattle.boom_top.specs.Replies.{AnswersQuery, AreAliased, AreAnsweredAll, IsAliasReply, IsAnswered, IsBatchReply, IsClaimTold, IsJudged, IsLinkedReply, IsPlaceReply, IsReplayReply, IsReplyTo, IsTypestateReply, IsUnread, asked_of}
 use Rattle.boom_top.specs.declared.status.Status.{Status}
-use Rattle.boom_top.specs.declared.status.Status.TheVariants.{Done, NoSuchPlace, NotBatch, NotCertificate, NotJimple, NotLinked, NotProtocol, NotText, OverBudget, Rejected, TooLong, Usage, BadPrelude}
+use Rattle.boom_top.specs.declared.status.Status.TheVariants.{Done, NoSuchPlace, NotBatch, NotCertificate, NotLinked, NotProtocol, OverBudget, Rejected, TooLong, BadPrelude}
 use Rattle.boom_top.proofs.Asked.{well}
 use Rattle.boom_top.proofs.Batched.{text_of-joined}
 use Rattle.boom_top.proofs.Judged.{query_one}

@@ -1,21 +1,20 @@
 -- A query of a place is answered by one text.
-use Rattle.std.proofs.Common.{◌≡◌, ℕ, zero, suc, ◌-◌, ◌<◌, ◌++◌, List, [], ◌∷◌, Some, codes, length, map, slice_get, get_or, refl, sym, ap, subst, ◌∙◌, inl, inr, arith}
+use Rattle.std.proofs.Common.{◌≡◌, ℕ, ◌-◌, ◌<◌, ◌++◌, List, [], ◌∷◌, Some, codes, length, map, slice_get, get_or, sym, ap, subst, ◌∙◌, inl, inr, arith}
 use Rattle.std.proofs.lemmas.Bool.{cases_lt}
 use Rattle.std.proofs.lemmas.List.{length-map}
 use Rattle.std.proofs.lemmas.Option.{get_or_from_slice_get, same_Some, slice_get_within}
 use Rattle.lists.proofs.Places.{slice_get-below, slice_get-extensional, slice_get-there}
-use Rattle.lists.specs.Lists.{Has, AreIncreasing, Each}
+use Rattle.lists.specs.Lists.{AreIncreasing, Each}
 use Rattle.link_rules.specs.declared.code.Code.{Code}
 use Rattle.link_rules.specs.declared.code.Code.TheVariants.{New, NewArray, NewMulti}
-use Rattle.link_rules.specs.Linked.{Element, LinkedClass, LinkedMethod, LinkedProgram}
+use Rattle.link_rules.specs.Linked.{Element, LinkedMethod, LinkedProgram}
 use Rattle.link_rules.specs.Names.{brackets}
 use Rattle.link_rules.specs.WellLinked.{FitsMethod, IsInForm}
-use Rattle.link_laws.proofs.Lists.{all_at, at_all, map_at}
+use Rattle.link_laws.proofs.Lists.{at_all, map_at}
 use Rattle.link_rules.specs.Accessed.{HasElementText}
 use Rattle.link_sites.specs.declared.place.Place.{Place}
 use Rattle.link_sites.specs.declared.site.Site.{Site}
 use Rattle.link_sites.specs.declared.site.Site.TheVariants as site
-use Rattle.link_sites.specs.Places.{CodeAt}
 use Rattle.spds_rules.specs.declared.node.Node.{Node}
 use Rattle.spds_rules.specs.declared.node.Var.{Var}
 use Rattle.spds_rules.specs.declared.node.Var.TheVariants.{Local}
@@ -30,7 +29,7 @@ use Rattle.boom_words.specs.Requests.{PointsTo}
 use Rattle.boom_top.specs.Refusals.{refusal}
 use Rattle.boom_top.specs.Replies.{IsAnswered, IsBudgetReply, IsPlaceReply}
 use Rattle.boom_top.specs.declared.status.Status.{Status}
-use Rattle.boom_top.specs.declared.status.Status.TheVariants.{Done, NoSuchPlace, OverBudget}
+use Rattle.boom_top.specs.declared.status.Status.TheVariants.{NoSuchPlace}
 
 -- where each element has one line, each list of elements has one list of lines
 pub each_one : {X : Type 0} (R : X → List ℕ → Type 0) → ((x : X) (a b : List ℕ) → R x a → R x b → a ≡ b)

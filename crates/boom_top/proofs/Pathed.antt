@@ -7,9 +7,7 @@ use Rattle.link_rules.specs.WellLinked.{IsWellLinked}
 use Rattle.link_laws.proofs.Lists.{each_left}
 use Rattle.spds_rules.specs.declared.node.Node.{Node}
 use Rattle.run_covers.specs.Covers.{IsCovered}
-use Rattle.query_core.specs.Places.{IsPlaceOf}
 use Rattle.query_core.proofs.NamedPlaces.{missing_one, place_one, place_there}
-use Rattle.path_query.specs.Fields.{ArePathFields}
 use Rattle.path_query.specs.Paths.{IsPathAffordable, IsPathOver}
 use Rattle.path_query.proofs.Determined.{fields_there, path_fields_one, path_over, path_within}
 use Rattle.path_query.proofs.Sound.{path_sound}

@@ -1,6 +1,6 @@
-use Rattle.std.proofs.Common.{◌≡◌, ◌⊎◌, map, string_bytes, refl, sym, ◌∙◌, inl, inr}
+use Rattle.std.proofs.Common.{◌⊎◌, map, string_bytes, refl, inl, inr}
 use Rattle.boom_words.specs.Commands.{request_of}
-use Rattle.boom_words.specs.Requests.{IsRequest, NoRequest, Request}
+use Rattle.boom_words.specs.Requests.{IsRequest, NoRequest}
 use Rattle.boom_top.specs.Replies.{IsReply, IsReplyTo}
 use Rattle.boom_top.specs.declared.status.Status.TheVariants as status
 use Rattle.boom_top.proofs.Replied.{passed, told_one}
