@@ -1,6 +1,6 @@
 -- What is asked has one reply.
 use Rattle.std.specs.Prelude.{◌≡◌, ℕ, List}
-use Rattle.boom_words.specs.Requests.{Question, Request, IsRequest, alias, batch, demo, explain, paths, points_to, refined, replay, run, typestate}
+use Rattle.boom_words.specs.Requests.{Question, Request, IsRequest, explain}
 use Rattle.report_text.specs.Lines.{text_of}
 use Rattle.boom_top.specs.Replies.{IsReply}
 use Rattle.boom_top.specs.declared.status.Status.{Status}
@@ -8,15 +8,7 @@ use Rattle.boom_top.specs.declared.status.Status.{Status}
 -- the question asks for certificates, of which a site may have several
 abbrev pub AsksWhy : Question → Type 0
 AsksWhy (explain asked) = Unit {0}
-AsksWhy (points_to asked) = ⊥
-AsksWhy (alias asked) = ⊥
-AsksWhy (paths asked) = ⊥
-AsksWhy (run asked) = ⊥
-AsksWhy (replay budget) = ⊥
-AsksWhy (typestate asked) = ⊥
-AsksWhy (batch budget) = ⊥
-AsksWhy (refined asked) = ⊥
-AsksWhy (demo boxes) = ⊥
+AsksWhy _ = ⊥
 
 -- The reply to words over bytes has one status, and one text unless the words ask for certificates.
 abbrev pub RepliesAreOne : Type 0

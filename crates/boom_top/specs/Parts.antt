@@ -10,7 +10,7 @@ use Rattle.boom_top.specs.declared.query.NoReply.{NoReply}
 use Rattle.boom_top.specs.declared.query.NoReply.TheVariants as none
 use Rattle.boom_top.specs.declared.query.Reply.{Reply}
 use Rattle.boom_top.specs.declared.status.Status.{Status}
-use Rattle.boom_top.specs.declared.status.Status.TheVariants.{Done, Usage, ReadFault, TooLong, NotText, NotJimple, NotLinked, NoSuchPlace, NotProtocol, NotCertificate, Rejected, OverBudget, WriteFault, NoMemory, NotBatch, BadPrelude}
+use Rattle.boom_top.specs.declared.status.Status.TheVariants.{Usage, ReadFault, WriteFault, NoMemory}
 
 -- the reply is such a status, and the text of such lines
 abbrev pub Makes : (Status → List (List ℕ) → Type 0) → Reply → Type 0
@@ -35,15 +35,4 @@ IsGiven Usage = ⊥
 IsGiven ReadFault = ⊥
 IsGiven WriteFault = ⊥
 IsGiven NoMemory = ⊥
-IsGiven Done = Unit {0}
-IsGiven TooLong = Unit {0}
-IsGiven (NotText at) = Unit {0}
-IsGiven (NotJimple at) = Unit {0}
-IsGiven (NotLinked error) = Unit {0}
-IsGiven (NoSuchPlace which) = Unit {0}
-IsGiven (NotProtocol error) = Unit {0}
-IsGiven (NotCertificate at) = Unit {0}
-IsGiven (Rejected line) = Unit {0}
-IsGiven (OverBudget budget) = Unit {0}
-IsGiven (NotBatch at) = Unit {0}
-IsGiven BadPrelude = Unit {0}
+IsGiven _ = Unit {0}

@@ -7,7 +7,7 @@ use Rattle.jim_parse.specs.Derives.{Spells}
 use Rattle.jim_prelude.specs.Text.{prelude_text}
 use Rattle.link_rules.specs.Conditions.{DeclaresNine}
 use Rattle.link_rules.specs.Linked.{LinkedProgram, Links}
-use Rattle.boom_words.specs.Requests.{Question, Request, alias, batch, demo, explain, paths, points_to, refined, replay, run, typestate}
+use Rattle.boom_words.specs.Requests.{Question, Request, batch, demo, replay}
 use Rattle.demo_text.specs.Demo.{demo_source}
 use Rattle.batch_lines.specs.Cuts.{before_mark, behind_mark, lines_of}
 
@@ -21,18 +21,10 @@ TakesAtMost most old new = (taken : List ℕ) × Consumes old new taken × (leng
 
 -- the bytes that a question is about: those that are read, but for the demo its own text
 abbrev pub source_of : Question → List ℕ → List ℕ
-source_of (points_to asked) bytes = bytes
-source_of (explain asked) bytes = bytes
-source_of (alias asked) bytes = bytes
-source_of (paths asked) bytes = bytes
-source_of (run asked) bytes = bytes
-source_of (replay budget) bytes = bytes
-source_of (typestate asked) bytes = bytes
-source_of (batch budget) bytes = bytes
-source_of (refined asked) bytes = bytes
 source_of (demo boxes) bytes = demo_source boxes
+source_of _ bytes = bytes
 
--- the lines behind which a certificate stands, and the queries of a batch
+-- the line behind which a certificate stands
 abbrev pub certificate_mark : List ℕ
 certificate_mark = codes "%certificate"
 
@@ -40,44 +32,22 @@ certificate_mark = codes "%certificate"
 abbrev pub queries_mark : List ℕ
 queries_mark = codes "%queries"
 
--- the program among these bytes: for a replay and for a batch it stands before the mark
+-- the program among these bytes: for a replay and for a batch it stands before the mark, for other commands it is all
 abbrev pub program_in : Question → List ℕ → List ℕ
 program_in (replay budget) text = before_mark certificate_mark (lines_of text)
 program_in (batch budget) text = before_mark queries_mark (lines_of text)
-program_in (points_to asked) text = text
-program_in (explain asked) text = text
-program_in (alias asked) text = text
-program_in (paths asked) text = text
-program_in (run asked) text = text
-program_in (typestate asked) text = text
-program_in (refined asked) text = text
-program_in (demo boxes) text = text
+program_in _ text = text
 
--- what stands behind it: for a replay the certificate, for a batch the queries
+-- what stands behind it: for a replay the certificate, for a batch the queries, for other commands nothing
 abbrev pub rest_in : Question → List ℕ → List ℕ
 rest_in (replay budget) text = behind_mark certificate_mark (lines_of text)
 rest_in (batch budget) text = behind_mark queries_mark (lines_of text)
-rest_in (points_to asked) text = []
-rest_in (explain asked) text = []
-rest_in (alias asked) text = []
-rest_in (paths asked) text = []
-rest_in (run asked) text = []
-rest_in (typestate asked) text = []
-rest_in (refined asked) text = []
-rest_in (demo boxes) text = []
+rest_in _ text = []
 
 -- the question needs no bytes
 abbrev pub IsDemo : Question → Type 0
 IsDemo (demo boxes) = Unit {0}
-IsDemo (points_to asked) = ⊥
-IsDemo (explain asked) = ⊥
-IsDemo (alias asked) = ⊥
-IsDemo (paths asked) = ⊥
-IsDemo (run asked) = ⊥
-IsDemo (replay budget) = ⊥
-IsDemo (typestate asked) = ⊥
-IsDemo (batch budget) = ⊥
-IsDemo (refined asked) = ⊥
+IsDemo _ = ⊥
 
 -- the stand-ins for Java's own classes: the program that their text spells. It declares the nine classes that linking needs
 pub record IsPrelude (prelude : Program) : Type 0 where

@@ -70,24 +70,7 @@ told_text rule.DuplicateClass place index = codes " " ++ place
 told_text rule.UnknownParent place index = codes " " ++ place
 told_text rule.CyclicClass place index = codes " " ++ place
 told_text rule.NoEntry place index = []
-told_text rule.DuplicateLocal place index = codes " " ++ place ++ codes " " ++ decimal index
-told_text rule.DuplicateLabel place index = codes " " ++ place ++ codes " " ++ decimal index
-told_text rule.UnknownLabel place index = codes " " ++ place ++ codes " " ++ decimal index
-told_text rule.FallsOff place index = codes " " ++ place ++ codes " " ++ decimal index
-told_text rule.UnknownLocal place index = codes " " ++ place ++ codes " " ++ decimal index
-told_text rule.BadIdentity place index = codes " " ++ place ++ codes " " ++ decimal index
-told_text rule.DynamicInvoke place index = codes " " ++ place ++ codes " " ++ decimal index
-told_text rule.Reflection place index = codes " " ++ place ++ codes " " ++ decimal index
-told_text rule.Threads place index = codes " " ++ place ++ codes " " ++ decimal index
-told_text rule.RetStatement place index = codes " " ++ place ++ codes " " ++ decimal index
-told_text rule.NestedArray place index = codes " " ++ place ++ codes " " ++ decimal index
-told_text rule.UnknownClass place index = codes " " ++ place ++ codes " " ++ decimal index
-told_text rule.UnknownField place index = codes " " ++ place ++ codes " " ++ decimal index
-told_text rule.AbstractNew place index = codes " " ++ place ++ codes " " ++ decimal index
-told_text rule.UndeclaredCallee place index = codes " " ++ place ++ codes " " ++ decimal index
-told_text rule.BadArguments place index = codes " " ++ place ++ codes " " ++ decimal index
-told_text rule.NativeCallee place index = codes " " ++ place ++ codes " " ++ decimal index
-told_text rule.AmbiguousDefault place index = codes " " ++ place ++ codes " " ++ decimal index
+told_text _ place index = codes " " ++ place ++ codes " " ++ decimal index
 
 -- a refusal of linking; want of memory is none
 abbrev pub error_text : LinkError → List ℕ
@@ -115,10 +98,7 @@ refusal (Rejected line) = codes "refused Rejected " ++ decimal line
 refusal (OverBudget budget) = codes "refused OverBudget " ++ decimal budget
 refusal (NotBatch at) = codes "refused NotBatch " ++ decimal at
 refusal BadPrelude = codes "refused BadPrelude"
-refusal Done = []
-refusal ReadFault = []
-refusal WriteFault = []
-refusal NoMemory = []
+refusal _ = []
 
 -- the status is this one, and its refusal is the only line
 abbrev pub IsRefusedBy : Status → Status → List (List ℕ) → Type 0

@@ -173,20 +173,7 @@ IsProgramReply r rest input status lines = (HasNoPrelude × IsRefusedBy BadPrelu
 abbrev pub IsUnread : List ℕ → Status → Type 0
 IsUnread bytes (NotText at) = StopsAt bytes at
 IsUnread bytes (NotJimple at) = (tokens : List Token) × Lexes bytes tokens × IsRefusedAt bytes tokens at
-IsUnread bytes Done = ⊥
-IsUnread bytes Usage = ⊥
-IsUnread bytes ReadFault = ⊥
-IsUnread bytes TooLong = ⊥
-IsUnread bytes (NotLinked error) = ⊥
-IsUnread bytes (NoSuchPlace which) = ⊥
-IsUnread bytes (NotProtocol error) = ⊥
-IsUnread bytes (NotCertificate at) = ⊥
-IsUnread bytes (Rejected line) = ⊥
-IsUnread bytes (OverBudget budget) = ⊥
-IsUnread bytes WriteFault = ⊥
-IsUnread bytes NoMemory = ⊥
-IsUnread bytes (NotBatch at) = ⊥
-IsUnread bytes BadPrelude = ⊥
+IsUnread bytes _ = ⊥
 
 -- of the program's part of a text, and of what stands behind it: the one spells no program, or it spells one
 abbrev pub IsTextReply : Request → List ℕ → List ℕ → Status → List (List ℕ) → Type 0
@@ -212,16 +199,4 @@ abbrev pub GivesUp : Status → Type 0
 GivesUp ReadFault = Unit {0}
 GivesUp WriteFault = Unit {0}
 GivesUp NoMemory = Unit {0}
-GivesUp Done = ⊥
-GivesUp Usage = ⊥
-GivesUp TooLong = ⊥
-GivesUp (NotText at) = ⊥
-GivesUp (NotJimple at) = ⊥
-GivesUp (NotLinked error) = ⊥
-GivesUp (NoSuchPlace which) = ⊥
-GivesUp (NotProtocol error) = ⊥
-GivesUp (NotCertificate at) = ⊥
-GivesUp (Rejected line) = ⊥
-GivesUp (OverBudget budget) = ⊥
-GivesUp (NotBatch at) = ⊥
-GivesUp BadPrelude = ⊥
+GivesUp _ = ⊥
