@@ -1,5 +1,5 @@
--- A query of a place is answered by one text.
-use Rattle.std.proofs.Common.{◌≡◌, ℕ, ◌-◌, ◌<◌, ◌++◌, List, [], ◌∷◌, Some, codes, length, map, slice_get, get_or, sym, ap, subst, ◌∙◌, inl, inr, arith}
+-- What replies name, as places, sites and nodes, has one text.
+use Rattle.std.proofs.Common.{◌≡◌, ℕ, ◌-◌, ◌<◌, ◌++◌, List, Some, codes, map, slice_get, get_or, sym, ap, subst, ◌∙◌, inl, inr, arith}
 use Rattle.std.proofs.lemmas.Bool.{cases_lt}
 use Rattle.std.proofs.lemmas.List.{length-map}
 use Rattle.std.proofs.lemmas.Option.{get_or_from_slice_get, same_Some, slice_get_within}
@@ -19,17 +19,8 @@ use Rattle.spds_rules.specs.declared.node.Node.{Node}
 use Rattle.spds_rules.specs.declared.node.Var.{Var}
 use Rattle.spds_rules.specs.declared.node.Var.TheVariants.{Local}
 use Rattle.spds_nodes.proofs.Statements.{CodeAt-one}
-use Rattle.query_core.proofs.Determined.{answer_one, answer_over}
-use Rattle.query_core.proofs.NamedPlaces.{missing_one, place_one, place_there}
-use Rattle.query_core.specs.Answers.{IsOver}
-use Rattle.report_text.specs.Answers.{IsAnswerText, IsQueryLine, IsTargetText, IsVarName, IsWordedSite, count_lines}
-use Rattle.report_text.specs.Lines.{text_of}
+use Rattle.report_text.specs.Answers.{IsQueryLine, IsTargetText, IsVarName, IsWordedSite}
 use Rattle.report_text.specs.Texts.{IsArrayText, IsMadeAt, IsMadeText, IsNewText, IsPlaceText, IsSiteText, constant_text}
-use Rattle.boom_words.specs.Requests.{PointsTo}
-use Rattle.boom_top.specs.Refusals.{refusal}
-use Rattle.boom_top.specs.Replies.{IsAnswered, IsBudgetReply, IsPlaceReply}
-use Rattle.boom_top.specs.declared.status.Status.{Status}
-use Rattle.boom_top.specs.declared.status.Status.TheVariants.{NoSuchPlace}
 
 -- where each element has one line, each list of elements has one list of lines
 pub each_one : {X : Type 0} (R : X → List ℕ → Type 0) → ((x : X) (a b : List ℕ) → R x a → R x b → a ≡ b)
@@ -145,39 +136,3 @@ module _ (p : LinkedProgram) (form : IsInForm p) where
 
   pub query_line_one : (word : List ℕ) (n : Node) (a b : List ℕ) → IsQueryLine p word n a → IsQueryLine p word n b → a ≡ b
   query_line_one word n a b x y = x.line_is ∙ ap (λ t. word ++ codes " " ++ t) (target_one n x.target y.target x.target_is y.target_is) ∙ sym y.line_is
-
-  answer_text_one : (n : Node) (sites : List Site) (demanded : ℕ) (a b : List ℕ) → IsAnswerText p n sites demanded a → IsAnswerText p n sites demanded b → a ≡ b
-  answer_text_one n sites demanded a b x y =
-      let query_same = query_line_one (codes "points-to") n x.query y.query x.query_is y.query_is in
-      let lines_same = lines_one (codes "site ") sites x.lines y.lines x.lines_are y.lines_are in
-      x.text_is ∙ ap (λ l. text_of (l ∷ (x.lines ++ count_lines (length sites) demanded))) query_same
-      ∙ ap (λ ls. text_of (y.query ∷ (ls ++ count_lines (length sites) demanded))) lines_same ∙ sym y.text_is
-
-  module _ (budget : ℕ) (n : Node) where
-    answered_one : (xs ys : List (List ℕ)) → IsAnswered p (IsAnswerText p) budget n xs → IsAnswered p (IsAnswerText p) budget n ys → text_of xs ≡ text_of ys
-    answered_one xs ys a b =
-        let same = answer_one p n a.sites b.sites a.demanded b.demanded a.answer b.answer in
-        let moved = subst (λ (d : ℕ). IsAnswerText p n b.sites d (text_of xs)) same.1 (subst (λ (s : List Site). IsAnswerText p n s a.demanded (text_of xs)) same.0 a.told) in
-        answer_text_one n b.sites b.demanded (text_of xs) (text_of ys) moved b.told
-
-    within : (xs : List (List ℕ)) → IsAnswered p (IsAnswerText p) budget n xs → IsOver p (n ∷ []) budget → ⊥
-    within xs a over = let most = a.affordable in omega (arith, most, answer_over p n a.sites a.demanded budget a.answer over)
-
-    budget_text_one : (s t : Status) (xs ys : List (List ℕ)) → IsBudgetReply p (n ∷ []) budget (IsAnswered p (IsAnswerText p) budget n) s xs
-        → IsBudgetReply p (n ∷ []) budget (IsAnswered p (IsAnswerText p) budget n) t ys → text_of xs ≡ text_of ys
-    budget_text_one s t xs ys (inl a) (inl b) = ap text_of (a.1.1 ∙ sym b.1.1)
-    budget_text_one s t xs ys (inl a) (inr b) = absurd (within ys b.0 a.0)
-    budget_text_one s t xs ys (inr a) (inl b) = absurd (within xs a.0 b.0)
-    budget_text_one s t xs ys (inr a) (inr b) = answered_one xs ys a.0 b.0
-
-  pub place_text : (asked : PointsTo) (s t : Status) (xs ys : List (List ℕ)) → IsPlaceReply p asked (IsAnswerText p) s xs → IsPlaceReply p asked (IsAnswerText p) t ys
-      → text_of xs ≡ text_of ys
-  place_text asked s t xs ys (inl a) (inl b) =
-      let same = missing_one p asked.method asked.index asked.local a.0 b.0 a.1 b.1 in
-      ap text_of (a.2.1 ∙ ap (λ w. refusal (NoSuchPlace w) ∷ []) same ∙ sym b.2.1)
-  place_text asked s t xs ys (inl a) (inr b) = absurd (place_there p asked.method asked.index asked.local b.0 b.1 a.0 a.1)
-  place_text asked s t xs ys (inr a) (inl b) = absurd (place_there p asked.method asked.index asked.local a.0 a.1 b.0 b.1)
-  place_text asked s t xs ys (inr a) (inr b) =
-      let here = subst (λ (n : Node). IsBudgetReply p (n ∷ []) asked.budget (IsAnswered p (IsAnswerText p) asked.budget n) s xs)
-      (place_one p asked.method asked.index asked.local a.0 b.0 a.1 b.1) a.2 in
-      budget_text_one asked.budget b.0 s t xs ys here b.2

@@ -3,7 +3,7 @@ use Rattle.boom_words.specs.Commands.{request_of}
 use Rattle.boom_top.specs.Queries.{HasNoPrelude}
 use Rattle.boom_top.specs.Replies.{IsProgramReply, IsUnread}
 use Rattle.boom_top.specs.declared.status.Status.TheVariants as status
-use Rattle.boom_top.proofs.Once.{spelled_read}
+use Rattle.boom_top.proofs.Spelled.{spelled_read}
 use Rattle.boom_top.proofs.Replied.{told}
 use Rattle.boom_top.proofs.linked.program_reply.Goals as goal
 
