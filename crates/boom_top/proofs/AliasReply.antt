@@ -14,12 +14,11 @@ use Rattle.query_core.proofs.NamedPlaces.{missing_one_of_two, places_one, places
 use Rattle.query_core.proofs.Sound.{shared_sound}
 use Rattle.query_core.specs.Answers.{IsAffordable, IsOver}
 use Rattle.query_core.specs.Places.{ArePlacesOf}
-use Rattle.boom_words.specs.Requests.{Alias, alias}
+use Rattle.boom_words.specs.Requests.{Alias}
 use Rattle.report_text.specs.Aliases.{IsAliasText, IsSharedLine, verdict_lines}
 use Rattle.report_text.specs.Lines.{text_of}
-use Rattle.boom_top.specs.Evidence.{HasEvidence}
-use Rattle.boom_top.specs.Replies.{AreAliased, IsAliasReply, IsBudgetReply}
-use Rattle.boom_top.specs.Runs.{CoversAllRuns, HasAnswer, PrintsAllAliases}
+use Rattle.boom_top.specs.Aliases.{AreAliased, CoversAliases, IsAliasReply, IsAliasWithin, PrintsAllAliases, PrintsShared}
+use Rattle.boom_top.specs.Places.{IsBudgetReply}
 use Rattle.boom_top.specs.declared.status.Status.{Status}
 use Rattle.boom_top.specs.declared.status.Status.TheVariants.{Done, NoSuchPlace, OverBudget}
 use Rattle.boom_top.proofs.Lines.{has_middle}
@@ -94,7 +93,7 @@ module _ (p : LinkedProgram) (asked : Alias) where
   alias_ones Plain = ones p (IsAliasReply p asked) Plain SaysAliases alias_split alias_status (λ form plain. aliases_one form)
 
   -- a budget of at least the demand's size is enough
-  pub alias_enough : (s : Status) (lines : List (List ℕ)) → HasAnswer p [] (alias asked) → IsAliasReply p asked s lines → s ≡ Done
+  pub alias_enough : (s : Status) (lines : List (List ℕ)) → IsAliasWithin p asked → IsAliasReply p asked s lines → s ≡ Done
   alias_enough s lines (a, b, places, affordable) (inl x) = absurd (places_there p asked.method asked.index asked.first asked.second a b places x.0 x.1)
   alias_enough s lines (a, b, places, affordable) (inr (m, n, here, inl over)) =
       let same = places_one p asked.method asked.index asked.first asked.second a b m n places here in
@@ -136,7 +135,7 @@ module _ (p : LinkedProgram) (well : IsWellLinked p) (covered : IsCovered p) (ol
         ),
       )
 
-  pub alias_covered : (asked : Alias) → IsAliasReply p asked Done lines → CoversAllRuns p [] (alias asked) old new
+  pub alias_covered : (asked : Alias) → IsAliasReply p asked Done lines → CoversAliases p asked old new
   alias_covered asked (inl x) a b places = absurd (places_there p asked.method asked.index asked.first asked.second a b places x.0 x.1)
   alias_covered asked (inr (m, n, here, inl over)) a b places = absurd (let no : Done ≡ OverBudget asked.budget = over.1.0 in cc)
   alias_covered asked (inr (m, n, here, inr x)) a b places =
@@ -147,10 +146,10 @@ module _ (p : LinkedProgram) (well : IsWellLinked p) (covered : IsCovered p) (ol
 -- there is evidence for what is done
 module _ (p : LinkedProgram) (old new : Option (List ℕ)) (lines : List (List ℕ)) (wrote : Appends old new (text_of lines)) where
   -- what two locals share both have
-  pub alias_evident : (rest : List ℕ) (asked : Alias) → IsAliasReply p asked Done lines → HasEvidence p rest (alias asked) old new
-  alias_evident rest asked (inl a) = absurd (let no : Done ≡ NoSuchPlace a.0 = a.2.0 in cc)
-  alias_evident rest asked (inr (m, n, here, inl over)) = absurd (let no : Done ≡ OverBudget asked.budget = over.1.0 in cc)
-  alias_evident rest asked (inr (m, n, here, inr a)) = record {
+  pub alias_evident : (asked : Alias) → IsAliasReply p asked Done lines → PrintsShared p asked old new
+  alias_evident asked (inl a) = absurd (let no : Done ≡ NoSuchPlace a.0 = a.2.0 in cc)
+  alias_evident asked (inr (m, n, here, inl over)) = absurd (let no : Done ≡ OverBudget asked.budget = over.1.0 in cc)
+  alias_evident asked (inr (m, n, here, inr a)) = record {
     first = m;
     second = n;
     places = here;

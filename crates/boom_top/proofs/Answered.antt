@@ -20,7 +20,8 @@ use Rattle.boom_words.specs.Requests.{Alias, PointsTo}
 use Rattle.boom_top.specs.Demo.{IsDemoText, statement_count}
 use Rattle.boom_top.specs.Parts.{Makes, Tells}
 use Rattle.boom_top.specs.Refusals.{refusal}
-use Rattle.boom_top.specs.Replies.{IsAliasReply, IsPlaceReply}
+use Rattle.boom_top.specs.Aliases.{IsAliasReply}
+use Rattle.boom_top.specs.Places.{IsPlaceReply}
 use Rattle.boom_top.specs.declared.query.Reply.{Reply}
 use Rattle.boom_top.specs.declared.status.Status.TheVariants as status
 use Rattle.boom_top.proofs.Both.{IfOk-both}

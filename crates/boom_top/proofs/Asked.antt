@@ -15,10 +15,11 @@ use Rattle.track_rules.specs.Protocols.{IsProtocolOf, ProtocolParts}
 use Rattle.track_runs.specs.Monitor.{IsSafe}
 use Rattle.boom_words.specs.Requests.{Request, Typestate, typestate}
 use Rattle.report_text.specs.Lines.{text_of}
+use Rattle.boom_top.specs.Demands.{HasAnswer}
 use Rattle.boom_top.specs.Evidence.{HasEvidence}
 use Rattle.boom_top.specs.Queries.{Accepted, program_in, rest_in, source_of}
 use Rattle.boom_top.specs.Replies.{IsJoinedReply, IsLinkedReply, IsProgramReply, IsReplyTo, IsTextReply}
-use Rattle.boom_top.specs.Runs.{CoversAllRuns, HasAnswer}
+use Rattle.boom_top.specs.Runs.{CoversAllRuns}
 use Rattle.boom_top.specs.Safety.{SaysSafe}
 use Rattle.boom_top.specs.declared.status.Status.{Status}
 use Rattle.boom_top.specs.declared.status.Status.TheVariants.{Done}

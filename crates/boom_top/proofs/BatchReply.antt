@@ -19,9 +19,9 @@ use Rattle.batch_lines.proofs.Spelled.{zip_length}
 use Rattle.batch_lines.specs.Queries.{AreQueries, QueryParts}
 use Rattle.report_text.specs.Answers.{IsAnswerText, IsQueryLine, count_lines}
 use Rattle.report_text.specs.Lines.{text_of}
-use Rattle.boom_top.specs.Evidence.{PrintsEachShown}
-use Rattle.boom_top.specs.Replies.{AnswersQuery, AreAnsweredAll, IsAnswered, IsBatchReply, IsPlaceReply, asked_of}
-use Rattle.boom_top.specs.Runs.{IsRefusalText, PrintsEachAllRuns, RepeatsQuery, TellsAllRuns, WritesEach}
+use Rattle.boom_top.specs.Batches.{AnswersQuery, AreAnsweredAll, CoversBatch, IsBatchReply, IsRefusalText, PrintsEachAllRuns, PrintsEachShown, RepeatsQuery, WritesEach, asked_of}
+use Rattle.boom_top.specs.Places.{IsAnswered, IsPlaceReply}
+use Rattle.boom_top.specs.Printed.{TellsAllRuns}
 use Rattle.boom_top.specs.declared.status.Status.{Status}
 use Rattle.boom_top.specs.declared.status.Status.TheVariants.{Done, NotBatch}
 use Rattle.boom_top.proofs.Batched.{text_of-joined}
@@ -169,7 +169,7 @@ each_covered p well covered budget queries lines all old new wrote = record {
 
 -- what is done covers each run
 pub batch_covered : (p : LinkedProgram) → IsWellLinked p → IsCovered p → (old new : Option (List ℕ)) (lines : List (List ℕ)) → Appends old new (text_of lines)
-    → (budget : ℕ) (rest : List ℕ) → IsBatchReply p budget rest Done lines → (queries : List QueryParts) → AreQueries rest queries → PrintsEachAllRuns p queries old new
+    → (budget : ℕ) (rest : List ℕ) → IsBatchReply p budget rest Done lines → CoversBatch p rest old new
 batch_covered p well covered old new lines wrote budget rest reply queries are =
     each_covered p well covered budget queries lines (batch_answers p budget rest lines reply queries are) old new wrote
 

@@ -7,8 +7,7 @@ use Rattle.batch_join.specs.Told.{AreTold}
 use Rattle.batch_lines.specs.Queries.{QueryParts}
 use Rattle.report_text.proofs.Growing.{text_of-append}
 use Rattle.report_text.specs.Lines.{text_of}
-use Rattle.boom_top.specs.Batches.{Batch, IsOwnText, TellsNumber, TellsQuery}
-use Rattle.boom_top.specs.Replies.{AnswersQuery, AreAnsweredAll, asked_of}
+use Rattle.boom_top.specs.Batches.{AnswersQuery, AreAnsweredAll, Batch, IsOwnText, TellsNumber, TellsQuery, asked_of}
 use Rattle.boom_top.proofs.PointsToReply.{place_text}
 
 -- the lines of answers, one behind the other

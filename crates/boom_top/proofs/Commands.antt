@@ -10,10 +10,11 @@ use Rattle.report_text.specs.Answers.{IsAnswerText}
 use Rattle.report_text.specs.Lines.{text_of}
 use Rattle.explain_text.specs.Explanations.{IsExplainText}
 use Rattle.boom_top.specs.Demo.{IsDemoText, demo_asked}
+use Rattle.boom_top.specs.Demands.{HasAnswer}
 use Rattle.boom_top.specs.Evidence.{HasEvidence}
 use Rattle.boom_top.specs.Laws.{AsksWhy}
 use Rattle.boom_top.specs.Replies.{IsLinkedReply}
-use Rattle.boom_top.specs.Runs.{CoversAllRuns, HasAnswer}
+use Rattle.boom_top.specs.Runs.{CoversAllRuns}
 use Rattle.boom_top.specs.declared.status.Status.{Status}
 use Rattle.boom_top.specs.declared.status.Status.TheVariants.{Done}
 use Rattle.boom_top.proofs.AliasReply.{alias_covered, alias_enough, alias_evident, alias_ones}
@@ -72,9 +73,9 @@ module _ (p : LinkedProgram) (entry rest : List ℕ) where
 
     -- and there is evidence for it
     pub linked_evident : (q : Question) → IsLinkedReply p entry rest q Done lines → HasEvidence p rest q old new
-    linked_evident (points_to asked) reply = place_evident p old new lines wrote rest asked reply
-    linked_evident (explain asked) reply = explain_evident p old new lines wrote rest asked reply
-    linked_evident (alias asked) reply = alias_evident p old new lines wrote rest asked reply
+    linked_evident (points_to asked) reply = place_evident p old new lines wrote asked reply
+    linked_evident (explain asked) reply = explain_evident p old new lines wrote asked reply
+    linked_evident (alias asked) reply = alias_evident p old new lines wrote asked reply
     linked_evident (paths asked) reply = tt
     linked_evident (run asked) reply = tt
     linked_evident (replay budget) reply = replay_evident p well old new lines wrote budget rest reply

@@ -6,7 +6,7 @@ use Rattle.spds_rules.specs.declared.node.Node.{Node}
 use Rattle.query_core.proofs.Determined.{answer_one}
 use Rattle.report_text.specs.Lines.{text_of}
 use Rattle.boom_top.specs.Demo.{IsDemoText, demo_asked}
-use Rattle.boom_top.specs.Replies.{IsAnswered, IsPlaceReply}
+use Rattle.boom_top.specs.Places.{IsAnswered, IsPlaceReply}
 use Rattle.boom_top.proofs.PlaceReply.{place_ones}
 use Rattle.boom_top.proofs.Splits.{AreOne}
 

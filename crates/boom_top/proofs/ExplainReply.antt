@@ -1,5 +1,5 @@
 -- What `explain` is answered.
-use Rattle.std.proofs.Common.{◌≡◌, ℕ, ◌≤◌, ◌++◌, List, [], ◌∷◌, Option, inl, inr, length, subst, sym}
+use Rattle.std.proofs.Common.{◌≡◌, ℕ, ◌≤◌, ◌++◌, List, ◌∷◌, Option, inl, inr, length, subst, sym}
 use Rattle.std.specs.Io.KnownBytes.{Appends}
 use Rattle.lists.specs.Lists.{Counts}
 use Rattle.link_rules.specs.Linked.{LinkedProgram}
@@ -12,16 +12,16 @@ use Rattle.cert_rules.specs.Certified.{IsCertified}
 use Rattle.query_core.proofs.NamedPlaces.{place_one, place_there}
 use Rattle.query_core.proofs.Sound.{answer_sound}
 use Rattle.query_core.specs.Answers.{IsAnswerTo}
-use Rattle.boom_words.specs.Requests.{PointsTo, explain}
+use Rattle.boom_words.specs.Requests.{PointsTo}
 use Rattle.report_text.specs.Answers.{IsQueryNode, count_lines}
 use Rattle.report_text.specs.Lines.{text_of}
 use Rattle.cert_query.specs.Replays.{IsAccepted}
 use Rattle.explain_text.proofs.Asked.{place_named}
 use Rattle.explain_text.proofs.Found.{has_explained}
 use Rattle.explain_text.specs.Explanations.{IsExplainText, IsExplanation}
-use Rattle.boom_top.specs.Evidence.{HasEvidence}
-use Rattle.boom_top.specs.Replies.{IsAnswered, IsPlaceReply}
-use Rattle.boom_top.specs.Runs.{CoversAllRuns, PrintsAllRuns}
+use Rattle.boom_top.specs.Explain.{PrintsExplained}
+use Rattle.boom_top.specs.Places.{CoversPlace, IsAnswered, IsPlaceReply}
+use Rattle.boom_top.specs.Printed.{PrintsAllRuns}
 use Rattle.boom_top.specs.declared.status.Status.TheVariants.{Done, NoSuchPlace, OverBudget}
 use Rattle.boom_top.proofs.Lines.{has_middle}
 use Rattle.boom_top.proofs.PlaceReply.{place_ones}
@@ -68,7 +68,7 @@ module _ (p : LinkedProgram) (well : IsWellLinked p) (covered : IsCovered p) (ol
         ),
       )
 
-  pub explain_covered : (asked : PointsTo) → IsPlaceReply p asked (IsExplainText p) Done lines → CoversAllRuns p [] (explain asked) old new
+  pub explain_covered : (asked : PointsTo) → IsPlaceReply p asked (IsExplainText p) Done lines → CoversPlace p asked old new
   explain_covered asked (inl a) n place = absurd (place_there p asked.method asked.index asked.local n place a.0 a.1)
   explain_covered asked (inr (m, here, inl over)) n place = absurd (let no : Done ≡ OverBudget asked.budget = over.1.0 in cc)
   explain_covered asked (inr (m, here, inr a)) n place =
@@ -78,10 +78,10 @@ module _ (p : LinkedProgram) (well : IsWellLinked p) (covered : IsCovered p) (ol
 -- there is evidence for what is done
 module _ (p : LinkedProgram) (old new : Option (List ℕ)) (lines : List (List ℕ)) (wrote : Appends old new (text_of lines)) where
   -- each site of an answer is shown by the certificate that is printed with it
-  pub explain_evident : (rest : List ℕ) (asked : PointsTo) → IsPlaceReply p asked (IsExplainText p) Done lines → HasEvidence p rest (explain asked) old new
-  explain_evident rest asked (inl a) = absurd (let no : Done ≡ NoSuchPlace a.0 = a.2.0 in cc)
-  explain_evident rest asked (inr (m, here, inl over)) = absurd (let no : Done ≡ OverBudget asked.budget = over.1.0 in cc)
-  explain_evident rest asked (inr (m, here, inr a)) = record {
+  pub explain_evident : (asked : PointsTo) → IsPlaceReply p asked (IsExplainText p) Done lines → PrintsExplained p asked old new
+  explain_evident asked (inl a) = absurd (let no : Done ≡ NoSuchPlace a.0 = a.2.0 in cc)
+  explain_evident asked (inr (m, here, inl over)) = absurd (let no : Done ≡ OverBudget asked.budget = over.1.0 in cc)
+  explain_evident asked (inr (m, here, inr a)) = record {
     node = m;
     place = here;
     sites = a.0.sites;

@@ -1,5 +1,5 @@
 -- What `paths` is answered.
-use Rattle.std.proofs.Common.{◌≡◌, ℕ, ◌++◌, ◌⊎◌, List, [], ◌∷◌, ◌∙◌, Option, ap, arith, codes, inl, inr, length, subst, sym}
+use Rattle.std.proofs.Common.{◌≡◌, ℕ, ◌++◌, ◌⊎◌, List, ◌∷◌, ◌∙◌, Option, ap, arith, codes, inl, inr, length, subst, sym}
 use Rattle.std.specs.Io.KnownBytes.{Appends}
 use Rattle.link_rules.specs.Linked.{LinkedProgram}
 use Rattle.link_rules.specs.WellLinked.{IsInForm, IsWellLinked}
@@ -10,7 +10,7 @@ use Rattle.run_covers.specs.Covers.{IsCovered}
 use Rattle.query_core.proofs.NamedPlaces.{missing_one, place_one, place_there}
 use Rattle.query_core.specs.Places.{IsPlaceOf}
 use Rattle.query_core.specs.declared.places.Which.TheVariants as which
-use Rattle.boom_words.specs.Requests.{Paths, paths}
+use Rattle.boom_words.specs.Requests.{Paths}
 use Rattle.path_query.proofs.Determined.{fields_there, path_fields_one, path_over, path_within}
 use Rattle.path_query.proofs.OneAnswer.{path_answer_one}
 use Rattle.path_query.proofs.Sound.{path_sound}
@@ -19,8 +19,7 @@ use Rattle.path_query.specs.Paths.{IsPathAffordable, IsPathOver}
 use Rattle.report_text.specs.Answers.{IsSiteLine, count_lines}
 use Rattle.report_text.specs.Lines.{text_of}
 use Rattle.report_text.specs.Paths.{IsPathText}
-use Rattle.boom_top.specs.Paths.{IsFieldsReply, IsPathFrom, IsPathReply, IsPathTold, IsPathWithin}
-use Rattle.boom_top.specs.Runs.{CoversAllRuns, PrintsAllPaths}
+use Rattle.boom_top.specs.Paths.{CoversPath, IsFieldsReply, IsPathFrom, IsPathReply, IsPathTold, IsPathWithin, PrintsAllPaths}
 use Rattle.boom_top.specs.declared.status.Status.{Status}
 use Rattle.boom_top.specs.declared.status.Status.TheVariants.{Done, NoSuchPlace, OverBudget}
 use Rattle.boom_top.proofs.Lines.{has_middle}
@@ -136,7 +135,7 @@ module _ (p : LinkedProgram) (well : IsWellLinked p) (covered : IsCovered p) (as
   fields_covered n fields (inl a) = absurd (let no : Done ≡ OverBudget asked.budget = a.1.0 in cc)
   fields_covered n fields (inr a) = told_covered n fields a.0
 
-  pub path_covered : IsPathReply p asked Done lines → CoversAllRuns p [] (paths asked) old new
+  pub path_covered : IsPathReply p asked Done lines → CoversPath p asked old new
   path_covered (inl a) n fields place are = absurd (place_there p asked.method asked.index asked.local n place a.0 a.1)
   path_covered (inr (m, here, inl a)) n fields place are = absurd (fields_there p asked.fields fields are a.0)
   path_covered (inr (m, here, inr (others, these, a))) n fields place are =

@@ -11,8 +11,7 @@ use Rattle.query_core.specs.Answers.{IsAffordable, IsOver}
 use Rattle.query_core.specs.Places.{IsPlaceOf}
 use Rattle.boom_words.specs.Requests.{PointsTo}
 use Rattle.report_text.specs.Lines.{text_of}
-use Rattle.boom_top.specs.Replies.{IsAnswered, IsBudgetReply, IsPlaceReply}
-use Rattle.boom_top.specs.Runs.{IsWithin}
+use Rattle.boom_top.specs.Places.{IsAnswered, IsBudgetReply, IsPlaceReply, IsWithin}
 use Rattle.boom_top.specs.declared.status.Status.{Status}
 use Rattle.boom_top.specs.declared.status.Status.TheVariants.{Done, NoSuchPlace, OverBudget}
 use Rattle.boom_top.proofs.Splits.{AreOne, Refuses, ones, refused_by}

@@ -1,5 +1,5 @@
 -- What `points-to` is answered.
-use Rattle.std.proofs.Common.{◌≡◌, ℕ, ◌++◌, List, [], ◌∷◌, ◌∙◌, Option, ap, codes, inl, inr, length, subst, sym}
+use Rattle.std.proofs.Common.{◌≡◌, ℕ, ◌++◌, List, ◌∷◌, ◌∙◌, Option, ap, codes, inl, inr, length, subst, sym}
 use Rattle.std.specs.Io.KnownBytes.{Appends}
 use Rattle.link_rules.specs.Linked.{LinkedProgram}
 use Rattle.link_rules.specs.WellLinked.{IsInForm, IsWellLinked}
@@ -13,12 +13,12 @@ use Rattle.cert_laws.proofs.Complete.{answered_certified}
 use Rattle.query_core.proofs.Determined.{answer_one}
 use Rattle.query_core.proofs.NamedPlaces.{place_one, place_there}
 use Rattle.query_core.proofs.Sound.{answer_sound}
-use Rattle.boom_words.specs.Requests.{PointsTo, points_to}
+use Rattle.boom_words.specs.Requests.{PointsTo}
 use Rattle.report_text.specs.Answers.{IsAnswerText, IsSiteLine, count_lines}
 use Rattle.report_text.specs.Lines.{text_of}
-use Rattle.boom_top.specs.Evidence.{HasEvidence, IsEvident}
-use Rattle.boom_top.specs.Replies.{IsAnswered, IsPlaceReply}
-use Rattle.boom_top.specs.Runs.{CoversAllRuns, PrintsAllRuns, TellsAllRuns}
+use Rattle.boom_top.specs.Places.{CoversPlace, IsAnswered, IsPlaceReply}
+use Rattle.boom_top.specs.PointsTo.{IsEvident, PrintsShown}
+use Rattle.boom_top.specs.Printed.{PrintsAllRuns, TellsAllRuns}
 use Rattle.boom_top.specs.declared.status.Status.{Status}
 use Rattle.boom_top.specs.declared.status.Status.TheVariants.{Done, NoSuchPlace, OverBudget}
 use Rattle.boom_top.proofs.Lines.{has_middle}
@@ -74,7 +74,7 @@ module _ (p : LinkedProgram) (well : IsWellLinked p) (covered : IsCovered p) (ol
       let told = tells_covered p well covered lines budget n a count state number frame x o run holds is in
       (told.0, told.1, told.2, told.3, (text_of lines, wrote, told.4))
 
-  pub place_covered : (asked : PointsTo) → IsPlaceReply p asked (IsAnswerText p) Done lines → CoversAllRuns p [] (points_to asked) old new
+  pub place_covered : (asked : PointsTo) → IsPlaceReply p asked (IsAnswerText p) Done lines → CoversPlace p asked old new
   place_covered asked (inl a) n place = absurd (place_there p asked.method asked.index asked.local n place a.0 a.1)
   place_covered asked (inr (m, here, inl over)) n place = absurd (let no : Done ≡ OverBudget asked.budget = over.1.0 in cc)
   place_covered asked (inr (m, here, inr a)) n place =
@@ -88,10 +88,10 @@ evident p n o is = record { answered = is; shown = answered_certified p n o is }
 -- there is evidence for what is done
 module _ (p : LinkedProgram) (old new : Option (List ℕ)) (lines : List (List ℕ)) (wrote : Appends old new (text_of lines)) where
   -- each site of an answer is shown by some list of lines
-  pub place_evident : (rest : List ℕ) (asked : PointsTo) → IsPlaceReply p asked (IsAnswerText p) Done lines → HasEvidence p rest (points_to asked) old new
-  place_evident rest asked (inl a) = absurd (let no : Done ≡ NoSuchPlace a.0 = a.2.0 in cc)
-  place_evident rest asked (inr (m, here, inl over)) = absurd (let no : Done ≡ OverBudget asked.budget = over.1.0 in cc)
-  place_evident rest asked (inr (m, here, inr a)) = record {
+  pub place_evident : (asked : PointsTo) → IsPlaceReply p asked (IsAnswerText p) Done lines → PrintsShown p asked old new
+  place_evident asked (inl a) = absurd (let no : Done ≡ NoSuchPlace a.0 = a.2.0 in cc)
+  place_evident asked (inr (m, here, inl over)) = absurd (let no : Done ≡ OverBudget asked.budget = over.1.0 in cc)
+  place_evident asked (inr (m, here, inr a)) = record {
     node = m;
     place = here;
     sites = a.0.sites;

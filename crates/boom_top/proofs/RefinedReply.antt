@@ -19,8 +19,8 @@ use Rattle.refined_query.specs.Answers.{IsAnswerOver, IsDemandedBy, IsRefinedAff
 use Rattle.boom_words.specs.Requests.{Refined}
 use Rattle.report_text.specs.Answers.{IsRefinedText, IsSiteLine, count_lines, narrowed_line}
 use Rattle.report_text.specs.Lines.{text_of}
-use Rattle.boom_top.specs.Refined.{IsRefinedNodeReply, IsRefinedReply, IsRefinedTold, IsRefinedWithin, PrintsRefinedShown}
-use Rattle.boom_top.specs.Runs.{PrintsAllRuns}
+use Rattle.boom_top.specs.Printed.{PrintsAllRuns}
+use Rattle.boom_top.specs.Refined.{CoversRefined, IsRefinedNodeReply, IsRefinedReply, IsRefinedTold, IsRefinedWithin, PrintsRefinedShown}
 use Rattle.boom_top.specs.declared.status.Status.{Status}
 use Rattle.boom_top.specs.declared.status.Status.TheVariants.{Done, NoSuchPlace, OverBudget}
 use Rattle.boom_top.proofs.Lines.{has_behind}
@@ -123,7 +123,7 @@ module _ (p : LinkedProgram) (well : IsWellLinked p) where
       )
 
   pub refined_covered : IsCovered p → (asked : Refined) (old new : Option (List ℕ)) (lines : List (List ℕ)) → Appends old new (text_of lines)
-      → IsRefinedReply p asked Done lines → (n : Node) → IsPlaceOf p asked.method asked.index asked.local n → PrintsAllRuns p n old new
+      → IsRefinedReply p asked Done lines → CoversRefined p asked old new
   refined_covered covered asked old new lines wrote (inl a) n place = absurd (place_there p asked.method asked.index asked.local n place a.0 a.1)
   refined_covered covered asked old new lines wrote (inr (m, here, inl over)) n place = absurd (let no : Done ≡ OverBudget asked.budget = over.1.0 in cc)
   refined_covered covered asked old new lines wrote (inr (m, here, inr a)) n place =

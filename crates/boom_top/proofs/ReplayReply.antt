@@ -20,14 +20,11 @@ use Rattle.cert_laws.proofs.Givens.{cites_one}
 use Rattle.cert_laws.proofs.OneFact.{given_one}
 use Rattle.cert_laws.proofs.Sound.{certified_answered}
 use Rattle.query_core.proofs.Determined.{counts_one}
-use Rattle.boom_words.specs.Requests.{replay}
 use Rattle.report_text.specs.Answers.{IsAcceptedText}
 use Rattle.report_text.specs.Lines.{text_of}
 use Rattle.cert_query.proofs.Outcomes.{over_accepted, rejected_accepted, rejected_at_one, rejected_over}
 use Rattle.cert_query.specs.Replays.{IsAccepted}
-use Rattle.boom_top.specs.Evidence.{HasEvidence}
-use Rattle.boom_top.specs.Replies.{IsCertificateReply, IsClaimTold, IsReplayReply}
-use Rattle.boom_top.specs.Runs.{IsCertificateOf}
+use Rattle.boom_top.specs.Replays.{IsCertificateOf, IsCertificateReply, IsClaimTold, IsReplayReply, PrintsCertified}
 use Rattle.boom_top.specs.declared.status.Status.{Status}
 use Rattle.boom_top.specs.declared.status.Status.TheVariants.{Done, NotCertificate, OverBudget, Rejected}
 use Rattle.boom_top.proofs.OneText.{query_line_one, worded_one}
@@ -120,7 +117,7 @@ module _ (p : LinkedProgram) (s : Status) (lines : List (List ℕ)) where
 -- there is evidence for what is done
 module _ (p : LinkedProgram) (well : IsWellLinked p) (old new : Option (List ℕ)) (lines : List (List ℕ)) (wrote : Appends old new (text_of lines)) where
   -- what a certificate claims is shown by its own lines
-  pub replay_evident : (budget : ℕ) (rest : List ℕ) → IsReplayReply p budget rest Done lines → HasEvidence p rest (replay budget) old new
+  pub replay_evident : (budget : ℕ) (rest : List ℕ) → IsReplayReply p budget rest Done lines → PrintsCertified p rest old new
   replay_evident budget rest (inl a) = absurd (let no : Done ≡ NotCertificate a.0 = a.2.0 in cc)
   replay_evident budget rest (inr (c, spells, inl a)) = absurd (let no : Done ≡ Rejected a.0 = a.2.0 in cc)
   replay_evident budget rest (inr (c, spells, inr (inl a))) = absurd (let no : Done ≡ OverBudget budget = a.1.0 in cc)

@@ -15,7 +15,7 @@ use Rattle.report_text.specs.Texts.{IsSiteText}
 use Rattle.run_report.proofs.OneRun.{named_one}
 use Rattle.run_report.specs.Named.{digits_of}
 use Rattle.run_report.specs.Reports.{AreEndLines, AreEndLinesBy, AreLocalLines, AreRunningLines, IsAtLine, IsFlightText, IsLocalLine, IsObjectText, IsRunText, IsValueText, LocalLines, none, set, unset}
-use Rattle.boom_top.specs.Replies.{IsRunReply}
+use Rattle.boom_top.specs.RunReport.{IsRunReply}
 use Rattle.boom_top.proofs.OneText.{place_text_one, site_text_one}
 use Rattle.boom_top.proofs.Splits.{AreOne, ones}
 

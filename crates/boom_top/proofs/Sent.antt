@@ -11,10 +11,11 @@ use Rattle.report_text.specs.Lines.{text_of}
 use Rattle.boom_words.specs.Requests.{Request, Typestate, IsQuestion, IsRequest, typestate}
 use Rattle.boom_words.proofs.Words.{request_one}
 use Rattle.boom_top.specs.Parts.{IsGiven, Makes, Sends, status_of}
+use Rattle.boom_top.specs.Demands.{IsAnswerable}
 use Rattle.boom_top.specs.Evidence.{HasEvidence}
 use Rattle.boom_top.specs.Queries.{Accepted, TakesAtMost, rest_in, source_of}
 use Rattle.boom_top.specs.Replies.{GivesUp, IsReply, IsReplyTo}
-use Rattle.boom_top.specs.Runs.{CoversAllRuns, IsAnswerable}
+use Rattle.boom_top.specs.Runs.{CoversAllRuns}
 use Rattle.boom_top.specs.declared.query.NoReply.{NoReply}
 use Rattle.boom_top.specs.declared.query.NoReply.TheVariants as none
 use Rattle.boom_top.specs.declared.query.Reply.{Reply}

@@ -27,9 +27,8 @@ use Rattle.query_core.proofs.Ordered.{ordered_one}
 use Rattle.boom_words.specs.Requests.{Typestate}
 use Rattle.report_text.specs.Lines.{text_of}
 use Rattle.track_report.specs.Reports.{IsUnsafeLine, verdict_lines}
-use Rattle.boom_top.specs.Replies.{IsJudged, IsProtocolReply, IsTypestateReply}
-use Rattle.boom_top.specs.Runs.{IsJudgeable}
 use Rattle.boom_top.specs.Safety.{SaysSafe}
+use Rattle.boom_top.specs.Typestates.{IsJudgeable, IsJudged, IsProtocolReply, IsTypestateReply}
 use Rattle.boom_top.specs.declared.status.Status.{Status}
 use Rattle.boom_top.specs.declared.status.Status.TheVariants.{Done, NotProtocol, OverBudget}
 use Rattle.boom_top.proofs.Ending.{says_none}

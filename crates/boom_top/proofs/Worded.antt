@@ -9,7 +9,7 @@ use Rattle.protocol_words.specs.declared.error.ProtocolError.TheVariants as prot
 use Rattle.protocol_words.specs.Laws.{IsOutcome, Outcome, breaks_at, crowds_at, is_protocol, lacks_class}
 use Rattle.protocol_words.proofs.Outcomes.{outcome_one}
 use Rattle.track_rules.specs.Protocols.{IsProtocolOf, ProtocolParts}
-use Rattle.boom_top.specs.Replies.{IsNoProtocolFor}
+use Rattle.boom_top.specs.Typestates.{IsNoProtocolFor}
 
 -- what a word is that is no protocol
 abbrev outcome_of : ProtocolError → Outcome

@@ -1,16 +1,24 @@
--- The status and the lines with which a query of a path is answered: the checks behind linking, in their order.
-use Rattle.std.specs.Prelude.{◌≡◌, ℕ, ◌≤◌, ◌⊎◌, List}
+-- What `paths` is answered: the status and the lines, by the checks behind linking in their order, when it is answered, and what it covers.
+use Rattle.std.specs.Prelude.{◌≡◌, ℕ, ◌≤◌, ◌⊎◌, List, Option, Some, slice_get}
 use Rattle.link_rules.specs.Linked.{LinkedProgram}
 use Rattle.link_sites.specs.declared.site.Site.{Site}
+use Rattle.spds_rules.specs.Nodes.{at}
 use Rattle.spds_rules.specs.declared.node.Node.{Node}
+use Rattle.spds_rules.specs.declared.node.Var.TheVariants.{Local}
+use Rattle.step_rules.specs.Runs.{Run}
+use Rattle.step_rules.specs.Slots.{Path}
+use Rattle.step_rules.specs.States.{HeapObject, State, place_of}
+use Rattle.step_rules.specs.declared.parts.Slot.TheVariants as slot
+use Rattle.query_core.specs.Places.{IsMissing, IsPlaceOf}
 use Rattle.query_core.specs.declared.places.Which.{Which}
 use Rattle.query_core.specs.declared.places.Which.TheVariants.{Field}
-use Rattle.query_core.specs.Places.{IsMissing, IsPlaceOf}
+use Rattle.boom_words.specs.Requests.{Paths}
 use Rattle.path_query.specs.Fields.{ArePathFields, LacksField}
 use Rattle.path_query.specs.Paths.{IsPathAffordable, IsPathAnswer, IsPathOver}
+use Rattle.report_text.specs.Answers.{IsSiteLine}
 use Rattle.report_text.specs.Lines.{text_of}
 use Rattle.report_text.specs.Paths.{IsPathText}
-use Rattle.boom_words.specs.Requests.{Paths}
+use Rattle.boom_top.specs.Printed.{Prints}
 use Rattle.boom_top.specs.Refusals.{IsRefusedBy}
 use Rattle.boom_top.specs.declared.status.Status.{Status}
 use Rattle.boom_top.specs.declared.status.Status.TheVariants.{Done, NoSuchPlace, OverBudget}
@@ -43,3 +51,15 @@ IsPathReply p asked status lines =
 abbrev pub IsPathWithin : LinkedProgram → Paths → Type 0
 IsPathWithin p asked = (n : Node) × (fields : List ℕ) × IsPlaceOf p asked.method asked.index asked.local n × ArePathFields p asked.fields fields
     × IsPathAffordable p n fields asked.budget
+
+-- In each run, of any length: where a frame, the top one or one that waits, stands at the node's place and the fields lead from what its local holds to an
+-- object, whether a load of them is demanded or not, the line of the object's site is among those that were written.
+abbrev pub PrintsAllPaths : LinkedProgram → Node → List ℕ → Option (List ℕ) → Option (List ℕ) → Type 0
+PrintsAllPaths p n fields old new = (count : ℕ) (s : State) (number x o : ℕ) → Run p count s → (path : Path s number (slot.Local x) fields o)
+    → n ≡ at (place_of path.frame) (Local x)
+    → (object : HeapObject) × (slice_get s.heap o ≡ Some object) × (line : List ℕ) × IsSiteLine p object.site line × Prints old new line
+
+-- what is told of the path covers each run
+abbrev pub CoversPath : LinkedProgram → Paths → Option (List ℕ) → Option (List ℕ) → Type 0
+CoversPath p asked old new = (n : Node) (fields : List ℕ) → IsPlaceOf p asked.method asked.index asked.local n → ArePathFields p asked.fields fields
+    → PrintsAllPaths p n fields old new

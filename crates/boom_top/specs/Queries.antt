@@ -1,14 +1,13 @@
 -- What a request asks of a text: the program that it spells and that is linked.
-use Rattle.std.specs.Prelude.{ℕ, ◌≤◌, List, [], codes, length}
-use Rattle.std.specs.declared.option.Option.{Option}
 use Rattle.std.specs.Io.KnownBytes.{Consumes}
+use Rattle.std.specs.Prelude.{◌≡◌, ℕ, ◌≤◌, ◌⊎◌, List, [], Option, Some, codes, length}
 use Rattle.jim_ast.specs.declared.syntax.Program.{Program}
 use Rattle.jim_parse.specs.Derives.{Spells}
 use Rattle.jim_prelude.specs.Text.{prelude_text}
 use Rattle.link_rules.specs.Conditions.{DeclaresNine}
 use Rattle.link_rules.specs.Linked.{LinkedProgram, Links}
-use Rattle.boom_words.specs.Requests.{Question, Request, batch, demo, replay}
 use Rattle.demo_text.specs.Demo.{demo_source}
+use Rattle.boom_words.specs.Requests.{IsRequest, Question, Request, batch, demo, replay}
 use Rattle.batch_lines.specs.Cuts.{before_mark, behind_mark, lines_of}
 
 -- the most bytes that are read
@@ -71,3 +70,11 @@ pub record Accepted (r : Request) (bytes : List ℕ) : Type 0 where
   pub spelled : Spells (program_in r.question (source_of r.question bytes)) input
   pub linked : LinkedProgram
   pub links : LinksTo input r.entry linked
+
+-- the words ask nothing that is read: they are no command, or the demo's
+abbrev pub ReadsNothing : List (List ℕ) → Type 0
+ReadsNothing words = (r : Request) → IsRequest words r → IsDemo r.question
+
+-- the words are about these bytes: those that the source has left, where it tells them, or any, whatever it tells, where nothing is read
+abbrev pub AreAbout : List (List ℕ) → Option (List ℕ) → List ℕ → Type 0
+AreAbout words left bytes = (left ≡ Some bytes) ⊎ ReadsNothing words

@@ -1,20 +1,20 @@
--- What a query is answered where calls are refined.
-use Rattle.std.specs.Prelude.{◌≡◌, ℕ, ◌≤◌, ◌⊎◌, List}
-use Rattle.std.specs.declared.option.Option.{Option}
+-- What `refined` is answered: the status and the lines, when it is answered, what it covers, and its evidence.
 use Rattle.std.specs.Io.KnownBytes.{Appends}
+use Rattle.std.specs.Prelude.{◌≡◌, ℕ, ◌≤◌, ◌⊎◌, List, Option}
 use Rattle.lists.specs.Lists.{Has}
 use Rattle.link_rules.specs.Linked.{LinkedProgram}
 use Rattle.link_sites.specs.declared.site.Site.{Site}
-use Rattle.spds_rules.specs.declared.node.Node.{Node}
 use Rattle.spds_rules.specs.Answers.{IsAnswered}
 use Rattle.spds_rules.specs.Demand.{about}
+use Rattle.spds_rules.specs.declared.node.Node.{Node}
 use Rattle.cert_laws.specs.Shown.{IsShown}
-use Rattle.query_core.specs.declared.places.Which.{Which}
 use Rattle.query_core.specs.Places.{IsMissing, IsPlaceOf}
+use Rattle.query_core.specs.declared.places.Which.{Which}
 use Rattle.refined_query.specs.Answers.{IsRefinedAffordable, IsRefinedAnswer, IsRefinedOver}
+use Rattle.boom_words.specs.Requests.{Refined}
 use Rattle.report_text.specs.Answers.{IsRefinedText}
 use Rattle.report_text.specs.Lines.{text_of}
-use Rattle.boom_words.specs.Requests.{Refined}
+use Rattle.boom_top.specs.Printed.{PrintsAllRuns}
 use Rattle.boom_top.specs.Refusals.{IsRefusedBy}
 use Rattle.boom_top.specs.declared.status.Status.{Status}
 use Rattle.boom_top.specs.declared.status.Status.TheVariants.{Done, NoSuchPlace, OverBudget}
@@ -42,6 +42,10 @@ IsRefinedReply p asked status lines =
 -- the place is there in the program that was read, and the budget is at least the size of its demand over the program that is left
 abbrev pub IsRefinedWithin : LinkedProgram → Refined → Type 0
 IsRefinedWithin p asked = (n : Node) × IsPlaceOf p asked.method asked.index asked.local n × IsRefinedAffordable p asked.rounds asked.budget n
+
+-- the answer about the place covers each run of the program that was read
+abbrev pub CoversRefined : LinkedProgram → Refined → Option (List ℕ) → Option (List ℕ) → Type 0
+CoversRefined p asked old new = (n : Node) → IsPlaceOf p asked.method asked.index asked.local n → PrintsAllRuns p n old new
 
 -- The answer about the place was written, and each site that it prints is evident over the program that is left: both systems have it at the node, and some
 -- list of lines is certified.

@@ -7,7 +7,8 @@ ghost use Rattle.batch_lines.specs.Queries.{parts_of};
 ghost use Rattle.report_text.specs.Answers.{IsAnswerText};
 ghost use Rattle.report_text.specs.Lines.{text_of};
 ghost use Rattle.boom_top.specs.Parts.{Makes};
-ghost use Rattle.boom_top.specs.Replies.{AreAnsweredAll, IsBatchReply, IsPlaceReply, asked_of};
+ghost use Rattle.boom_top.specs.Batches.{AreAnsweredAll, IsBatchReply, asked_of};
+ghost use Rattle.boom_top.specs.Places.{IsPlaceReply};
 
 use super::query::{Reply, answered, not_answered, refused};
 use super::status::Status;

@@ -1,5 +1,5 @@
 use Rattle.std.proofs.Common.{Err, ap, inl, refl}
-use Rattle.boom_top.specs.Replies.{IsBatchReply}
+use Rattle.boom_top.specs.Batches.{IsBatchReply}
 use Rattle.boom_top.specs.declared.status.Status.TheVariants.{NotBatch}
 use Rattle.boom_top.proofs.Replied.{told}
 use Rattle.boom_top.proofs.batches.batch_reply.Goals as goal

@@ -2,7 +2,7 @@ use Rattle.std.proofs.Common.{Err, ap}
 use Rattle.query_core.proofs.NamedPlaces.{place_one}
 use Rattle.report_text.specs.Answers.{IsAnswerText}
 use Rattle.batch_lines.specs.Queries.{parts_of}
-use Rattle.boom_top.specs.Replies.{asked_of}
+use Rattle.boom_top.specs.Batches.{asked_of}
 use Rattle.boom_top.proofs.Answered.{answer_lines, place_refused, place_told}
 use Rattle.boom_top.proofs.Both.{IfOk-one}
 use Rattle.boom_top.proofs.Noded.{answer_sites}

@@ -2,7 +2,7 @@ use Rattle.std.proofs.Common.{List, ℕ, [], ◌∷◌, ◌++◌, Err, ap, codes
 use Rattle.std.specs.Fmt.{decimal}
 use Rattle.report_text.specs.Answers.{IsAcceptedText, IsQueryNode}
 use Rattle.boom_top.specs.Refusals.{refusal}
-use Rattle.boom_top.specs.Replies.{IsReplayReply}
+use Rattle.boom_top.specs.Replays.{IsReplayReply}
 use Rattle.boom_top.specs.declared.status.Status.TheVariants as status
 use Rattle.boom_top.proofs.Both.{IfOk-both}
 use Rattle.boom_top.proofs.Noded.{certified_site}

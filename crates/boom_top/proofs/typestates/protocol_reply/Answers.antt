@@ -1,7 +1,7 @@
 use Rattle.std.proofs.Common.{List, ℕ, [], ◌∷◌, ◌++◌, Err, ap, length, subst, inl, inr}
 use Rattle.track_report.specs.Reports.{IsVerdictText, verdict_lines}
 use Rattle.boom_top.specs.Refusals.{refusal}
-use Rattle.boom_top.specs.Replies.{IsProtocolReply}
+use Rattle.boom_top.specs.Typestates.{IsProtocolReply}
 use Rattle.boom_top.specs.declared.status.Status.TheVariants as status
 use Rattle.boom_top.proofs.Both.{IfOk-both}
 use Rattle.boom_top.proofs.Replied.{told}

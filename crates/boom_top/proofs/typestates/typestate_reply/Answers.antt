@@ -6,7 +6,7 @@ use Rattle.protocol_words.specs.Refused.{IsRefusedFor}
 use Rattle.boom_words.specs.Commands.{typestate_of}
 use Rattle.boom_top.specs.Parts.{Tells}
 use Rattle.boom_top.specs.Refusals.{refusal}
-use Rattle.boom_top.specs.Replies.{IsNoProtocolFor, IsProtocolReply, IsTypestateReply}
+use Rattle.boom_top.specs.Typestates.{IsNoProtocolFor, IsProtocolReply, IsTypestateReply}
 use Rattle.boom_top.specs.declared.query.Reply.{Reply}
 use Rattle.boom_top.specs.declared.status.Status.TheVariants as status
 use Rattle.boom_top.proofs.Both.{IfOk-both}
