@@ -10,7 +10,8 @@ ghost use Rattle.boom_top.specs.Parts.{Makes};
 ghost use Rattle.boom_top.specs.Batches.{AreAnsweredAll, IsBatchReply, asked_of};
 ghost use Rattle.boom_top.specs.Places.{IsPlaceReply};
 
-use super::query::{Reply, answered, not_answered, refused};
+use super::places::answered;
+use super::query::{Reply, not_answered, refused};
 use super::status::Status;
 use batch_join::{Ask, Pass, Text, Texts, ask_all};
 use batch_lines::{BatchError, BatchQuery, read_queries};

@@ -1,5 +1,5 @@
 use Rattle.explain_text.proofs.Asked.{place_named}
-use Rattle.boom_top.proofs.query.answered.Goals as goal
+use Rattle.boom_top.proofs.places.answered.Goals as goal
 
 pub answer_text-requires-clause-target : goal.answer_text-requires-clause-target
 answer_text-requires-clause-target c =

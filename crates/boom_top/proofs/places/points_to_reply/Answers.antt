@@ -5,7 +5,7 @@ use Rattle.boom_words.specs.Commands.{points_to_of}
 use Rattle.boom_top.proofs.Answered.{answer_lines, place_refused, place_told}
 use Rattle.boom_top.proofs.Both.{IfOk-one}
 use Rattle.boom_top.proofs.Noded.{answer_sites}
-use Rattle.boom_top.proofs.query.points_to_reply.Goals as goal
+use Rattle.boom_top.proofs.places.points_to_reply.Goals as goal
 
 pub answered-requires-clause-place : goal.answered-requires-clause-place
 answered-requires-clause-place g c = let a = c.in-Ok.ensures.answer in (a.0, a.1)

@@ -1,5 +1,5 @@
 use Rattle.query_core.proofs.NamedPlaces.{place_there}
-use Rattle.boom_top.proofs.query.named.Goals as goal
+use Rattle.boom_top.proofs.places.named.Goals as goal
 
 pub unreachable-requires : goal.unreachable-requires
 unreachable-requires c =
