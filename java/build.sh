@@ -4,56 +4,93 @@
 # usage: java/build.sh         compiles into java/out
 #        java/build.sh test    compiles, and runs the tests; TESTS may be a pattern of their classes
 #
-# It needs Java 17 and Debian's packages of ASM, picocli, Jackson and, for the tests, JUnit 5. Where one isn't there it is named, with status 3; with CI
-# set it is installed by apt-get. The tests ask the program that BOOMER names, else the one that ./boomer has made.
+# It needs Java 17 and Debian's packages of ASM, picocli, Jackson and, for the tests, JUnit 5, whose jars are looked for in /usr/share/java, or where JARS
+# says. Where one isn't there its package is named, with status 3; with CI set it is installed first by apt-get. The tests ask the program that BOOMER names,
+# else the one that ./boomer has made. What goes on is said on standard error, the result on standard output, and all of it stays in java/out/tests.log.
 set -euo pipefail
 top=$(cd "$(dirname "${BASH_SOURCE[0]}")" && pwd)
 out=$top/out
-jars=/usr/share/java
+export JARS=${JARS:-/usr/share/java}
+
+# Each package that is needed, with those of its jars that are.
+for_main='libasm-java asm asm-tree asm-analysis asm-commons
+libpicocli-java picocli
+libjackson2-databind-java jackson-databind
+libjackson2-core-java jackson-core
+libjackson2-annotations-java jackson-annotations'
+for_tests='junit5 junit-jupiter-api junit-jupiter-engine junit-jupiter-params junit-platform-commons junit-platform-engine junit-platform-launcher junit-platform-console junit-platform-reporting
+libopentest4j-java opentest4j
+libopentest4j-reporting-java opentest4j-reporting-events opentest4j-reporting-schema
+libapiguardian-java apiguardian-api'
+needed=$for_main
+if [ "${1:-}" = test ]; then needed=$for_main$'\n'$for_tests; fi
 
 say() {
   printf 'java/build.sh: %s\n' "$*" >&2
 }
 
-# What a package gives: a file of it, and its name.
-needed=(
-  "$jars/asm.jar libasm-java"
-  "$jars/picocli.jar libpicocli-java"
-  "$jars/jackson-databind.jar libjackson2-databind-java"
-)
-if [ "${1:-}" = test ]; then needed+=("$jars/junit-platform-console.jar junit5"); fi
+# ---- What is needed
 
+# Whether there is a compiler for Java 17.
+has_javac() {
+  local version
+  version=$(javac -version 2>&1) || return 1
+  version=${version#javac }
+  [ "${version%%.*}" -ge 17 ] 2> /dev/null
+}
+
+# The packages that aren't there, in one line.
 missing() {
-  command -v javac > /dev/null || echo openjdk-17-jdk-headless
-  local each
-  for each in "${needed[@]}"; do
-    [ -e "${each% *}" ] || echo "${each#* }"
+  local package jars jar all=()
+  has_javac || all+=(openjdk-17-jdk-headless)
+  while read -r package jars; do
+    for jar in $jars; do
+      if [ ! -e "$JARS/$jar.jar" ]; then
+        all+=("$package")
+        break
+      fi
+    done
+  done <<< "$needed"
+  echo "${all[*]}"
+}
+
+# Installs packages. A mirror may fail for a moment, so it is tried three times.
+install() {
+  local try as_root=(env DEBIAN_FRONTEND=noninteractive timeout 240 apt-get -qq -o DPkg::Lock::Timeout=60)
+  if [ "$(id -u)" -ne 0 ]; then as_root=(sudo -n "${as_root[@]}"); fi
+  for try in 1 2 3; do
+    say "installs $* (try $try of 3)"
+    if { "${as_root[@]}" update && "${as_root[@]}" install -y --no-install-recommends "$@"; } > "$out/apt.log" 2>&1; then return; fi
+    tail -n 5 "$out/apt.log" >&2
+    if [ "$try" -lt 3 ]; then sleep $((try * 5)); fi
   done
 }
 
-wanted=$(missing)
-if [ -n "$wanted" ]; then
-  if [ -z "${CI:-}" ]; then
-    say "these Debian packages are missing: ${wanted//$'\n'/ }"
-    exit 3
-  fi
-  say "installs ${wanted//$'\n'/ }"
-  root=()
-  if [ "$(id -u)" -ne 0 ]; then root=(sudo); fi
-  "${root[@]}" apt-get update -qq
+mkdir -p "$out"
+lacks=$(missing)
+if [ -n "$lacks" ] && [ -n "${CI:-}" ]; then
   # shellcheck disable=SC2086
-  DEBIAN_FRONTEND=noninteractive "${root[@]}" apt-get install -y -qq --no-install-recommends $wanted > /dev/null
+  install $lacks
+  lacks=$(missing)
+fi
+if [ -n "$lacks" ]; then
+  say "these Debian packages are missing: $lacks"
+  exit 3
 fi
 
+# The jars of packages, as a path.
 path() {
+  local package jars jar all=()
+  while read -r package jars; do
+    for jar in $jars; do all+=("$JARS/$jar.jar"); done
+  done <<< "$1"
   local IFS=:
-  echo "$*"
+  echo "${all[*]}"
 }
 
-libraries=$(path "$jars"/asm{,-tree,-analysis,-commons}.jar "$jars/picocli.jar" \
-  "$jars"/jackson-{annotations,core,databind}.jar)
-tests=$(path "$jars"/junit-jupiter-{api,engine,params}.jar "$jars"/junit-platform-{commons,engine,launcher,console,reporting}.jar \
-  "$jars"/opentest4j{,-reporting-events,-reporting-schema}.jar "$jars/apiguardian-api.jar" "$jars/picocli.jar")
+libraries=$(path "$for_main")
+
+# ---- Compiling
 
 # Whether the folder of classes is older than a source.
 is_old() {
@@ -63,6 +100,7 @@ is_old() {
 # Compiles the sources below a folder into a folder of classes: compile TO FROM OPTION..
 compile() {
   local to=$1 from=$2
+  say "compiles java/${from#"$top/"}"
   rm -rf "$to"
   mkdir -p "$to"
   find "$from" -name '*.java' -print0 | LC_ALL=C sort -z | xargs -0 javac -encoding UTF-8 -Xlint:all,-processing,-path -d "$to" "${@:3}"
@@ -70,26 +108,33 @@ compile() {
 }
 
 if is_old "$out/main" "$top/src/main"; then compile "$out/main" "$top/src/main/java" --release 17 -cp "$libraries"; fi
-if [ -d "$top/stubs" ] && is_old "$out/stubs" "$top/stubs"; then
+if is_old "$out/stubs" "$top/stubs"; then
   compile "$out/stubs" "$top/stubs" --patch-module "java.base=$top/stubs" -g -XDstringConcat=inline -Xlint:none
 fi
 printf '%s\n' "$libraries" > "$out/libraries"
 if [ "${1:-}" != test ]; then exit 0; fi
 
 for folder in "$top"/programs/*/; do
-  name=$(basename "$folder")
-  if is_old "$out/programs/$name" "$folder"; then compile "$out/programs/$name" "$folder" --release 17 -g -Xlint:none; fi
+  folder=${folder%/}
+  to=$out/programs/${folder##*/}
+  if is_old "$to" "$folder"; then compile "$to" "$folder" --release 17 -g -Xlint:none; fi
 done
+classes=$out/main:$out/test:$libraries:$(path "$for_tests")
 if is_old "$out/test" "$top/src/test" "$top/src/main"; then
-  compile "$out/test" "$top/src/test/java" --release 17 -cp "$out/main:$libraries:$tests"
+  compile "$out/test" "$top/src/test/java" --release 17 -cp "$classes"
+  cp -r "$top/src/test/resources/." "$out/test/"
 fi
+
+# ---- The tests
+
+say 'runs the tests'
 status=0
 cd "$top"
-BOOMER_JAVA=$top java -cp "$out/main:$out/test:$libraries:$tests" org.junit.platform.console.ConsoleLauncher --disable-banner \
-  --scan-classpath "$out/test" --include-classname "${TESTS:-.*Test}" --details tree > "$out/tests.log" 2>&1 || status=$?
+BOOMER_JAVA=$top java -cp "$classes" org.junit.platform.console.ConsoleLauncher --disable-banner --fail-if-no-tests --details summary \
+  --config junit.jupiter.extensions.autodetection.enabled=true --config junit.jupiter.execution.timeout.default=10m \
+  --scan-classpath "$out/test" --include-classname "${TESTS:-.*Test}" > "$out/tests.log" || status=$?
 cat "$out/tests.log"
 passed=$(sed -nE 's/^\[ +([0-9]+) tests successful .*/\1/p' "$out/tests.log")
 failed=$(sed -nE 's/^\[ +([0-9]+) tests failed .*/\1/p' "$out/tests.log")
 echo "${passed:-0} passed, ${failed:-1} failed"
-if [ "$status" -eq 0 ] && [ "${passed:-0}" -eq 0 ]; then status=1; fi
 exit "$status"
