@@ -16,6 +16,8 @@ public final class Kept {
         return ALL[0];
     }
 
-    /** Moves what is kept; its body is made when the classes of the text are known. */
-    public static void mix() { }
+    /** Moves what is kept; its body is made when the classes of the text are known, and calls the others. */
+    public static void mix() {
+        put(any());
+    }
 }

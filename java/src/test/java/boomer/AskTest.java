@@ -150,9 +150,11 @@ final class AskTest {
         Ran variable = ask("M.java:15", "zz");
         assertTrue(variable.err.contains("has no variable zz; near are z,"), variable.err);
         Ran file = ask("N.java:1", "x");
-        assertTrue(file.err.contains("no class that a run may reach is of this source file; near are M.java"), file.err);
+        assertTrue(file.err.contains("no class that a run may reach is of this source file; near are M.java"),
+                file.err);
         Ran unreached = ask("M.java:29", "u");
-        assertTrue(unreached.err.contains("no run from the entry reaches <M: void unused(java.lang.Object)>"), unreached.err);
+        assertTrue(unreached.err.contains("no run from the entry reaches <M: void unused(java.lang.Object)>"),
+                unreached.err);
         Ran field = ask("M.java:22", "a.w");
         assertTrue(field.err.contains("M$A has no field w; near are v"), field.err);
     }

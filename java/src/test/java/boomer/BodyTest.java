@@ -9,8 +9,8 @@ import org.junit.jupiter.api.Test;
 /** The texts of small methods, found by hand. */
 final class BodyTest {
     private static List<String> of(String members, String method) throws Exception {
-        String text = Compiled.of("T.java", "class T { static Object f; Object g; static Object id(Object o) { return o; } "
-                + members + " }").jimple("T");
+        String text = Compiled.of("T.java", "class T { static Object f; Object g; "
+                + "static Object id(Object o) { return o; } " + members + " }").jimple("T");
         return Compiled.statements(text, method);
     }
 
@@ -47,16 +47,16 @@ final class BodyTest {
 
     @Test
     void anArgumentIsReadBeforeItIsAssigned() throws Exception {
-        assertEquals(List.of("a := @parameter0: java.lang.Object", "b := @parameter1: java.lang.Object", "$r1 = a", "a#2 = b",
-                "staticinvoke <T: void g(java.lang.Object,java.lang.Object)>($r1, b)", "return"),
+        assertEquals(List.of("a := @parameter0: java.lang.Object", "b := @parameter1: java.lang.Object", "$r1 = a",
+                "a#2 = b", "staticinvoke <T: void g(java.lang.Object,java.lang.Object)>($r1, b)", "return"),
                 of("static void g(Object x, Object y) { } static void m(Object a, Object b) { g(a, a = b); }", "m"));
     }
 
     @Test
     void fieldsAndElements() throws Exception {
         assertEquals(List.of("this := @this: T", "a := @parameter0: java.lang.Object[]", "$r1 = a[0]",
-                "this.<T: java.lang.Object g> = $r1", "$r2 = this.<T: java.lang.Object g>", "<T: java.lang.Object f> = $r2",
-                "$r3 = <T: java.lang.Object f>", "a[1] = $r3", "return"),
+                "this.<T: java.lang.Object g> = $r1", "$r2 = this.<T: java.lang.Object g>",
+                "<T: java.lang.Object f> = $r2", "$r3 = <T: java.lang.Object f>", "a[1] = $r3", "return"),
                 of("void m(Object[] a) { g = a[0]; f = g; a[1] = f; }", "m"));
     }
 
@@ -73,22 +73,24 @@ final class BodyTest {
                 "x = staticinvoke <T: java.lang.Object id(java.lang.Object)>(a)", "label2:", "goto label4", "label3:",
                 "e := @caughtexception", "x = e", "label4:", "return x",
                 "catch java.lang.RuntimeException from label1 to label2 with label3"),
-                of("static Object m(Object a) { Object x; try { x = id(a); } catch (RuntimeException e) { x = e; } return x; }",
-                        "m"));
+                of("static Object m(Object a) { Object x; try { x = id(a); } catch (RuntimeException e) { x = e; } "
+                        + "return x; }", "m"));
     }
 
     @Test
     void theDefaultOfASwitchIsLast() throws Exception {
         assertEquals(List.of("i := @parameter0: int", "lookupswitch(i) { case 1: goto label1; case 7: goto label2; "
                 + "default: goto label3; }", "label1:", "return 10", "label2:", "return 20", "label3:", "return 30"),
-                of("static int m(int i) { switch (i) { case 1: return 10; case 7: return 20; default: return 30; } }", "m"));
+                of("static int m(int i) { switch (i) { case 1: return 10; case 7: return 20; default: return 30; } }",
+                        "m"));
     }
 
     @Test
     void castsAndTestsAndArrays() throws Exception {
         assertEquals(List.of("o := @parameter0: java.lang.Object", "$i1 = o instanceof java.lang.String",
                 "if $i1 == 0 goto label1", "s = (java.lang.String) o", "<T: java.lang.Object f> = s", "label1:",
-                "a = newarray (java.lang.String)[2]", "b = newmultiarray (int)[2][3]", "$i2 = lengthof a", "return $i2"),
+                "a = newarray (java.lang.String)[2]", "b = newmultiarray (int)[2][3]", "$i2 = lengthof a",
+                "return $i2"),
                 of("static int m(Object o) { if (o instanceof String) { String s = (String) o; f = s; } "
                         + "Object[] a = new String[2]; int[][] b = new int[2][3]; return a.length; }", "m"));
     }
@@ -109,11 +111,13 @@ final class BodyTest {
     void noDynamicCallIsLeft() throws Exception {
         String text = Compiled.of("L.java", "import java.util.function.*; class L { record P(int a, Object b) { } "
                 + "String s(Object o, long l) { return \"x\" + o + l; } "
-                + "Supplier<Object> l(Object c) { return () -> c; } Function<String, Integer> r() { return Integer::valueOf; } "
+                + "Supplier<Object> l(Object c) { return () -> c; } "
+                + "Function<String, Integer> r() { return Integer::valueOf; } "
                 + "Supplier<L> n() { return L::new; } IntFunction<int[]> a() { return int[]::new; } }").jimple("L");
         assertFalse(text.contains("dynamicinvoke"), text);
         assertEquals(List.of("this := @this: L", "c := @parameter0: java.lang.Object",
-                "$r1 = staticinvoke <L$$Lambda$0: java.util.function.Supplier make(java.lang.Object)>(c)", "return $r1"),
+                "$r1 = staticinvoke <L$$Lambda$0: java.util.function.Supplier make(java.lang.Object)>(c)",
+                "return $r1"),
                 Compiled.statements(text, "l"));
     }
 }

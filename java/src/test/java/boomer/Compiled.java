@@ -30,7 +30,8 @@ public final class Compiled {
             Path folder = Files.createTempDirectory("boomer-java");
             Path path = Files.writeString(folder.resolve(file), source);
             JavaCompiler compiler = ToolProvider.getSystemJavaCompiler();
-            int status = compiler.run(null, null, null, "-g", "-d", folder.toString(), "--release", "17", path.toString());
+            int status = compiler.run(null, null, null, "-g", "-d", folder.toString(), "--release", "17",
+                    path.toString());
             if (status != 0) {
                 throw new IllegalStateException(file + " isn't compiled");
             }

@@ -29,7 +29,8 @@ final class ModulesTest {
         for (String text : texts) {
             assertTrue(!text.contains("dynamicinvoke"), "a dynamic call is left");
             for (String piece : pieces(text)) {
-                Reply reply = Compiled.program().ask(piece.getBytes(StandardCharsets.UTF_8), List.of("run", "Main", "0", "-"));
+                Reply reply = Compiled.program().ask(piece.getBytes(StandardCharsets.UTF_8),
+                        List.of("run", "Main", "0", "-"));
                 Reply.Refused refused = assertInstanceOf(Reply.Refused.class, reply);
                 assertEquals("NotLinked", refused.words().get(0));
                 pieces++;

@@ -43,7 +43,8 @@ final class NamesTest {
 
     @Test
     void signatures() {
-        assertEquals("<a.B: int[] f(java.lang.String,long[][])>", Names.ofMethod("a/B", "f", "(Ljava/lang/String;[[J)[I"));
+        assertEquals("<a.B: int[] f(java.lang.String,long[][])>",
+                Names.ofMethod("a/B", "f", "(Ljava/lang/String;[[J)[I"));
         assertEquals("<a.int: void new()>", Names.plainMethod("a/int", "new", "()V"));
         assertEquals("<a.'int': void 'new'()>", Names.ofMethod("a/int", "new", "()V"));
         assertEquals("<A: java.lang.Object x>", Names.ofField("A", "x", "Ljava/lang/Object;"));

@@ -31,7 +31,8 @@ public final class Progress implements BeforeAllCallback, AfterAllCallback {
     public void afterAll(ExtensionContext context) {
         double took = (System.nanoTime() - store(context).get("began", Long.class)) / A_SECOND;
         double since = (System.nanoTime() - began) / A_SECOND;
-        say(String.format(Locale.ROOT, "%s took %.1f s, %.0f s since the first", context.getDisplayName(), took, since));
+        String what = "%s took %.1f s, %.0f s since the first began";
+        say(String.format(Locale.ROOT, what, context.getDisplayName(), took, since));
     }
 
     private static ExtensionContext.Store store(ExtensionContext context) {

@@ -49,6 +49,7 @@ final class ReplyTest {
     void aliasesAgreeWithTheirSites() throws Exception {
         assertTrue(((Reply.Alias) Reply.of("alias <M: void m()> 3 x y\nshared text \"k\"\naliases yes\ndemanded 7\n", 0,
                 "alias")).may());
-        assertThrows(ProgramFailed.class, () -> Reply.of("alias <M: void m()> 3 x y\naliases yes\ndemanded 7\n", 0, "alias"));
+        assertThrows(ProgramFailed.class,
+                () -> Reply.of("alias <M: void m()> 3 x y\naliases yes\ndemanded 7\n", 0, "alias"));
     }
 }

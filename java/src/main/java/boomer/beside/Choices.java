@@ -84,7 +84,8 @@ final class Choices {
 
     private int jump(Stmt it, Standing now, int place) throws Difference {
         boolean isNext = place == now.index() + 1;
-        Difference.unless(isNext || place == it.jumps().get(0), "Java goes on at " + place + " behind the condition " + now);
+        Difference.unless(isNext || place == it.jumps().get(0),
+                "Java goes on at " + place + " behind the condition " + now);
         return covered("if", isNext ? 0 : 1);
     }
 
@@ -197,7 +198,9 @@ final class Choices {
         if (word instanceof Local local) {
             return now.locals().get(Names.plainMember(local.name()));
         }
-        return word.type() == null ? "null" : List.of('L', '[').contains(word.type().getDescriptor().charAt(0)) ? "constant"
-                : "number";
+        if (word.type() == null) {
+            return "null";
+        }
+        return List.of('L', '[').contains(word.type().getDescriptor().charAt(0)) ? "constant" : "number";
     }
 }

@@ -76,8 +76,8 @@ public final class Drive {
                 steps++;
             }
         } catch (Difference e) {
-            String what = "step " + steps + (before == null ? "" : " behind " + before.method() + " " + before.index()) + ": "
-                    + e.getMessage();
+            String behind = before == null ? "" : " behind " + before.method() + " " + before.index();
+            String what = "step " + steps + behind + ": " + e.getMessage();
             return result(steps, e.isCut ? null : what, e.isCut ? what : null);
         }
     }
@@ -133,7 +133,8 @@ public final class Drive {
 
     private void compare(Standing now) throws Difference {
         Machine frame = frames.peek();
-        Difference.unless(frame.method.equals(now.method()), "the machine is in " + now.method() + ", not in " + frame.method);
+        Difference.unless(frame.method.equals(now.method()),
+                "the machine is in " + now.method() + ", not in " + frame.method);
         Body body = spots.body(now.method());
         Difference.unless(now.method().equals("root") || body != null && now.index() < body.statements().size(),
                 "there is no statement " + now.index() + " of " + now.method());
@@ -161,7 +162,8 @@ public final class Drive {
         }
         Event event = frame.cursor.peek();
         Difference.unless(event != null && (event.kind == Event.Kind.CAUGHT || event.kind == Event.Kind.EXIT)
-                && event.method.equals(now.method()), "the machine has " + now.raised() + " in flight, and Java goes on with " + event);
+                && event.method.equals(now.method()),
+                "the machine has " + now.raised() + " in flight, and Java goes on with " + event);
         value(event.thrown, now.raised(), "what is in flight");
         frame.cursor.take();
         at(now);

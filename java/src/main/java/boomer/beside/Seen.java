@@ -8,6 +8,7 @@ import boomer.program.Site;
 import java.io.ByteArrayOutputStream;
 import java.nio.charset.StandardCharsets;
 import java.util.ArrayList;
+import java.util.HashSet;
 import java.util.LinkedHashMap;
 import java.util.LinkedHashSet;
 import java.util.List;
@@ -59,6 +60,14 @@ public final class Seen {
         });
     }
 
+    /** Keeps of the places at which a local held the same sites the first one alone, and none where it held no site. */
+    Seen firsts() {
+        Set<List<Object>> known = new HashSet<>();
+        seen.entrySet().removeIf(each -> each.getValue().isEmpty()
+                || !known.add(List.of(each.getKey().method, each.getKey().local, each.getValue())));
+        return this;
+    }
+
     /** Asks for each place, and for so many of them with calls refined. */
     Result compare(Program program, byte[] text, String entry, int refined) throws ProgramFailed {
         List<Place> places = List.copyOf(seen.keySet());
@@ -76,7 +85,7 @@ public final class Seen {
         ByteArrayOutputStream input = new ByteArrayOutputStream();
         input.writeBytes(text);
         StringBuilder queries = new StringBuilder("\n%queries\n");
-        places.forEach(it -> queries.append(it.index).append(' ').append(it.local).append(' ').append(it.method).append('\n'));
+        places.forEach(it -> queries.append(it.index + " " + it.local + " " + it.method + "\n"));
         input.writeBytes(queries.toString().getBytes(StandardCharsets.UTF_8));
         Reply reply = program.ask(input.toByteArray(), List.of("batch", entry, BUDGET));
         if (!(reply instanceof Reply.Batch batch)) {
@@ -88,13 +97,14 @@ public final class Seen {
     }
 
     private void refined(Program program, byte[] text, String entry, Place place) throws ProgramFailed {
-        check(place, program.ask(text, List.of("refined", entry, place.method, String.valueOf(place.index), place.local, "1",
-                BUDGET)), "refined");
+        List<String> words =
+                List.of("refined", entry, place.method, String.valueOf(place.index), place.local, "1", BUDGET);
+        check(place, program.ask(text, words), "refined");
     }
 
     private void check(Place place, Reply reply, String command) {
-        List<Site> sites = reply instanceof Reply.PointsTo it ? it.sites() : reply instanceof Reply.Refined it ? it.sites()
-                : null;
+        List<Site> sites = reply instanceof Reply.PointsTo plain ? plain.sites()
+                : reply instanceof Reply.Refined it ? it.sites() : null;
         if (sites == null) {
             missing.add(command + " " + place + ": " + reply.lines().get(0));
             return;

@@ -84,7 +84,8 @@ final class Spots {
     Boolean isInstance(String site, Type type) {
         String made = site.startsWith("text ") ? "java.lang.String" : site.substring(site.lastIndexOf(' ') + 1);
         ClassFile file = named(made.replace('.', '/'));
-        return file == null || type.getSort() != Type.OBJECT ? null : closed.reach().isBelow(file, type.getInternalName());
+        boolean isKnown = file != null && type.getSort() == Type.OBJECT;
+        return isKnown ? closed.reach().isBelow(file, type.getInternalName()) : null;
     }
 
     /** Whether a class is the user's. */

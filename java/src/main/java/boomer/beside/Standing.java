@@ -31,8 +31,8 @@ record Standing(long steps, String end, String raised, String method, int index,
         if (!end.equals("running")) {
             expect(lines.size() == 3, lines.get(lines.size() - 1));
             boolean isUncaught = end.startsWith("uncaught ");
-            return new Standing(steps, isUncaught ? "uncaught" : end, isUncaught ? end.substring("uncaught ".length()) : null,
-                    null, -1, Map.of());
+            String raised = isUncaught ? end.substring("uncaught ".length()) : null;
+            return new Standing(steps, isUncaught ? "uncaught" : end, raised, null, -1, Map.of());
         }
         expect(lines.size() > 3, lines.get(2));
         Matcher place = AT.matcher(lines.get(3));

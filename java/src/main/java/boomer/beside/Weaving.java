@@ -116,7 +116,8 @@ final class Weaving {
             all.add(block.handler);
             for (AbstractInsnNode node = handler; node.getOpcode() < 0; node = node.getNext()) {
                 if (node instanceof FrameNode frame) {
-                    all.add(new FrameNode(Opcodes.F_NEW, frame.local.size(), frame.local.toArray(), 1, frame.stack.toArray()));
+                    all.add(new FrameNode(Opcodes.F_NEW, frame.local.size(), frame.local.toArray(), 1,
+                            frame.stack.toArray()));
                 }
             }
             all.add(new InsnNode(Opcodes.DUP));
@@ -139,10 +140,12 @@ final class Weaving {
         if (node.getOpcode() == Opcodes.NEW) {
             LabelNode label = new LabelNode();
             before.add(label);
-            for (AbstractInsnNode each = node.getPrevious(); each != null && each.getOpcode() < 0; each = each.getPrevious()) {
+            AbstractInsnNode each = node.getPrevious();
+            while (each != null && each.getOpcode() < 0) {
                 if (each instanceof LabelNode old) {
                     moved.put(old, label);
                 }
+                each = each.getPrevious();
             }
         }
         method.instructions.insertBefore(node, before);

@@ -48,7 +48,8 @@ class OddTest implements Opcodes {
         files.put(name, writer.toByteArray());
     }
 
-    private static void method(ClassWriter writer, int access, String name, String descriptor, Consumer<MethodVisitor> code) {
+    private static void method(ClassWriter writer, int access, String name, String descriptor,
+            Consumer<MethodVisitor> code) {
         MethodVisitor method = writer.visitMethod(access, name, descriptor, null, null);
         method.visitCode();
         code.accept(method);

@@ -86,7 +86,8 @@ class SharpTest {
     private static List<List<String>> changes(List<String> lines, Set<String> compared) {
         List<List<String>> all = new ArrayList<>();
         if (!lines.get(2).equals("end running")) {
-            all.add(List.of(lines.get(0), lines.get(1), lines.get(2).equals("end ended") ? "end uncaught " + OTHER : "end ended"));
+            String end = lines.get(2).equals("end ended") ? "end uncaught " + OTHER : "end ended";
+            all.add(List.of(lines.get(0), lines.get(1), end));
             all.add(List.of(lines.get(0), lines.get(1), "end ill-typed"));
             return all;
         }

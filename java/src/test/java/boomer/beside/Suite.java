@@ -1,20 +1,24 @@
 package boomer.beside;
 
+import boomer.Progress;
 import boomer.classes.ClassPath;
 import boomer.close.Closed;
 import boomer.close.Depth;
 import boomer.close.Library;
+import boomer.close.Linking;
 import boomer.program.Program;
 import boomer.program.Programs;
 import java.io.IOException;
 import java.io.UncheckedIOException;
 import java.nio.file.Files;
 import java.nio.file.Path;
+import java.util.Arrays;
 import java.util.List;
-import java.util.concurrent.ConcurrentHashMap;
 import java.util.Map;
+import java.util.Set;
 import java.util.TreeMap;
 import java.util.concurrent.Callable;
+import java.util.concurrent.ConcurrentHashMap;
 import java.util.concurrent.ExecutionException;
 import java.util.concurrent.ExecutorService;
 import java.util.concurrent.Executors;
@@ -25,7 +29,10 @@ import java.util.stream.Stream;
 final class Suite {
     static final int MOST_STEPS = 500;
     static final int REFINED = 20;
-    private static final int THREADS = 4;
+    private static final int THREADS = Math.max(1, Math.min(4, Runtime.getRuntime().availableProcessors()));
+    private static final long SECONDS = 240;
+    private static final long A_SECOND = 1_000_000_000;
+    private static final long A_WHILE = 2 * A_SECOND;
     private static final Path TOP = Path.of("..").toAbsolutePath().normalize();
     private static final Map<String, Map<String, Outcome>> DONE = new ConcurrentHashMap<>();
 
@@ -36,14 +43,14 @@ final class Suite {
 
     /** The program that is asked. */
     static Program program() throws Exception {
-        return Programs.find(TOP, System.getenv(), 120);
+        return Programs.find(TOP, System.getenv(), SECONDS);
     }
 
-    /** A program of one of the folders, closed over the stubs. */
+    /** A program closed over the stubs, which the program links. */
     static Closed closed(ClassPath user, String main) throws Exception {
         Library library = new Library(user, ClassPath.of("out/stubs"), ClassPath.all(List.of()), ClassPath.running(),
                 Library.REAL);
-        return Closed.of(library, Depth.DEEP, main, Map.of());
+        return Linking.of(library, Depth.DEEP, main, program());
     }
 
     /** The class files of a folder of programs. */
@@ -61,7 +68,10 @@ final class Suite {
         }
     }
 
-    /** All programs of a folder, each once; with {@code isDriven} beside the machine, too. */
+    /**
+     * All programs of a folder, each once; with {@code isDriven} beside the machine, too, and at each place of the
+     * answers.
+     */
     static synchronized Map<String, Outcome> outcomes(String folder, boolean isDriven) throws Exception {
         Map<String, Outcome> done = DONE.get(folder);
         if (done == null) {
@@ -94,38 +104,47 @@ final class Suite {
         try {
             return future.get();
         } catch (ExecutionException e) {
-            return new Outcome(new Seen.Result(0, 0, 0, 0, List.of(name + ": " + e.getCause())),
-                    new Drive.Result(0, 0, 0, name + ": " + e.getCause(), null, java.util.Set.of()));
+            String why = name + ": " + e.getCause();
+            return new Outcome(new Seen.Result(0, 0, 0, 0, List.of(why)),
+                    new Drive.Result(0, 0, 0, why, null, Set.of()));
         }
     }
 
     private static Outcome outcome(String folder, String name, boolean isDriven) throws Exception {
-        ClassPath user = classes(folder);
-        Beside beside = Beside.run(closed(user, name), user);
-        Seen.Result seen = beside.seen(program(), isDriven ? REFINED : 0);
-        Drive.Result driven = isDriven ? beside.drive(program(), MOST_STEPS) : null;
-        return new Outcome(seen, driven);
+        long began = System.nanoTime();
+        Outcome outcome = compared(folder, name, isDriven);
+        long took = System.nanoTime() - began;
+        if (took > A_WHILE) {
+            Progress.say(folder + ": " + name + " took " + took / A_SECOND + " s");
+        }
+        return outcome;
     }
 
-    private static void print(String folder, Map<String, Outcome> all) {
-        int places = 0;
-        int sites = 0;
-        int printed = 0;
-        int missing = 0;
-        long steps = 0;
-        int compared = 0;
-        int values = 0;
-        for (Outcome each : all.values()) {
-            places += each.seen.places();
-            sites += each.seen.sites();
-            printed += each.seen.printed();
-            missing += each.seen.missing().size();
-            steps += each.driven == null ? 0 : each.driven.steps();
-            compared += each.driven == null ? 0 : each.driven.compared();
-            values += each.driven == null ? 0 : each.driven.values();
+    private static Outcome compared(String folder, String name, boolean isDriven) throws Exception {
+        ClassPath user = classes(folder);
+        Beside beside = Beside.run(closed(user, name), user);
+        if (!isDriven) {
+            return new Outcome(beside.seenFirst(program(), 0), null);
         }
-        System.out.println(folder + ": " + all.size() + " programs, " + places + " places and locals, " + sites + " sites seen, "
-                + printed + " printed, " + missing + " missing; " + steps + " steps, " + compared + " compared, " + values
-                + " values");
+        return new Outcome(beside.seen(program(), REFINED), beside.drive(program(), MOST_STEPS));
+    }
+
+    /** The numbers of a folder's programs, in the order of the table in the companion's README. */
+    private static void print(String folder, Map<String, Outcome> all) {
+        long[] sums = new long[7];
+        long different = 0;
+        for (Outcome each : all.values()) {
+            Drive.Result driven = each.driven == null ? new Drive.Result(0, 0, 0, null, null, Set.of()) : each.driven;
+            long[] these = {each.seen.places(), each.seen.sites(), each.seen.printed(), each.seen.missing().size(),
+                driven.steps(), driven.compared(), driven.values()};
+            Arrays.setAll(sums, at -> sums[at] + these[at]);
+            different += driven.difference() == null ? 0 : 1;
+        }
+        String[] names = {"places and locals", "sites seen", "printed", "missing", "steps", "compared", "values"};
+        StringBuilder line = new StringBuilder(folder + ": " + all.size() + " programs");
+        for (int at = 0; at < names.length; at++) {
+            line.append(", ").append(sums[at]).append(' ').append(names[at]);
+        }
+        System.out.println(line.append(", ").append(different).append(" different"));
     }
 }

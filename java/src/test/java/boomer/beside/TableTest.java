@@ -23,7 +23,8 @@ class TableTest {
     private static Map<String, List<String>> rows() {
         Map<String, List<String>> rows = new LinkedHashMap<>();
         rows.put("`if` | go on; jump", List.of("if 0", "if 1"));
-        rows.put("a switch | its labels in written order, the default last", List.of("switch label 0", "switch default"));
+        rows.put("a switch | its labels in written order, the default last",
+                List.of("switch label 0", "switch default"));
         rows.put("a cast to a class or an array | take the value; raise `ClassCastException`",
                 List.of("reference cast 0", "reference cast 1"));
         rows.put("a cast to a primitive type | take the value: it is a copy, and has one choice",
@@ -31,12 +32,12 @@ class TableTest {
         rows.put("`newarray`, `newmultiarray` | make it; raise `NegativeArraySizeException`",
                 List.of("newarray 0", "newarray 1", "newmultiarray 0", "newmultiarray 1"));
         rows.put("`/`, `%` | give a number; raise `ArithmeticException`", List.of("/ 0", "/ 1", "% 0", "% 1"));
-        rows.put("a load of an element, where k were written into the array | null; the first that was written, .. , the k-th; "
-                + "raise `ArrayIndexOutOfBoundsException`; and, where the array is one of those of a `newmultiarray` and has "
-                + "arrays within it with a length, a new one of these",
+        rows.put("a load of an element, where k were written into the array | null; the first that was written, .. , "
+                + "the k-th; raise `ArrayIndexOutOfBoundsException`; and, where the array is one of those of a "
+                + "`newmultiarray` and has arrays within it with a length, a new one of these",
                 List.of("load empty", "load first", "load later", "load raise", "load inner"));
-        rows.put("a store of an element | write it; raise `ArrayIndexOutOfBoundsException`; raise `ArrayStoreException`",
-                List.of("store 0", "store 1", "store 2"));
+        rows.put("a store of an element | write it; raise `ArrayIndexOutOfBoundsException`; "
+                + "raise `ArrayStoreException`", List.of("store 0", "store 1", "store 2"));
         return rows;
     }
 
