@@ -131,7 +131,7 @@ say 'runs the tests'
 status=0
 cd "$top"
 BOOMER_JAVA=$top java -cp "$classes" org.junit.platform.console.ConsoleLauncher --disable-banner --fail-if-no-tests --details summary \
-  --config junit.jupiter.extensions.autodetection.enabled=true --config junit.jupiter.execution.timeout.default=10m \
+  --config junit.jupiter.extensions.autodetection.enabled=true --config junit.jupiter.execution.timeout.default=20m \
   --scan-classpath "$out/test" --include-classname "${TESTS:-.*Test}" > "$out/tests.log" || status=$?
 cat "$out/tests.log"
 passed=$(sed -nE 's/^\[ +([0-9]+) tests successful .*/\1/p' "$out/tests.log")

@@ -22,6 +22,8 @@ import java.util.Set;
 import org.junit.jupiter.api.BeforeAll;
 import org.junit.jupiter.api.Test;
 import org.objectweb.asm.Opcodes;
+import org.objectweb.asm.Type;
+import org.objectweb.asm.tree.LdcInsnNode;
 import org.objectweb.asm.tree.MethodNode;
 
 /** What bodies promise, of each body of some packages of the JDK. */
@@ -45,12 +47,16 @@ final class LawsTest {
         assertTrue(ALL.size() > 400, ALL.size() + " classes");
     }
 
+    /** The instructions of a method; one call may stand for another, and for the class in front of {@code valueOf}. */
     private static List<Integer> codes(MethodNode method) {
         List<Integer> codes = new ArrayList<>();
         method.instructions.forEach(node -> {
-            if (node.getOpcode() >= 0) {
-                boolean isCall = node.getOpcode() >= Opcodes.INVOKEVIRTUAL && node.getOpcode() <= Opcodes.INVOKEDYNAMIC;
-                codes.add(isCall ? Opcodes.INVOKESTATIC : node.getOpcode());
+            int code = node.getOpcode();
+            boolean isCall = code >= Opcodes.INVOKEVIRTUAL && code <= Opcodes.INVOKEDYNAMIC;
+            if (isCall || node instanceof LdcInsnNode constant && constant.cst instanceof Type) {
+                codes.add(Opcodes.INVOKESTATIC);
+            } else if (code >= 0) {
+                codes.add(code);
             }
         });
         return codes;

@@ -30,7 +30,7 @@ final class Suite {
     static final int MOST_STEPS = 500;
     static final int REFINED = 20;
     private static final int THREADS = Math.max(1, Math.min(4, Runtime.getRuntime().availableProcessors()));
-    private static final long SECONDS = 240;
+    private static final long SECONDS = 600;
     private static final long A_SECOND = 1_000_000_000;
     private static final long A_WHILE = 2 * A_SECOND;
     private static final Path TOP = Path.of("..").toAbsolutePath().normalize();
