@@ -89,6 +89,7 @@ path() {
 }
 
 libraries=$(path "$for_main")
+printf '%s\n' "$libraries" > "$out/libraries"
 
 # ---- Compiling
 
@@ -97,8 +98,21 @@ is_old() {
   [ ! -e "$1/.done" ] || [ -n "$(find "${@:2}" "$top/build.sh" -newer "$1/.done" -print -quit)" ]
 }
 
-# Compiles the sources below a folder into a folder of classes: compile TO FROM OPTION..
+# Begins to compile the sources below a folder into a folder of classes: compile TO FROM OPTION..
+works=()
 compile() {
+  compile_now "$@" &
+  works+=($!)
+}
+
+# Waits for all that is being compiled.
+finish() {
+  local work
+  for work in "${works[@]}"; do wait "$work" || exit; done
+  works=()
+}
+
+compile_now() {
   local to=$1 from=$2
   say "compiles java/${from#"$top/"}"
   rm -rf "$to"
@@ -111,17 +125,21 @@ if is_old "$out/main" "$top/src/main"; then compile "$out/main" "$top/src/main/j
 if is_old "$out/stubs" "$top/stubs"; then
   compile "$out/stubs" "$top/stubs" --patch-module "java.base=$top/stubs" -g -XDstringConcat=inline -Xlint:none
 fi
-printf '%s\n' "$libraries" > "$out/libraries"
-if [ "${1:-}" != test ]; then exit 0; fi
+if [ "${1:-}" != test ]; then
+  finish
+  exit 0
+fi
 
 for folder in "$top"/programs/*/; do
   folder=${folder%/}
   to=$out/programs/${folder##*/}
   if is_old "$to" "$folder"; then compile "$to" "$folder" --release 17 -g -Xlint:none; fi
 done
+finish
 classes=$out/main:$out/test:$libraries:$(path "$for_tests")
 if is_old "$out/test" "$top/src/test" "$top/src/main"; then
   compile "$out/test" "$top/src/test/java" --release 17 -cp "$classes"
+  finish
   cp -r "$top/src/test/resources/." "$out/test/"
 fi
 

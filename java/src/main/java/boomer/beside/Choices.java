@@ -92,7 +92,7 @@ final class Choices {
     private int label(Stmt it, int place) throws Difference {
         int label = it.jumps().indexOf(place);
         Difference.unless(label >= 0, "Java goes on at " + place + ", which is no label of the switch");
-        covered(label == it.jumps().size() - 1 ? "switch default" : "switch label", label);
+        covered.add(label == it.jumps().size() - 1 ? "switch default" : "switch label " + label);
         return label;
     }
 
