@@ -13,6 +13,7 @@ import java.io.UncheckedIOException;
 import java.nio.file.Files;
 import java.nio.file.Path;
 import java.util.Arrays;
+import java.util.Comparator;
 import java.util.List;
 import java.util.Map;
 import java.util.Set;
@@ -86,7 +87,7 @@ final class Suite {
         ExecutorService threads = Executors.newFixedThreadPool(THREADS);
         try {
             Map<String, Future<Outcome>> waiting = new TreeMap<>();
-            for (String name : names(folder)) {
+            for (String name : longestFirst(folder)) {
                 Callable<Outcome> work = () -> outcome(folder, name, isDriven);
                 waiting.put(name, threads.submit(work));
             }
@@ -98,6 +99,12 @@ final class Suite {
         } finally {
             threads.shutdownNow();
         }
+    }
+
+    /** Long programs are begun first, so that none is left alone at the end. */
+    private static List<String> longestFirst(String folder) {
+        return names(folder).stream().sorted(Comparator.comparing((String name) ->
+                -Path.of("programs", folder, name + ".java").toFile().length())).toList();
     }
 
     private static Outcome get(String name, Future<Outcome> future) throws InterruptedException {
