@@ -13,4 +13,12 @@ public class FilterOutputStream extends OutputStream {
     public void write(int b) throws IOException {
         out.write(b);
     }
+
+    public void flush() throws IOException {
+        out.flush();
+    }
+
+    public void close() throws IOException {
+        out.close();
+    }
 }

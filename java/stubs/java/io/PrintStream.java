@@ -2,77 +2,159 @@ package java.io;
 
 import boomer.support.Keeps;
 
-@Keeps("nothing; what is printed is asked for its text")
+@Keeps("the stream below; what is printed is asked for its text")
 public class PrintStream extends FilterOutputStream implements Appendable, Closeable {
     public PrintStream() {
         super(null);
     }
 
-    public void print(Object value) { String.valueOf(value); }
+    public PrintStream(OutputStream out) {
+        super(out);
+    }
 
-    public void print(String value) { }
+    public PrintStream(OutputStream out, boolean isFlushing) {
+        super(out);
+    }
 
-    public void print(char[] value) { }
+    public void print(Object value) {
+        String.valueOf(value);
+        put();
+    }
 
-    public void print(boolean value) { }
+    public void print(String value) {
+        put();
+    }
 
-    public void print(char value) { }
+    public void print(char[] value) {
+        put();
+    }
 
-    public void print(int value) { }
+    public void print(boolean value) {
+        put();
+    }
 
-    public void print(long value) { }
+    public void print(char value) {
+        put();
+    }
 
-    public void print(float value) { }
+    public void print(int value) {
+        put();
+    }
 
-    public void print(double value) { }
+    public void print(long value) {
+        put();
+    }
 
-    public void println(Object value) { String.valueOf(value); }
+    public void print(float value) {
+        put();
+    }
 
-    public void println(String value) { }
+    public void print(double value) {
+        put();
+    }
 
-    public void println(char[] value) { }
+    public void println(Object value) {
+        String.valueOf(value);
+        put();
+    }
 
-    public void println(boolean value) { }
+    public void println(String value) {
+        put();
+    }
 
-    public void println(char value) { }
+    public void println(char[] value) {
+        put();
+    }
 
-    public void println(int value) { }
+    public void println(boolean value) {
+        put();
+    }
 
-    public void println(long value) { }
+    public void println(char value) {
+        put();
+    }
 
-    public void println(float value) { }
+    public void println(int value) {
+        put();
+    }
 
-    public void println(double value) { }
+    public void println(long value) {
+        put();
+    }
 
-    public void println() { }
+    public void println(float value) {
+        put();
+    }
+
+    public void println(double value) {
+        put();
+    }
+
+    public void println() {
+        put();
+    }
 
     public PrintStream printf(String format, Object... arguments) {
         String.format(format, arguments);
+        put();
         return this;
     }
 
     public PrintStream format(String format, Object... arguments) {
         String.format(format, arguments);
+        put();
         return this;
     }
 
     public PrintStream append(CharSequence text) {
-        String.valueOf(text);
+        String.valueOf((Object) text);
+        put();
         return this;
     }
 
     public PrintStream append(CharSequence text, int from, int to) {
-        String.valueOf(text);
+        String.valueOf((Object) text);
+        put();
         return this;
     }
 
     public PrintStream append(char c) {
+        put();
         return this;
     }
 
-    public void write(int b) { }
+    public void write(int b) {
+        put();
+    }
 
-    public void flush() { }
+    public void write(byte[] bytes, int from, int count) {
+        put();
+    }
 
-    public void close() { }
+    public void flush() {
+        try {
+            out.flush();
+        } catch (IOException e) {
+            return;
+        }
+    }
+
+    public void close() {
+        try {
+            out.close();
+        } catch (IOException e) {
+            return;
+        }
+    }
+
+    private void put() {
+        if (out == null) {
+            return;
+        }
+        try {
+            out.write(new byte[1], 0, 1);
+        } catch (IOException e) {
+            return;
+        }
+    }
 }

@@ -43,16 +43,4 @@ public final class Boolean implements java.io.Serializable, Comparable<Boolean> 
     public int compareTo(Boolean other) {
         return compare(value, other.value);
     }
-
-    public boolean equals(Object other) {
-        return this == other;
-    }
-
-    public int hashCode() {
-        return 0;
-    }
-
-    public String toString() {
-        return new String();
-    }
 }

@@ -65,16 +65,4 @@ public final class Byte extends Number implements java.io.Serializable, Comparab
     public int compareTo(Byte other) {
         return compare(value, other.value);
     }
-
-    public boolean equals(Object other) {
-        return this == other;
-    }
-
-    public int hashCode() {
-        return 0;
-    }
-
-    public String toString() {
-        return new String();
-    }
 }

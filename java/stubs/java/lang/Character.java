@@ -66,16 +66,4 @@ public final class Character implements java.io.Serializable, Comparable<Charact
     public int compareTo(Character other) {
         return compare(value, other.value);
     }
-
-    public boolean equals(Object other) {
-        return this == other;
-    }
-
-    public int hashCode() {
-        return 0;
-    }
-
-    public String toString() {
-        return new String();
-    }
 }

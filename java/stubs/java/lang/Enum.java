@@ -24,14 +24,6 @@ public abstract class Enum<E extends Enum<E>> implements Comparable<E>, java.io.
         return name;
     }
 
-    public final boolean equals(Object other) {
-        return this == other;
-    }
-
-    public final int hashCode() {
-        return 0;
-    }
-
     public final int compareTo(E other) {
         return other.ordinal();
     }

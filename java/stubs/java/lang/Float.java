@@ -76,16 +76,4 @@ public final class Float extends Number implements java.io.Serializable, Compara
     public int compareTo(Float other) {
         return compare(value, other.value);
     }
-
-    public boolean equals(Object other) {
-        return this == other;
-    }
-
-    public int hashCode() {
-        return 0;
-    }
-
-    public String toString() {
-        return new String();
-    }
 }

@@ -77,16 +77,4 @@ public final class Integer extends Number implements java.io.Serializable, Compa
     public int compareTo(Integer other) {
         return compare(value, other.value);
     }
-
-    public boolean equals(Object other) {
-        return this == other;
-    }
-
-    public int hashCode() {
-        return 0;
-    }
-
-    public String toString() {
-        return new String();
-    }
 }

@@ -35,16 +35,8 @@ public final class String implements java.io.Serializable, Comparable<String>, C
         return 'a';
     }
 
-    public boolean equals(Object other) {
-        return this == other;
-    }
-
     public boolean equalsIgnoreCase(String other) {
         return this == other;
-    }
-
-    public int hashCode() {
-        return 0;
     }
 
     public int compareTo(String other) {

@@ -4,7 +4,7 @@ import boomer.support.Keeps;
 
 @Keeps("the streams")
 public final class System {
-    public static java.io.InputStream in;
+    public static java.io.InputStream in = new java.io.ByteArrayInputStream(null);
     public static java.io.PrintStream out = new java.io.PrintStream();
     public static java.io.PrintStream err = new java.io.PrintStream();
 

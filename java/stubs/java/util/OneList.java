@@ -1,17 +1,19 @@
 package java.util;
 
 import boomer.support.Keeps;
+import boomer.support.Same;
 import java.util.function.Consumer;
 import java.util.function.Predicate;
 import java.util.function.UnaryOperator;
 
 @Keeps("every element, in one field: the last one that was put")
-abstract class OneList<E> extends AbstractSequentialList<E> implements List<E>, RandomAccess, Cloneable, java.io.Serializable {
-    E element;
+public abstract class OneList<E> extends AbstractSequentialList<E>
+        implements List<E>, RandomAccess, Cloneable, java.io.Serializable {
+    protected E element;
 
-    OneList() { }
+    protected OneList() { }
 
-    final E some() {
+    protected final E some() {
         if (element == null) {
             throw new NoSuchElementException();
         }
@@ -30,7 +32,7 @@ abstract class OneList<E> extends AbstractSequentialList<E> implements List<E>, 
 
     @Override
     public boolean contains(Object object) {
-        return object != null && object.equals(element);
+        return Same.equal(object, element);
     }
 
     @Override
@@ -154,11 +156,6 @@ abstract class OneList<E> extends AbstractSequentialList<E> implements List<E>, 
     @Override
     public ListIterator<E> listIterator(int index) {
         return new Elements<>(this);
-    }
-
-    @Override
-    public String toString() {
-        return String.valueOf(element);
     }
 
     private static final class Elements<E> implements ListIterator<E> {

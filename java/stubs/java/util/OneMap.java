@@ -1,15 +1,16 @@
 package java.util;
 
 import boomer.support.Keeps;
+import boomer.support.Same;
 import java.util.function.BiConsumer;
 import java.util.function.BiFunction;
 import java.util.function.Function;
 
 @Keeps("every key, value and pair, in a field each: the last ones that were put")
-abstract class OneMap<K, V> extends AbstractMap<K, V> implements Cloneable, java.io.Serializable {
+public abstract class OneMap<K, V> extends AbstractMap<K, V> implements Cloneable, java.io.Serializable {
     final Pair<K, V> pair = new Pair<>();
 
-    OneMap() { }
+    protected OneMap() { }
 
     @Override
     public int size() {
@@ -23,16 +24,13 @@ abstract class OneMap<K, V> extends AbstractMap<K, V> implements Cloneable, java
 
     @Override
     public boolean containsKey(Object key) {
-        if (key == null) {
-            return pair.key == null;
-        }
-        key.hashCode();
-        return key.equals(pair.key);
+        Same.hash(key);
+        return Same.equal(key, pair.key);
     }
 
     @Override
     public boolean containsValue(Object value) {
-        return value != null && value.equals(pair.value);
+        return Same.equal(value, pair.value);
     }
 
     @Override
@@ -153,11 +151,6 @@ abstract class OneMap<K, V> extends AbstractMap<K, V> implements Cloneable, java
         return new Pairs<>(this);
     }
 
-    @Override
-    public String toString() {
-        return String.valueOf(pair.key) + String.valueOf(pair.value);
-    }
-
     static final class Pair<K, V> implements Map.Entry<K, V> {
         K key;
         V value;
@@ -177,6 +170,27 @@ abstract class OneMap<K, V> extends AbstractMap<K, V> implements Cloneable, java
             V old = value;
             value = next;
             return old;
+        }
+
+        @Override
+        public boolean equals(Object other) {
+            if (other instanceof Map.Entry) {
+                Same.equal(key, ((Map.Entry<?, ?>) other).getKey());
+                Same.equal(value, ((Map.Entry<?, ?>) other).getValue());
+            }
+            return this == other;
+        }
+
+        @Override
+        public int hashCode() {
+            return Same.hash(key) ^ Same.hash(value);
+        }
+
+        @Override
+        public String toString() {
+            String.valueOf(key);
+            String.valueOf(value);
+            return new String();
         }
     }
 

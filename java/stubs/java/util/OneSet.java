@@ -1,13 +1,14 @@
 package java.util;
 
 import boomer.support.Keeps;
+import boomer.support.Same;
 import java.util.function.Consumer;
 
 @Keeps("every element, in one field: the last one that was put")
-abstract class OneSet<E> extends AbstractSet<E> implements Cloneable, java.io.Serializable {
-    E element;
+public abstract class OneSet<E> extends AbstractSet<E> implements Cloneable, java.io.Serializable {
+    protected E element;
 
-    OneSet() { }
+    protected OneSet() { }
 
     @Override
     public int size() {
@@ -21,11 +22,8 @@ abstract class OneSet<E> extends AbstractSet<E> implements Cloneable, java.io.Se
 
     @Override
     public boolean contains(Object object) {
-        if (object == null) {
-            return element == null;
-        }
-        object.hashCode();
-        return object.equals(element);
+        Same.hash(object);
+        return Same.equal(object, element);
     }
 
     @Override
@@ -78,11 +76,6 @@ abstract class OneSet<E> extends AbstractSet<E> implements Cloneable, java.io.Se
     @Override
     public Iterator<E> iterator() {
         return new Elements<>(this);
-    }
-
-    @Override
-    public String toString() {
-        return String.valueOf(element);
     }
 
     private static final class Elements<E> implements Iterator<E> {

@@ -1,7 +1,8 @@
 package java.util.stream;
 
 import boomer.support.Keeps;
-import java.util.ArrayList;
+import boomer.support.Same;
+import java.util.Collections;
 import java.util.Comparator;
 import java.util.Iterator;
 import java.util.List;
@@ -45,19 +46,19 @@ public final class OneStream<T> implements Stream<T> {
     @Override
     public IntStream mapToInt(ToIntFunction<? super T> made) {
         made.applyAsInt(element);
-        return IntStream.empty();
+        return new OneNumbers();
     }
 
     @Override
     public LongStream mapToLong(ToLongFunction<? super T> made) {
         made.applyAsLong(element);
-        return LongStream.empty();
+        return new OneNumbers.OfLong();
     }
 
     @Override
     public DoubleStream mapToDouble(ToDoubleFunction<? super T> made) {
         made.applyAsDouble(element);
-        return DoubleStream.empty();
+        return new OneNumbers.OfDouble();
     }
 
     @Override
@@ -83,10 +84,8 @@ public final class OneStream<T> implements Stream<T> {
 
     @Override
     public Stream<T> distinct() {
-        if (element != null) {
-            element.hashCode();
-            element.equals(element);
-        }
+        Same.hash(element);
+        Same.equal(element, element);
         return this;
     }
 
@@ -107,6 +106,25 @@ public final class OneStream<T> implements Stream<T> {
     public Stream<T> peek(Consumer<? super T> action) {
         action.accept(element);
         return this;
+    }
+
+    @Override
+    public Stream<T> takeWhile(Predicate<? super T> filter) {
+        filter.test(element);
+        return this;
+    }
+
+    @Override
+    public Stream<T> dropWhile(Predicate<? super T> filter) {
+        filter.test(element);
+        return this;
+    }
+
+    @Override
+    public <R> Stream<R> mapMulti(BiConsumer<? super T, ? super Consumer<R>> made) {
+        Making<R> making = new Making<>();
+        made.accept(element, making);
+        return making.build();
     }
 
     @Override
@@ -146,14 +164,16 @@ public final class OneStream<T> implements Stream<T> {
 
     @Override
     public List<T> toList() {
-        List<T> list = new ArrayList<>();
-        list.add(element);
-        return list;
+        return Collections.singletonList(element);
     }
 
     @Override
     public T reduce(T first, BinaryOperator<T> both) {
-        return element == null ? first : both.apply(first, element);
+        T result = first;
+        while (result == first) {
+            result = both.apply(result, element);
+        }
+        return result == null ? first : result;
     }
 
     @Override
@@ -167,7 +187,7 @@ public final class OneStream<T> implements Stream<T> {
     @Override
     public <U> U reduce(U first, BiFunction<U, ? super T, U> next, BinaryOperator<U> both) {
         U result = element == null ? first : next.apply(first, element);
-        return result == first ? result : both.apply(result, result);
+        return result == first ? result : next.apply(both.apply(result, result), element);
     }
 
     @Override
@@ -265,4 +285,19 @@ public final class OneStream<T> implements Stream<T> {
 
     @Override
     public void close() { }
+
+    /** It makes a stream of what it is given. */
+    static final class Making<T> implements Stream.Builder<T> {
+        private T element;
+
+        @Override
+        public void accept(T each) {
+            element = each;
+        }
+
+        @Override
+        public Stream<T> build() {
+            return new OneStream<>(element);
+        }
+    }
 }

@@ -45,10 +45,14 @@ final class Completing {
         world.unknown().initializer(node);
     }
 
-    /** Whether a stub above has a body of the method: then the stub below means that one. */
+    /**
+     * Whether a stub above has a body of the method: then the stub below means that one. Of those of {@code Object} this holds
+     * for {@code equals}, {@code hashCode} and {@code toString}.
+     */
     private static boolean inherits(String parent, MethodNode method, World world) {
         ClassFile above = parent == null ? null : world.find(parent).orElse(null);
-        if (above == null || above.from() != From.STUB || above.name().equals("java/lang/Object")) {
+        boolean isOfObject = above != null && above.name().equals("java/lang/Object");
+        if (above == null || above.from() != From.STUB || isOfObject && !Unknown.OF_OBJECT.contains(method.name + method.desc)) {
             return false;
         }
         MethodNode found = above.method(method.name, method.desc);

@@ -82,6 +82,16 @@ public final class Reach {
         return ancestors(file).contains(above);
     }
 
+    /** The classes of the text that may have objects and are a class or below it. */
+    List<ClassFile> instantiable(String above) {
+        return below.getOrDefault(above, Set.of()).stream().filter(Reach::isInstantiable).toList();
+    }
+
+    private static boolean isInstantiable(ClassFile file) {
+        return (file.node().access & (Opcodes.ACC_ABSTRACT | Opcodes.ACC_INTERFACE)) == 0
+                || file.name().equals("java/lang/Object");
+    }
+
     /** Whether a run may reach a method. */
     public boolean has(MethodNode method) {
         return bodies.containsKey(method);
@@ -141,9 +151,7 @@ public final class Reach {
 
     /** Takes an object of a class as the receiver of a call. */
     private void target(ClassFile file, Called call) {
-        boolean isInstantiable = (file.node().access & (Opcodes.ACC_ABSTRACT | Opcodes.ACC_INTERFACE)) == 0
-                || file.name().equals("java/lang/Object");
-        if (isInstantiable) {
+        if (isInstantiable(file)) {
             reach(file, call.name, call.descriptor);
         }
     }

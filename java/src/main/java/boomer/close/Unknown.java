@@ -26,7 +26,8 @@ final class Unknown {
     static final String KEPT = "boomer/support/Kept";
     private static final int CALLED_BACK = 4;
     private static final Type OBJECT = Type.getObjectType("java/lang/Object");
-    private static final Set<String> OF_OBJECT =
+    /** The methods that each object has, and that stubs leave to {@code Object} where they tell nothing of what is kept. */
+    static final Set<String> OF_OBJECT =
             Set.of("equals(Ljava/lang/Object;)Z", "hashCode()I", "toString()Ljava/lang/String;");
 
     private final World world;

@@ -8,6 +8,7 @@ import java.util.LinkedHashSet;
 import java.util.List;
 import java.util.Map;
 import java.util.Set;
+import java.util.function.UnaryOperator;
 import org.objectweb.asm.tree.AbstractInsnNode;
 import org.objectweb.asm.tree.MethodNode;
 import org.objectweb.asm.tree.analysis.Analyzer;
@@ -56,6 +57,11 @@ public final class Body {
         } catch (AnalyzerException | IllegalStateException | IndexOutOfBoundsException | NullPointerException e) {
             throw new BadInput(file.name() + "." + method.name + method.desc + " can't be converted: " + e.getMessage(), e);
         }
+    }
+
+    /** The same body with other statements in the places of these, which define and jump as these do. */
+    public Body with(UnaryOperator<Stmt> change) {
+        return new Body(statements.stream().map(change).toList(), traps, locals, holding);
     }
 
     /** The statements, from 0. */

@@ -41,6 +41,11 @@ public final class Printer {
 
     /** The text of a class, with all its members in the order of the class file. */
     public static String print(ClassFile file, Bodies bodies) throws BadInput {
+        return print(file, file.node().methods, bodies);
+    }
+
+    /** The text of a class with these of its methods. */
+    public static String print(ClassFile file, List<MethodNode> methods, Bodies bodies) throws BadInput {
         Printer printer = new Printer();
         printer.header(file);
         for (FieldNode field : file.node().fields) {
@@ -48,7 +53,7 @@ public final class Printer {
                     .append(Names.ofType(Type.getType(field.desc))).append(' ').append(Names.ofMember(field.name))
                     .append(";\n");
         }
-        for (MethodNode method : file.node().methods) {
+        for (MethodNode method : methods) {
             boolean hasCode = (method.access & (Opcodes.ACC_ABSTRACT | Opcodes.ACC_NATIVE)) == 0;
             printer.method(method, hasCode ? bodies.of(method) : null, hasCode);
         }

@@ -13,4 +13,9 @@ import java.util.List;
  * @param line the source line, or 0
  */
 public record Stmt(Kind kind, Local to, List<Value> words, List<Integer> jumps, int instruction, int offset, int line,
-        Named named) { }
+        Named named) {
+    /** The same statement that names something else. */
+    public Stmt naming(Named other) {
+        return new Stmt(kind, to, words, jumps, instruction, offset, line, other);
+    }
+}
