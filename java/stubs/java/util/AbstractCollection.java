@@ -16,27 +16,18 @@ public abstract class AbstractCollection<E> implements Collection<E> {
     }
 
     public boolean contains(Object object) {
-        for (E each : this) {
-            if (Same.equal(object, each)) {
-                return true;
-            }
-        }
-        return false;
+        return Same.equal(object, Same.one(this));
     }
 
     public Object[] toArray() {
         Object[] all = new Object[1];
-        for (E each : this) {
-            all[0] = each;
-        }
+        all[0] = Same.one(this);
         return all;
     }
 
     @SuppressWarnings("unchecked")
     public <T> T[] toArray(T[] all) {
-        for (E each : this) {
-            all[0] = (T) each;
-        }
+        all[0] = (T) Same.one(this);
         return all;
     }
 
@@ -45,40 +36,21 @@ public abstract class AbstractCollection<E> implements Collection<E> {
     }
 
     public boolean remove(Object object) {
-        Iterator<E> each = iterator();
-        while (each.hasNext()) {
-            if (Same.equal(object, each.next())) {
-                each.remove();
-                return true;
-            }
-        }
-        return false;
+        drop();
+        return contains(object);
     }
 
     public boolean containsAll(Collection<?> others) {
-        for (Object each : others) {
-            if (!contains(each)) {
-                return false;
-            }
-        }
-        return true;
+        return contains(Same.one(others));
     }
 
     public boolean addAll(Collection<? extends E> others) {
-        for (E each : others) {
-            add(each);
-        }
-        return true;
+        return add(Same.one(others));
     }
 
     public boolean removeAll(Collection<?> others) {
-        Iterator<E> each = iterator();
-        while (each.hasNext()) {
-            if (others.contains(each.next())) {
-                each.remove();
-            }
-        }
-        return true;
+        drop();
+        return others.contains(Same.one(this));
     }
 
     public boolean retainAll(Collection<?> others) {
@@ -86,6 +58,10 @@ public abstract class AbstractCollection<E> implements Collection<E> {
     }
 
     public void clear() {
+        drop();
+    }
+
+    void drop() {
         Iterator<E> each = iterator();
         while (each.hasNext()) {
             each.next();
@@ -94,27 +70,15 @@ public abstract class AbstractCollection<E> implements Collection<E> {
     }
 
     public boolean equals(Object other) {
-        if (other instanceof Collection) {
-            for (E each : this) {
-                for (Object second : (Collection<?>) other) {
-                    Same.equal(each, second);
-                }
-            }
-        }
-        return this == other;
+        return this == other || other instanceof Collection && Same.equal(Same.one(this), Same.one((Collection<?>) other));
     }
 
     public int hashCode() {
-        for (E each : this) {
-            Same.hash(each);
-        }
-        return 0;
+        return Same.hash(Same.one(this));
     }
 
     public String toString() {
-        for (E each : this) {
-            String.valueOf(each);
-        }
+        String.valueOf(Same.one(this));
         return new String();
     }
 }

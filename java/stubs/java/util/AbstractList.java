@@ -37,9 +37,7 @@ public abstract class AbstractList<E> extends AbstractCollection<E> implements L
     }
 
     public boolean addAll(int index, Collection<? extends E> others) {
-        for (E each : others) {
-            add(index, each);
-        }
+        add(index, Same.one(others));
         return true;
     }
 

@@ -22,21 +22,12 @@ public abstract class AbstractMap<K, V> implements Map<K, V> {
     }
 
     public boolean containsValue(Object value) {
-        for (Map.Entry<K, V> each : entrySet()) {
-            if (Same.equal(value, each.getValue())) {
-                return true;
-            }
-        }
-        return false;
+        return Same.equal(value, Same.one(values()));
     }
 
     private Map.Entry<K, V> find(Object key) {
-        for (Map.Entry<K, V> each : entrySet()) {
-            if (Same.equal(key, each.getKey())) {
-                return each;
-            }
-        }
-        return null;
+        Map.Entry<K, V> each = Same.one(entrySet());
+        return each != null && Same.equal(key, each.getKey()) ? each : null;
     }
 
     public V get(Object key) {
@@ -49,22 +40,14 @@ public abstract class AbstractMap<K, V> implements Map<K, V> {
     }
 
     public V remove(Object key) {
-        Iterator<Map.Entry<K, V>> all = entrySet().iterator();
-        while (all.hasNext()) {
-            Map.Entry<K, V> each = all.next();
-            if (Same.equal(key, each.getKey())) {
-                V old = each.getValue();
-                all.remove();
-                return old;
-            }
-        }
-        return null;
+        V old = get(key);
+        entrySet().clear();
+        return old;
     }
 
     public void putAll(Map<? extends K, ? extends V> others) {
-        for (Map.Entry<? extends K, ? extends V> each : others.entrySet()) {
-            put(each.getKey(), each.getValue());
-        }
+        Map.Entry<? extends K, ? extends V> each = Same.one(others.entrySet());
+        put(each.getKey(), each.getValue());
     }
 
     public void clear() {
@@ -80,31 +63,18 @@ public abstract class AbstractMap<K, V> implements Map<K, V> {
     }
 
     public boolean equals(Object other) {
-        if (other instanceof Map) {
-            for (Map.Entry<K, V> each : entrySet()) {
-                Same.equal(each.getValue(), ((Map<?, ?>) other).get(each.getKey()));
-            }
-        }
-        return this == other;
+        return this == other || other instanceof Map && entrySet().equals(((Map<?, ?>) other).entrySet());
     }
 
     public int hashCode() {
-        for (Map.Entry<K, V> each : entrySet()) {
-            Same.hash(each.getKey());
-            Same.hash(each.getValue());
-        }
-        return 0;
+        return entrySet().hashCode();
     }
 
     public String toString() {
-        for (Map.Entry<K, V> each : entrySet()) {
-            String.valueOf(each.getKey());
-            String.valueOf(each.getValue());
-        }
-        return new String();
+        return entrySet().toString();
     }
 
-    private static final class Keys<K, V> extends AbstractSet<K> {
+    private static final class Keys<K, V> extends OneSet<K> {
         private final AbstractMap<K, V> map;
 
         Keys(AbstractMap<K, V> map) {
@@ -112,40 +82,22 @@ public abstract class AbstractMap<K, V> implements Map<K, V> {
         }
 
         @Override
-        public int size() {
-            return map.size();
+        K one() {
+            return Same.one(map.entrySet()).getKey();
         }
 
         @Override
-        public Iterator<K> iterator() {
-            return new EachKey<>(map.entrySet().iterator());
+        void drop() {
+            map.entrySet().clear();
+        }
+
+        @Override
+        public boolean add(K each) {
+            throw new UnsupportedOperationException();
         }
     }
 
-    private static final class EachKey<K, V> implements Iterator<K> {
-        private final Iterator<Map.Entry<K, V>> all;
-
-        EachKey(Iterator<Map.Entry<K, V>> all) {
-            this.all = all;
-        }
-
-        @Override
-        public boolean hasNext() {
-            return all.hasNext();
-        }
-
-        @Override
-        public K next() {
-            return all.next().getKey();
-        }
-
-        @Override
-        public void remove() {
-            all.remove();
-        }
-    }
-
-    private static final class Values<K, V> extends AbstractCollection<V> {
+    private static final class Values<K, V> extends AbstractCollection<V> implements Iterator<V> {
         private final AbstractMap<K, V> map;
 
         Values(AbstractMap<K, V> map) {
@@ -159,30 +111,22 @@ public abstract class AbstractMap<K, V> implements Map<K, V> {
 
         @Override
         public Iterator<V> iterator() {
-            return new EachValue<>(map.entrySet().iterator());
-        }
-    }
-
-    private static final class EachValue<K, V> implements Iterator<V> {
-        private final Iterator<Map.Entry<K, V>> all;
-
-        EachValue(Iterator<Map.Entry<K, V>> all) {
-            this.all = all;
+            return this;
         }
 
         @Override
         public boolean hasNext() {
-            return all.hasNext();
+            return map != null;
         }
 
         @Override
         public V next() {
-            return all.next().getValue();
+            return Same.one(map.entrySet()).getValue();
         }
 
         @Override
         public void remove() {
-            all.remove();
+            map.entrySet().clear();
         }
     }
 

@@ -29,12 +29,4 @@ public abstract class AbstractSequentialList<E> extends AbstractList<E> {
         at.remove();
         return old;
     }
-
-    public Iterator<E> iterator() {
-        return listIterator(0);
-    }
-
-    public ListIterator<E> listIterator() {
-        return listIterator(0);
-    }
 }

@@ -1,6 +1,7 @@
 package java.util;
 
 import boomer.support.Keeps;
+import boomer.support.Same;
 
 /** Views that can't be changed. */
 @Keeps("the collection or the map that is seen")
@@ -9,25 +10,21 @@ final class Fixed {
 
     /** A list with these elements. */
     static <E> List<E> list(E[] all) {
-        java.util.ArrayList<E> list = new java.util.ArrayList<>();
-        for (E each : all) {
-            list.element = Objects.requireNonNull(each);
-        }
+        ArrayList<E> list = new ArrayList<>();
+        list.element = Objects.requireNonNull(all[0]);
         return new OfList<>(list);
     }
 
     /** A set with these elements. */
     static <E> Set<E> set(E[] all) {
         HashSet<E> set = new HashSet<>();
-        for (E each : all) {
-            if (!set.add(Objects.requireNonNull(each))) {
-                throw new IllegalArgumentException();
-            }
+        if (!set.add(Objects.requireNonNull(all[0]))) {
+            throw new IllegalArgumentException();
         }
         return new OfSet<>(set);
     }
 
-    static final class OfCollection<E> extends AbstractCollection<E> {
+    static final class OfCollection<E> extends AbstractCollection<E> implements Iterator<E> {
         private final Collection<? extends E> all;
 
         OfCollection(Collection<? extends E> all) {
@@ -41,11 +38,21 @@ final class Fixed {
 
         @Override
         public Iterator<E> iterator() {
-            return new Each<>(all.iterator());
+            return this;
+        }
+
+        @Override
+        public boolean hasNext() {
+            return !all.isEmpty();
+        }
+
+        @Override
+        public E next() {
+            return Same.one(all);
         }
     }
 
-    static final class OfSet<E> extends AbstractSet<E> {
+    static final class OfSet<E> extends OneSet<E> {
         private final Collection<? extends E> all;
 
         OfSet(Collection<? extends E> all) {
@@ -53,18 +60,18 @@ final class Fixed {
         }
 
         @Override
-        public int size() {
-            return all.size();
+        E one() {
+            return Same.one(all);
         }
 
         @Override
-        public boolean contains(Object object) {
-            return all.contains(object);
+        void drop() {
+            throw new UnsupportedOperationException();
         }
 
         @Override
-        public Iterator<E> iterator() {
-            return new Each<>(all.iterator());
+        public boolean add(E each) {
+            throw new UnsupportedOperationException();
         }
     }
 
@@ -107,24 +114,6 @@ final class Fixed {
         @SuppressWarnings({"unchecked", "rawtypes"})
         public Set<Map.Entry<K, V>> entrySet() {
             return new OfSet<>((Set<Map.Entry<K, V>>) (Set) map.entrySet());
-        }
-    }
-
-    private static final class Each<E> implements Iterator<E> {
-        private final Iterator<? extends E> all;
-
-        Each(Iterator<? extends E> all) {
-            this.all = all;
-        }
-
-        @Override
-        public boolean hasNext() {
-            return all.hasNext();
-        }
-
-        @Override
-        public E next() {
-            return all.next();
         }
     }
 }

@@ -58,9 +58,7 @@ public abstract class OneList<E> extends AbstractSequentialList<E>
 
     @Override
     public boolean addAll(Collection<? extends E> others) {
-        for (E each : others) {
-            element = each;
-        }
+        element = Same.one(others);
         return true;
     }
 
@@ -144,68 +142,7 @@ public abstract class OneList<E> extends AbstractSequentialList<E>
     }
 
     @Override
-    public Iterator<E> iterator() {
-        return new Elements<>(this);
-    }
-
-    @Override
-    public ListIterator<E> listIterator() {
-        return new Elements<>(this);
-    }
-
-    @Override
     public ListIterator<E> listIterator(int index) {
-        return new Elements<>(this);
-    }
-
-    private static final class Elements<E> implements ListIterator<E> {
-        private final OneList<E> list;
-
-        Elements(OneList<E> list) {
-            this.list = list;
-        }
-
-        @Override
-        public boolean hasNext() {
-            return list.element != null;
-        }
-
-        @Override
-        public E next() {
-            return list.some();
-        }
-
-        @Override
-        public boolean hasPrevious() {
-            return list.element != null;
-        }
-
-        @Override
-        public E previous() {
-            return list.some();
-        }
-
-        @Override
-        public int nextIndex() {
-            return 0;
-        }
-
-        @Override
-        public int previousIndex() {
-            return 0;
-        }
-
-        @Override
-        public void remove() { }
-
-        @Override
-        public void set(E each) {
-            list.element = each;
-        }
-
-        @Override
-        public void add(E each) {
-            list.element = each;
-        }
+        return listIterator();
     }
 }

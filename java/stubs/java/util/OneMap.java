@@ -8,7 +8,8 @@ import java.util.function.Function;
 
 @Keeps("every key, value and pair, in a field each: the last ones that were put")
 public abstract class OneMap<K, V> extends AbstractMap<K, V> implements Cloneable, java.io.Serializable {
-    final Pair<K, V> pair = new Pair<>();
+    K key;
+    V value;
 
     protected OneMap() { }
 
@@ -19,35 +20,35 @@ public abstract class OneMap<K, V> extends AbstractMap<K, V> implements Cloneabl
 
     @Override
     public boolean isEmpty() {
-        return pair.key == null;
+        return this.key == null;
     }
 
     @Override
     public boolean containsKey(Object key) {
         Same.hash(key);
-        return Same.equal(key, pair.key);
+        return Same.equal(key, this.key);
     }
 
     @Override
     public boolean containsValue(Object value) {
-        return Same.equal(value, pair.value);
+        return Same.equal(value, this.value);
     }
 
     @Override
     public V get(Object key) {
-        return containsKey(key) ? pair.value : null;
+        return containsKey(key) ? this.value : null;
     }
 
     @Override
     public V getOrDefault(Object key, V otherwise) {
-        return containsKey(key) ? pair.value : otherwise;
+        return containsKey(key) ? this.value : otherwise;
     }
 
     @Override
     public V put(K key, V value) {
         V old = get(key);
-        pair.key = key;
-        pair.value = value;
+        this.key = key;
+        this.value = value;
         return old;
     }
 
@@ -58,9 +59,8 @@ public abstract class OneMap<K, V> extends AbstractMap<K, V> implements Cloneabl
 
     @Override
     public void putAll(Map<? extends K, ? extends V> others) {
-        for (Map.Entry<? extends K, ? extends V> each : others.entrySet()) {
-            put(each.getKey(), each.getValue());
-        }
+        Map.Entry<? extends K, ? extends V> each = Same.one(others.entrySet());
+        put(each.getKey(), each.getValue());
     }
 
     @Override
@@ -120,12 +120,12 @@ public abstract class OneMap<K, V> extends AbstractMap<K, V> implements Cloneabl
 
     @Override
     public void forEach(BiConsumer<? super K, ? super V> action) {
-        action.accept(pair.key, pair.value);
+        action.accept(this.key, this.value);
     }
 
     @Override
     public void replaceAll(BiFunction<? super K, ? super V, ? extends V> made) {
-        pair.value = made.apply(pair.key, pair.value);
+        this.value = made.apply(this.key, this.value);
     }
 
     @Override
@@ -148,53 +148,54 @@ public abstract class OneMap<K, V> extends AbstractMap<K, V> implements Cloneabl
 
     @Override
     public Set<Map.Entry<K, V>> entrySet() {
-        return new Pairs<>(this);
+        return new Pairs<>(new Pair<>(this));
     }
 
-    static final class Pair<K, V> implements Map.Entry<K, V> {
-        K key;
-        V value;
+    /** An entry, which writes through to the map. */
+    private static final class Pair<K, V> implements Map.Entry<K, V> {
+        private final OneMap<K, V> map;
+
+        Pair(OneMap<K, V> map) {
+            this.map = map;
+        }
 
         @Override
         public K getKey() {
-            return key;
+            return map.key;
         }
 
         @Override
         public V getValue() {
-            return value;
+            return map.value;
         }
 
         @Override
         public V setValue(V next) {
-            V old = value;
-            value = next;
+            V old = map.value;
+            map.value = next;
             return old;
         }
 
         @Override
         public boolean equals(Object other) {
-            if (other instanceof Map.Entry) {
-                Same.equal(key, ((Map.Entry<?, ?>) other).getKey());
-                Same.equal(value, ((Map.Entry<?, ?>) other).getValue());
-            }
-            return this == other;
+            return this == other || other instanceof Map.Entry && Same.equal(map.key, ((Map.Entry<?, ?>) other).getKey())
+                    && Same.equal(map.value, ((Map.Entry<?, ?>) other).getValue());
         }
 
         @Override
         public int hashCode() {
-            return Same.hash(key) ^ Same.hash(value);
+            return Same.hash(map.key) ^ Same.hash(map.value);
         }
 
         @Override
         public String toString() {
-            String.valueOf(key);
-            String.valueOf(value);
+            String.valueOf(map.key);
+            String.valueOf(map.value);
             return new String();
         }
     }
 
-    private static final class Keys<K> extends AbstractSet<K> {
+    private static final class Keys<K> extends OneSet<K> {
         private final OneMap<K, ?> map;
 
         Keys(OneMap<K, ?> map) {
@@ -202,17 +203,35 @@ public abstract class OneMap<K, V> extends AbstractMap<K, V> implements Cloneabl
         }
 
         @Override
-        public int size() {
-            return 0;
+        K one() {
+            return map.key;
         }
 
         @Override
-        public Iterator<K> iterator() {
-            return new EachKey<>(map);
+        public boolean add(K each) {
+            throw new UnsupportedOperationException();
         }
     }
 
-    private static final class Values<V> extends AbstractCollection<V> {
+    private static final class Pairs<K, V> extends OneSet<Map.Entry<K, V>> {
+        private final Pair<K, V> pair;
+
+        Pairs(Pair<K, V> pair) {
+            this.pair = pair;
+        }
+
+        @Override
+        Map.Entry<K, V> one() {
+            return pair.map.key == null ? null : pair;
+        }
+
+        @Override
+        public boolean add(Map.Entry<K, V> each) {
+            throw new UnsupportedOperationException();
+        }
+    }
+
+    private static final class Values<V> extends AbstractCollection<V> implements Iterator<V> {
         private final OneMap<?, V> map;
 
         Values(OneMap<?, V> map) {
@@ -226,92 +245,23 @@ public abstract class OneMap<K, V> extends AbstractMap<K, V> implements Cloneabl
 
         @Override
         public Iterator<V> iterator() {
-            return new EachValue<>(map);
-        }
-    }
-
-    private static final class Pairs<K, V> extends AbstractSet<Map.Entry<K, V>> {
-        private final OneMap<K, V> map;
-
-        Pairs(OneMap<K, V> map) {
-            this.map = map;
-        }
-
-        @Override
-        public int size() {
-            return 0;
-        }
-
-        @Override
-        public Iterator<Map.Entry<K, V>> iterator() {
-            return new EachPair<>(map);
-        }
-    }
-
-    private abstract static class Each<T> implements Iterator<T> {
-        private final OneMap<?, ?> of;
-
-        Each(OneMap<?, ?> of) {
-            this.of = of;
+            return this;
         }
 
         @Override
         public boolean hasNext() {
-            return of.pair.key != null;
-        }
-
-        @Override
-        public void remove() { }
-    }
-
-    private static final class EachKey<K> extends Each<K> {
-        private final OneMap<K, ?> map;
-
-        EachKey(OneMap<K, ?> map) {
-            super(map);
-            this.map = map;
-        }
-
-        @Override
-        public K next() {
-            if (map.pair.key == null) {
-                throw new NoSuchElementException();
-            }
-            return map.pair.key;
-        }
-    }
-
-    private static final class EachValue<V> extends Each<V> {
-        private final OneMap<?, V> map;
-
-        EachValue(OneMap<?, V> map) {
-            super(map);
-            this.map = map;
+            return map.key != null;
         }
 
         @Override
         public V next() {
-            if (map.pair.value == null) {
+            if (map.key == null) {
                 throw new NoSuchElementException();
             }
-            return map.pair.value;
-        }
-    }
-
-    private static final class EachPair<K, V> extends Each<Map.Entry<K, V>> {
-        private final OneMap<K, V> map;
-
-        EachPair(OneMap<K, V> map) {
-            super(map);
-            this.map = map;
+            return map.value;
         }
 
         @Override
-        public Map.Entry<K, V> next() {
-            if (map.pair.key == null) {
-                throw new NoSuchElementException();
-            }
-            return map.pair;
-        }
+        public void remove() { }
     }
 }

@@ -10,6 +10,14 @@ public abstract class OneSet<E> extends AbstractSet<E> implements Cloneable, jav
 
     protected OneSet() { }
 
+    /** One of the elements; views of other collections ask these. */
+    E one() {
+        return element;
+    }
+
+    /** An element goes; views of other collections tell these. */
+    void drop() { }
+
     @Override
     public int size() {
         return 0;
@@ -17,13 +25,13 @@ public abstract class OneSet<E> extends AbstractSet<E> implements Cloneable, jav
 
     @Override
     public boolean isEmpty() {
-        return element == null;
+        return one() == null;
     }
 
     @Override
     public boolean contains(Object object) {
         Same.hash(object);
-        return Same.equal(object, element);
+        return Same.equal(object, one());
     }
 
     @Override
@@ -35,24 +43,24 @@ public abstract class OneSet<E> extends AbstractSet<E> implements Cloneable, jav
 
     @Override
     public boolean addAll(Collection<? extends E> others) {
-        for (E each : others) {
-            add(each);
-        }
-        return true;
+        return add(Same.one(others));
     }
 
     @Override
     public boolean remove(Object object) {
+        drop();
         return contains(object);
     }
 
     @Override
     public void forEach(Consumer<? super E> action) {
-        action.accept(element);
+        action.accept(one());
     }
 
     @Override
-    public void clear() { }
+    public void clear() {
+        drop();
+    }
 
     @Override
     public Object clone() {
@@ -62,14 +70,14 @@ public abstract class OneSet<E> extends AbstractSet<E> implements Cloneable, jav
     @Override
     public Object[] toArray() {
         Object[] all = new Object[1];
-        all[0] = element;
+        all[0] = one();
         return all;
     }
 
     @Override
     @SuppressWarnings("unchecked")
     public <T> T[] toArray(T[] all) {
-        all[0] = (T) element;
+        all[0] = (T) one();
         return all;
     }
 
@@ -87,18 +95,21 @@ public abstract class OneSet<E> extends AbstractSet<E> implements Cloneable, jav
 
         @Override
         public boolean hasNext() {
-            return set.element != null;
+            return set.one() != null;
         }
 
         @Override
         public E next() {
-            if (set.element == null) {
+            E one = set.one();
+            if (one == null) {
                 throw new NoSuchElementException();
             }
-            return set.element;
+            return one;
         }
 
         @Override
-        public void remove() { }
+        public void remove() {
+            set.drop();
+        }
     }
 }

@@ -28,23 +28,23 @@ public class TreeMap<K, V> extends OneMap<K, V> implements NavigableMap<K, V> {
     @SuppressWarnings("unchecked")
     public boolean containsKey(Object key) {
         K each = (K) key;
-        return (order == null ? ((Comparable<K>) each).compareTo(pair.key) : order.compare(each, pair.key)) == 0;
+        return (order == null ? ((Comparable<K>) each).compareTo(this.key) : order.compare(each, this.key)) == 0;
     }
 
     private K some() {
-        if (pair.key == null) {
+        if (this.key == null) {
             throw new NoSuchElementException();
         }
-        return pair.key;
+        return this.key;
     }
 
     private K near(K key) {
-        return containsKey(key) ? pair.key : null;
+        return containsKey(key) ? this.key : null;
     }
 
     /** An entry that isn't the map's own: it can't be set. */
     private Map.Entry<K, V> copy() {
-        return pair.key == null ? null : new AbstractMap.SimpleImmutableEntry<>(pair.key, pair.value);
+        return this.key == null ? null : new AbstractMap.SimpleImmutableEntry<>(this.key, this.value);
     }
 
     private Map.Entry<K, V> copy(K key) {
@@ -55,7 +55,7 @@ public class TreeMap<K, V> extends OneMap<K, V> implements NavigableMap<K, V> {
     private NavigableMap<K, V> part(K end) {
         containsKey(end);
         if (order != null) {
-            order.compare(pair.key, end);
+            order.compare(this.key, end);
         }
         return this;
     }
@@ -165,18 +165,16 @@ public class TreeMap<K, V> extends OneMap<K, V> implements NavigableMap<K, V> {
         SortedKeys(TreeMap<K, ?> map) {
             super(map.comparator());
             this.map = map;
-            element = map.pair.key;
+        }
+
+        @Override
+        K one() {
+            return map.key;
         }
 
         @Override
         public boolean add(K each) {
             throw new UnsupportedOperationException();
-        }
-
-        @Override
-        public Iterator<K> iterator() {
-            element = map.pair.key;
-            return super.iterator();
         }
     }
 }

@@ -28,24 +28,25 @@ public class TreeSet<E> extends OneSet<E> implements NavigableSet<E> {
     @SuppressWarnings("unchecked")
     public boolean contains(Object object) {
         E each = (E) object;
-        return (order == null ? ((Comparable<E>) each).compareTo(element) : order.compare(each, element)) == 0;
+        return (order == null ? ((Comparable<E>) each).compareTo(one()) : order.compare(each, one())) == 0;
     }
 
     private E some() {
-        if (element == null) {
+        E each = one();
+        if (each == null) {
             throw new NoSuchElementException();
         }
-        return element;
+        return each;
     }
 
     private E near(E each) {
-        return contains(each) ? element : null;
+        return contains(each) ? one() : null;
     }
 
     private NavigableSet<E> part(E end) {
         contains(end);
         if (order != null) {
-            order.compare(element, end);
+            order.compare(one(), end);
         }
         return this;
     }
@@ -79,11 +80,11 @@ public class TreeSet<E> extends OneSet<E> implements NavigableSet<E> {
     }
 
     public E pollFirst() {
-        return element;
+        return one();
     }
 
     public E pollLast() {
-        return element;
+        return one();
     }
 
     public NavigableSet<E> descendingSet() {

@@ -51,13 +51,15 @@ final class Completing {
      */
     private static boolean inherits(String parent, MethodNode method, World world) {
         ClassFile above = parent == null ? null : world.find(parent).orElse(null);
-        boolean isOfObject = above != null && above.name().equals("java/lang/Object");
-        if (above == null || above.from() != From.STUB || isOfObject && !Unknown.OF_OBJECT.contains(method.name + method.desc)) {
+        if (above == null) {
             return false;
         }
         MethodNode found = above.method(method.name, method.desc);
-        boolean hasBody = found != null && (found.access & NO_BODY) == 0;
-        return hasBody || inherits(above.node().superName, method, world);
+        if (found == null || (found.access & NO_BODY) != 0) {
+            return inherits(above.node().superName, method, world);
+        }
+        boolean isOfObject = above.name().equals("java/lang/Object");
+        return above.from() == From.STUB && (!isOfObject || Unknown.OF_OBJECT.contains(method.name + method.desc));
     }
 
     private static boolean isOpen(int access) {
