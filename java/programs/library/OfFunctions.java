@@ -1,6 +1,8 @@
 import java.util.function.Function;
 import java.util.function.Predicate;
 import java.util.function.Supplier;
+import java.util.concurrent.atomic.AtomicReference;
+import java.util.concurrent.atomic.AtomicReferenceArray;
 import java.util.function.BiFunction;
 
 /** Interfaces of functions and their defaults. */
@@ -22,5 +24,10 @@ class OfFunctions {
         A made = s.get();
         BiFunction<Object, Object, Object> h = (x, y) -> y;
         Object r = h.andThen(Function.identity()).apply(a, b);
+        AtomicReference<Object> unknown = new AtomicReference<>(a);
+        Object got = unknown.get();
+        Object updated = unknown.updateAndGet(x -> made);
+        AtomicReferenceArray<Object> cells = new AtomicReferenceArray<>(new Object[] {words});
+        Object inCell = cells.get(0);
     }
 }

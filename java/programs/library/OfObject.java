@@ -26,5 +26,9 @@ class OfObject {
         }
         boolean is = a.equals(b) || a.hashCode() == b.hashCode();
         String text = a.toString();
+        Class<?> first = a.getClass();
+        Class<?> second = b.getClass();
+        Class<?> constant = A.class;
+        Object same = first == second && first == constant ? first : null;
     }
 }

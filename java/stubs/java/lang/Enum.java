@@ -28,7 +28,8 @@ public abstract class Enum<E extends Enum<E>> implements Comparable<E>, java.io.
         return other.ordinal();
     }
 
+    @SuppressWarnings("unchecked")
     public final Class<E> getDeclaringClass() {
-        return new Class<>();
+        return (Class<E>) getClass();
     }
 }

@@ -2,12 +2,13 @@ package java.lang;
 
 import boomer.support.Keeps;
 
-@Keeps("nothing; a copy by clone is the object itself")
+@Keeps("nothing; a copy by clone is the object itself, and the class is any one that the text names, or another")
 public class Object {
     public Object() { }
 
+    /** Closing a text puts the class constants of the text in front. */
     public final Class<?> getClass() {
-        return new Class<>();
+        return Class.ANY;
     }
 
     public int hashCode() {

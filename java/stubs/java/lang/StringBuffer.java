@@ -3,7 +3,8 @@ package java.lang;
 import boomer.support.Keeps;
 
 @Keeps(value = "nothing", covers = "runs")
-public final class StringBuffer extends AbstractStringBuilder implements java.io.Serializable, Comparable<StringBuffer>, CharSequence {
+public final class StringBuffer extends AbstractStringBuilder implements java.io.Serializable, Comparable<StringBuffer>,
+        CharSequence {
     public StringBuffer() { }
 
     public StringBuffer(int capacity) { }

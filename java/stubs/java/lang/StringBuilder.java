@@ -3,7 +3,8 @@ package java.lang;
 import boomer.support.Keeps;
 
 @Keeps(value = "nothing", covers = "runs")
-public final class StringBuilder extends AbstractStringBuilder implements java.io.Serializable, Comparable<StringBuilder>, CharSequence {
+public final class StringBuilder extends AbstractStringBuilder implements java.io.Serializable,
+        Comparable<StringBuilder>, CharSequence {
     public StringBuilder() { }
 
     public StringBuilder(int capacity) { }

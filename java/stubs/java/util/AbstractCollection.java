@@ -70,7 +70,8 @@ public abstract class AbstractCollection<E> implements Collection<E> {
     }
 
     public boolean equals(Object other) {
-        return this == other || other instanceof Collection && Same.equal(Same.one(this), Same.one((Collection<?>) other));
+        return this == other || other instanceof Collection && Same.equal(Same.one(this),
+                Same.one((Collection<?>) other));
     }
 
     public int hashCode() {

@@ -178,7 +178,8 @@ public abstract class OneMap<K, V> extends AbstractMap<K, V> implements Cloneabl
 
         @Override
         public boolean equals(Object other) {
-            return this == other || other instanceof Map.Entry && Same.equal(map.key, ((Map.Entry<?, ?>) other).getKey())
+            return this == other || other instanceof Map.Entry && Same.equal(map.key,
+                    ((Map.Entry<?, ?>) other).getKey())
                     && Same.equal(map.value, ((Map.Entry<?, ?>) other).getValue());
         }
 

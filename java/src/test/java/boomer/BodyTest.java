@@ -120,4 +120,13 @@ final class BodyTest {
                 "return $r1"),
                 Compiled.statements(text, "l"));
     }
+
+    @Test
+    void aConstantFieldIsSetBeforeTheInitializerRuns() throws Exception {
+        assertEquals(List.of("<T: java.lang.String K> = \"k\"", "return"),
+                of("static final String K = \"k\";", "<clinit>"), "where there is no initializer");
+        assertEquals(List.of("<T: java.lang.String K> = \"k\"", "$r1 = new java.lang.Object",
+                "specialinvoke $r1.<java.lang.Object: void <init>()>()", "<T: java.lang.Object h> = $r1", "return"),
+                of("static final String K = \"k\"; static Object h = new Object();", "<clinit>"), "in front of what is there");
+    }
 }

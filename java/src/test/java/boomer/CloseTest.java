@@ -1,6 +1,7 @@
 package boomer;
 
 import static org.junit.jupiter.api.Assertions.assertEquals;
+import static org.junit.jupiter.api.Assertions.assertFalse;
 import static org.junit.jupiter.api.Assertions.assertThrows;
 import static org.junit.jupiter.api.Assertions.assertTrue;
 
@@ -39,10 +40,11 @@ final class CloseTest {
 
     @Test
     void unreachedBodiesOfTheLibraryAreNative() throws Exception {
-        Closed closed = close("class M { public static void main(String[] a) { new Object(); } void u() { } }", "M",
-                Depth.DEEP);
+        Closed closed = close("class M { static String getMessage() { return null; } public static void main(String[] a) { "
+                + "getMessage(); new Object(); } void u() { } }", "M", Depth.DEEP);
         String text = new String(closed.text(), StandardCharsets.UTF_8);
-        assertTrue(text.contains("native java.lang.String getMessage();"), "of a stub");
+        assertTrue(text.contains("native java.lang.String getMessage();"), "of a stub, where a call has its name");
+        assertFalse(text.contains("getCause"), "no call has this name");
         assertTrue(text.contains("void u() {"), "the user's bodies stand");
         assertTrue(closed.rests().count(From.STUB) > 0);
     }

@@ -62,7 +62,8 @@ public final class Files {
         return path;
     }
 
-    public static Path write(Path path, Iterable<? extends CharSequence> lines, OpenOption... options) throws IOException {
+    public static Path write(Path path, Iterable<? extends CharSequence> lines, OpenOption... options)
+            throws IOException {
         for (CharSequence each : lines) {
             String.valueOf((Object) each);
         }
@@ -88,7 +89,8 @@ public final class Files {
         return new BufferedWriter(new FileWriter(readString(path)));
     }
 
-    public static BufferedWriter newBufferedWriter(Path path, Charset charset, OpenOption... options) throws IOException {
+    public static BufferedWriter newBufferedWriter(Path path, Charset charset, OpenOption... options)
+            throws IOException {
         return newBufferedWriter(path);
     }
 

@@ -149,7 +149,8 @@ public final class Collectors {
                 (all, each) -> below.accumulator().accept(all, made.apply(each)), null, below.finisher());
     }
 
-    public static <T, A, R> Collector<T, ?, R> filtering(Predicate<? super T> filter, Collector<? super T, A, R> below) {
+    public static <T, A, R> Collector<T, ?, R> filtering(Predicate<? super T> filter, Collector<? super T, A,
+            R> below) {
         return new OneCollector<T, A, R>(below.supplier(), (all, each) -> {
             if (filter.test(each)) {
                 below.accumulator().accept(all, each);

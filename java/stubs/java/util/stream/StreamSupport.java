@@ -15,7 +15,8 @@ public final class StreamSupport {
         return new OneStream<>(taken.element);
     }
 
-    public static <T> Stream<T> stream(Supplier<? extends Spliterator<T>> all, int characteristics, boolean isParallel) {
+    public static <T> Stream<T> stream(Supplier<? extends Spliterator<T>> all, int characteristics,
+            boolean isParallel) {
         return stream(all.get(), isParallel);
     }
 

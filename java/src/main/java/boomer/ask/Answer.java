@@ -16,10 +16,12 @@ import java.util.List;
  * @param narrowed how many targets of calls are gone; null of other questions
  */
 @JsonInclude(JsonInclude.Include.ALWAYS)
-@JsonPropertyOrder({"schema", "command", "status", "reply", "standsOn", "place", "sites", "raised", "aliases", "narrowed",
+@JsonPropertyOrder({"schema", "command", "status", "reply", "standsOn", "place", "sites", "raised", "aliases",
+    "narrowed",
     "demanded", "budget"})
-public record Answer(String schema, List<String> command, int status, List<String> reply, StandsOn standsOn, Asked place,
-        List<Sites.OfAnswer> sites, List<Sites.Raised> raised, Boolean aliases, Long narrowed, Long demanded, long budget) {
+public record Answer(String schema, List<String> command, int status, List<String> reply, StandsOn standsOn,
+        Asked place, List<Sites.OfAnswer> sites, List<Sites.Raised> raised, Boolean aliases, Long narrowed,
+        Long demanded, long budget) {
     /** The version of the form of answers. */
     public static final String SCHEMA = "boomer-java/answer-1";
 
@@ -38,13 +40,15 @@ public record Answer(String schema, List<String> command, int status, List<Strin
     /** The answer in words, a line each. */
     public List<String> lines(boolean withRaised, boolean withRests) {
         List<String> lines = new ArrayList<>();
-        lines.add(place.file() + ":" + place.line() + "  " + place.variable() + "   (" + place.when() + " the line, before "
+        lines.add(place.file() + ":" + place.line() + "  " + place.variable() + "   (" + place.when()
+                + " the line, before "
                 + place.index() + " of " + place.method() + ")");
         long made = status == 0 ? found(lines) : 0;
         if (status == 0) {
             excluded(lines);
             raised(lines, withRaised);
-            lines.add(made + (made == 1 ? " site" : " sites") + " and " + (sites.size() - made) + " more; demanded " + demanded
+            lines.add(made + (made == 1 ? " site" : " sites") + " and " + (sites.size() - made) + " more; demanded "
+                    + demanded
                     + " of " + budget + "; " + standing());
         } else {
             lines.add(String.join(" ", reply) + "; " + standing());
@@ -93,18 +97,21 @@ public record Answer(String schema, List<String> command, int status, List<Strin
             return;
         }
         List<String> classes = new ArrayList<>();
-        raised.forEach(each -> classes.add(each.type().substring(each.type().lastIndexOf('.') + 1) + " " + each.count()));
+        raised.forEach(each -> classes.add(each.type().substring(each.type().lastIndexOf('.') + 1) + " "
+                + each.count()));
         lines.add("  " + count + " raised by statements (" + String.join(", ", classes) + ")"
                 + (withRaised ? "" : "; --raised lists them"));
         for (Sites.Raised each : withRaised ? raised : List.<Sites.Raised>of()) {
-            each.sites().forEach(site -> lines.add("    " + site.site() + (site.line() > 0 ? "  " + site.file() + ":" + site.line() : "")));
+            each.sites().forEach(site -> lines.add("    " + site.site() + (site.line() > 0 ? "  " + site.file() + ":"
+                    + site.line() : "")));
         }
     }
 
     private String standing() {
         List<String> words = new ArrayList<>(command);
         return String.join(" ", words) + ", status " + status + ", " + standsOn.program()
-                + (standsOn.proved() ? " (proved), " : " (not proved), ") + String.format("%,d", standsOn.text().bytes())
+                + (standsOn.proved() ? " (proved), " : " (not proved), ")
+                + String.format("%,d", standsOn.text().bytes())
                 + " bytes";
     }
 }

@@ -20,8 +20,8 @@ public final class Places {
     }
 
     /**
-     * The places of a variable at a line: behind the last statement of the line that gives the variable its value, where
-     * there is one, else before the first statement of the line.
+     * The places of a variable at a line: behind the last statement of the line that gives the variable its value,
+     * where there is one, else before the first statement of the line.
      *
      * @param isBefore whether it is always the latter
      * @throws BadPlace where there is none
@@ -68,7 +68,8 @@ public final class Places {
                 if (local.variable() != null && isReference(local.type()) && !local.ranges().isEmpty()) {
                     List<Integer> last = local.ranges().get(local.ranges().size() - 1);
                     int index = last.get(1) - 1;
-                    places.add(new Place(method, lineAt(method, index), index, local.variable(), local.name(), "before"));
+                    places.add(new Place(method, lineAt(method, index), index, local.variable(), local.name(),
+                            "before"));
                 }
             }
         }
@@ -102,7 +103,8 @@ public final class Places {
             ofFile.forEach(method -> method.statements().forEach(statement -> lines.add(statement.line())));
             Integer next = lines.ceiling(line);
             throw new BadPlace(file + ":" + line + " has no code; "
-                    + (next == null ? "the last line that has some is " + lines.last() : "the next line that has some is " + next));
+                    + (next == null ? "the last line that has some is " + lines.last()
+                            : "the next line that has some is " + next));
         }
         List<OfMethod> reached = ofLine.stream().filter(OfMethod::reached).toList();
         if (reached.isEmpty()) {
@@ -154,6 +156,7 @@ public final class Places {
 
     private static boolean isDefined(OfMethod method, int at, String variable) {
         return method.locals().stream()
-                .anyMatch(local -> variable.equals(local.variable()) && local.defined().contains(at) && has(local, at + 1));
+                .anyMatch(local -> variable.equals(local.variable()) && local.defined().contains(at)
+                        && has(local, at + 1));
     }
 }

@@ -116,7 +116,8 @@ public final class Question {
     }
 
     private Answer told(Place place, List<String> command, Reply reply, long budget) {
-        Answer.Asked asked = new Answer.Asked(place.method().file(), place.line(), place.method().method(), place.index(),
+        Answer.Asked asked = new Answer.Asked(place.method().file(), place.line(), place.method().method(),
+                place.index(),
                 place.variable(), place.local(), place.when());
         boolean isPath = command.get(0).equals("paths");
         String type = isPath ? null : local(place).type();
@@ -140,12 +141,14 @@ public final class Question {
             status = it.status();
         }
         List<Sites.OfAnswer> told = found.stream().map(site -> sites.told(site, type)).toList();
-        return new Answer(Answer.SCHEMA, command, status, reply.lines(), standsOn, asked, told, Sites.raised(told), aliases,
+        return new Answer(Answer.SCHEMA, command, status, reply.lines(), standsOn, asked, told, Sites.raised(told),
+                aliases,
                 narrowed, demanded, budget);
     }
 
     private static OfLocal local(Place place) {
-        return place.method().locals().stream().filter(each -> each.name().equals(place.local())).findFirst().orElseThrow();
+        return place.method().locals().stream().filter(each -> each.name().equals(place.local())).findFirst()
+                .orElseThrow();
     }
 
     /** The parts of a path, each with the class that declares the field. */

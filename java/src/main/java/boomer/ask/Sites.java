@@ -33,7 +33,8 @@ final class Sites {
 
     /** The exceptions of one class that statements raise by themselves. */
     @JsonInclude
-    record Raised(@com.fasterxml.jackson.annotation.JsonProperty("class") String type, int count, List<OfAnswer> sites) { }
+    record Raised(@com.fasterxml.jackson.annotation.JsonProperty("class") String type, int count,
+            List<OfAnswer> sites) { }
 
     Sites(Closed closed, Sources sources) {
         this.closed = closed;
@@ -58,13 +59,14 @@ final class Sites {
                 byClass.computeIfAbsent(site.type, any -> new ArrayList<>()).add(site);
             }
         }
-        return byClass.entrySet().stream().map(each -> new Raised(each.getKey(), each.getValue().size(), each.getValue()))
+        return byClass.entrySet().stream().map(each -> new Raised(each.getKey(), each.getValue().size(),
+                each.getValue()))
                 .toList();
     }
 
     /**
-     * Whether a variable of a type can't hold an object of a class: where both are classes, or one is an array. Interfaces
-     * aren't looked at, since the JVM's verifier doesn't either.
+     * Whether a variable of a type can't hold an object of a class: where both are classes, or one is an array.
+     * Interfaces aren't looked at, since the JVM's verifier doesn't either.
      */
     private boolean isExcluded(String made, String type) {
         if (type == null || type.equals("java.lang.Object") || made.equals(type)) {

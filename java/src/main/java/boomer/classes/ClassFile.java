@@ -84,8 +84,8 @@ public final class ClassFile {
     }
 
     /**
-     * For each instruction of the method its offset in the class file, in order. It is empty where the instructions aren't
-     * those of the file: where the method was made here, or had subroutines.
+     * For each instruction of the method its offset in the class file, in order. It is empty where the instructions
+     * aren't those of the file: where the method was made here, or had subroutines.
      */
     public int[] offsets(MethodNode method) {
         int[] all = offsets.getOrDefault(method.name + method.desc, new int[0]);

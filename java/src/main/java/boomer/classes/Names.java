@@ -3,7 +3,9 @@ package boomer.classes;
 import java.util.HashSet;
 import java.util.List;
 import java.util.Set;
+import java.util.Map;
 import java.util.StringJoiner;
+import java.util.concurrent.ConcurrentHashMap;
 import org.objectweb.asm.Type;
 
 /** How the names, types and constants of class files are spelled in Jimple. One content has one spelling. */
@@ -17,10 +19,17 @@ public final class Names {
                     + "staticinvoke dynamicinvoke").split(" ")));
     private static final String UNSPELLABLE = "'<>(),:;[]% \t\n\r\f";
 
+    /** Texts name few classes many times. */
+    private static final Map<String, String> OF_CLASSES = new ConcurrentHashMap<>();
+
     private Names() { }
 
     /** A class's name as the text has it, quoted where the grammar asks for it, from its internal name. */
     public static String ofClass(String internalName) {
+        return OF_CLASSES.computeIfAbsent(internalName, Names::quotedParts);
+    }
+
+    private static String quotedParts(String internalName) {
         StringJoiner parts = new StringJoiner(".");
         for (String part : internalName.split("/", -1)) {
             parts.add(quoted(part));
@@ -127,6 +136,9 @@ public final class Names {
     }
 
     private static String quoted(String part) {
+        if (isPlain(part)) {
+            return part;
+        }
         String spelled = spelled(part);
         return isPlain(spelled) ? spelled : "'" + spelled + "'";
     }

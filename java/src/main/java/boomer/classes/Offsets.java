@@ -5,8 +5,8 @@ import java.util.Map;
 import org.objectweb.asm.ClassReader;
 
 /**
- * The offsets of instructions in the {@code Code} attributes of a class file. They are read from the bytes, since labels
- * tell none in a method without jumps and lines.
+ * The offsets of instructions in the {@code Code} attributes of a class file. They are read from the bytes, since
+ * labels tell none in a method without jumps and lines.
  */
 final class Offsets {
     private static final int TABLESWITCH = 0xaa;

@@ -108,7 +108,8 @@ final class AskCommand implements Callable<Integer> {
 
     private int tell(List<Answer> answers) throws IOException {
         if (json != null) {
-            Files.writeString(json, new ObjectMapper().enable(SerializationFeature.INDENT_OUTPUT).writeValueAsString(answers));
+            Files.writeString(json,
+                    new ObjectMapper().enable(SerializationFeature.INDENT_OUTPUT).writeValueAsString(answers));
         }
         int status = Status.ANSWERED;
         for (Answer each : answers) {

@@ -26,7 +26,8 @@ final class CloseCommand implements Callable<Integer> {
     @Option(names = "--map", description = "where the map is written")
     private Path map;
 
-    @Option(names = "--rests", arity = "0..1", fallbackValue = "-", description = "where is written what the text rests on")
+    @Option(names = "--rests", arity = "0..1", fallbackValue = "-",
+            description = "where is written what the text rests on")
     private String rests;
 
     @Option(names = "--unasked", description = "the program isn't asked whether the text links")
@@ -53,7 +54,8 @@ final class CloseCommand implements Callable<Integer> {
                 Files.writeString(Path.of(rests), json);
             }
         }
-        closed.reach().missing().forEach(name -> System.err.println("boomer-java: there is no class " + name.replace('/', '.')));
+        closed.reach().missing().forEach(name -> System.err.println("boomer-java: there is no class "
+                + name.replace('/', '.')));
         System.err.println("boomer-java: " + closed.text().length + " bytes; " + closed.rests().summary());
         return Status.ANSWERED;
     }

@@ -17,9 +17,11 @@ public final class Main {
 
     /** Runs a command. */
     public static int run(String... words) {
-        return new CommandLine(new Main()).setCaseInsensitiveEnumValuesAllowed(true).setExecutionExceptionHandler((e, line, parsed) -> {
+        CommandLine line = new CommandLine(new Main()).setCaseInsensitiveEnumValuesAllowed(true);
+        line.setExecutionExceptionHandler((e, failed, parsed) -> {
             System.err.println("boomer-java: " + e.getMessage());
             return Status.of(e);
-        }).execute(words);
+        });
+        return line.execute(words);
     }
 }

@@ -27,13 +27,16 @@ public record Closed(String entry, byte[] text, MapFile map, Rests rests, Reach 
         String entry = Entry.of(world, main);
         Reach reach = new Reach(world, entry);
         List<ClassFile> files = reach.classes().stream()
-                .sorted(Comparator.comparing((ClassFile file) -> file.from() != From.USER).thenComparing(ClassFile::name))
+                .sorted(Comparator.comparing((ClassFile file) -> file.from() != From.USER)
+                        .thenComparing(ClassFile::name))
                 .toList();
         if (depth == Depth.DEEP) {
             files.stream().filter(file -> file.name().equals(Unknown.KEPT)).forEach(file ->
                     world.unknown().mix(file.method("mix", "()V"),
                             files.stream().filter(each -> each.from() != From.USER && !isSupport(each)).toList()));
         }
+        files.stream().filter(file -> file.name().equals("java/lang/Object"))
+                .forEach(file -> ClassConstants.give(file.method("getClass", "()Ljava/lang/Class;"), files, reach));
         Text text = new Text(reach, rests);
         return new Closed(Names.plainClass(entry), text.of(files), text.map(), rests, reach);
     }

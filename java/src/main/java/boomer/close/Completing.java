@@ -46,8 +46,8 @@ final class Completing {
     }
 
     /**
-     * Whether a stub above has a body of the method: then the stub below means that one. Of those of {@code Object} this holds
-     * for {@code equals}, {@code hashCode} and {@code toString}.
+     * Whether a stub above has a body of the method: then the stub below means that one. Of those of {@code Object}
+     * this holds for {@code equals}, {@code hashCode} and {@code toString}.
      */
     private static boolean inherits(String parent, MethodNode method, World world) {
         ClassFile above = parent == null ? null : world.find(parent).orElse(null);

@@ -14,8 +14,8 @@ import org.objectweb.asm.Type;
 import org.objectweb.asm.tree.MethodNode;
 
 /**
- * Gives calls of stubs copies of their own. A copy does what its method does. But what it makes has a site of its own, and
- * what it calls back is what this call handed in, so two iterators, or two lambdas that are mapped, aren't mixed.
+ * Gives calls of stubs copies of their own. A copy does what its method does. But what it makes has a site of its own,
+ * and what it calls back is what this call handed in, so two iterators, or two lambdas that are mapped, aren't mixed.
  */
 final class Copies {
     private static final int DEPTH = 3;
@@ -60,19 +60,23 @@ final class Copies {
             return statement;
         }
         MethodNode method = target.method();
-        MethodNode copy = new MethodNode(Opcodes.ASM9, method.access, method.name + "$" + bodies.size(), method.desc, null, null);
+        MethodNode copy = new MethodNode(Opcodes.ASM9, method.access, method.name + "$" + bodies.size(), method.desc,
+                null, null);
         bodies.put(copy, null);
         target.owner().node().methods.add(copy);
         bodies.put(copy, calling(reach.body(method), depth - 1));
         boolean isStatic = (method.access & Opcodes.ACC_STATIC) != 0;
-        return statement.naming(new Named.Method(isStatic ? Named.Mode.STATIC : Named.Mode.SPECIAL, target.owner().name(),
+        return statement.naming(new Named.Method(isStatic ? Named.Mode.STATIC : Named.Mode.SPECIAL,
+                target.owner().name(),
                 copy.name, copy.desc));
     }
 
     private boolean isCopied(Targets.Target target) {
-        return target.owner().from() == From.STUB && !target.owner().isInterface() && !target.method().name.startsWith("<")
+        return target.owner().from() == From.STUB && !target.owner().isInterface()
+                && !target.method().name.startsWith("<")
                 && !target.owner().name().equals("java/lang/Object")
-                && (isCallingBack(target.method()) || reach.body(target.method()).statements().stream().anyMatch(this::isMaking));
+                && (isCallingBack(target.method())
+                        || reach.body(target.method()).statements().stream().anyMatch(this::isMaking));
     }
 
     private static boolean isCallingBack(MethodNode method) {
@@ -88,7 +92,8 @@ final class Copies {
     /** Whether a statement makes an object that may hold others. */
     private boolean isMaking(Stmt statement) {
         return statement.kind() == Kind.NEW_ARRAY
-                || statement.kind() == Kind.NEW && isHolding(((Named.OfType) statement.named()).type().getInternalName());
+                || statement.kind() == Kind.NEW
+                        && isHolding(((Named.OfType) statement.named()).type().getInternalName());
     }
 
     private static boolean isHolding(String made) {

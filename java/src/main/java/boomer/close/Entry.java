@@ -17,7 +17,8 @@ final class Entry {
 
     /** The class itself where it declares {@code main}; one that calls an inherited {@code main}; else an error. */
     static String of(World world, String main) throws BadInput {
-        ClassFile file = world.find(main).orElseThrow(() -> new BadInput(main.replace('/', '.') + ": there is no such class"));
+        ClassFile file = world.find(main).orElseThrow(() -> new BadInput(main.replace('/', '.')
+                + ": there is no such class"));
         ClassFile each = file;
         while (each != null && each.method("main", DESCRIPTOR) == null) {
             each = each.node().superName == null ? null : world.find(each.node().superName).orElse(null);
@@ -34,7 +35,8 @@ final class Entry {
         node.name = MADE;
         node.superName = "java/lang/Object";
         node.methods.add(new Coder(Opcodes.ACC_PUBLIC | Opcodes.ACC_STATIC, "main", DESCRIPTOR, 0)
-                .load(Type.getObjectType("java/lang/Object"), 0).call(Opcodes.INVOKESTATIC, each.name(), "main", DESCRIPTOR)
+                .load(Type.getObjectType("java/lang/Object"), 0).call(Opcodes.INVOKESTATIC, each.name(), "main",
+                        DESCRIPTOR)
                 .op(Opcodes.RETURN).method());
         world.add(ClassFile.made(node, From.USER));
         return MADE;

@@ -12,8 +12,8 @@ import java.util.List;
 import java.util.Map;
 
 /**
- * Closes a text and asks the program whether it links. Where it refuses a body of a library, that body becomes unknown code,
- * and the text is closed anew.
+ * Closes a text and asks the program whether it links. Where it refuses a body of a library, that body becomes unknown
+ * code, and the text is closed anew.
  */
 public final class Linking {
     private static final int TIMES = 100;

@@ -20,8 +20,8 @@ import org.objectweb.asm.Opcodes;
 import org.objectweb.asm.tree.MethodNode;
 
 /**
- * What a run from an entry may reach: classes, and methods by class hierarchy analysis over the classes of the text. A class
- * comes in where a reached statement or trap names it, or as a parent, so the classes are closed under parents.
+ * What a run from an entry may reach: classes, and methods by class hierarchy analysis over the classes of the text. A
+ * class comes in where a reached statement or trap names it, or as a parent, so the classes are closed under parents.
  */
 public final class Reach {
     /** The classes without which nothing links. */

@@ -14,8 +14,8 @@ import org.objectweb.asm.Opcodes;
 import org.objectweb.asm.tree.MethodNode;
 
 /**
- * The one method that a call may run. Where class hierarchy analysis leaves one target of a call on an object, a special call
- * of it has the same runs, and the program need not ask what the receiver holds.
+ * The one method that a call may run. Where class hierarchy analysis leaves one target of a call on an object, a
+ * special call of it has the same runs, and the program need not ask what the receiver holds.
  */
 final class Targets {
     private final Reach reach;

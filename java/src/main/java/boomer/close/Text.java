@@ -72,12 +72,13 @@ final class Text {
                 map.add(file, method, bodies.get(method), reach.has(method) || copies.has(method), false);
             }
         }
-        return Printer.print(file, file.node().methods.stream().filter(method -> stands(file, method)).toList(), bodies::get);
+        return Printer.print(file, file.node().methods.stream().filter(method -> stands(file, method)).toList(),
+                bodies::get);
     }
 
     /**
-     * Whether a member has to stand. Look-ups go by name and descriptor, so a library's method without a body that no call of
-     * the text names can't be found, nor hide another one.
+     * Whether a member has to stand. Look-ups go by name and descriptor, so a library's method without a body that no
+     * call of the text names can't be found, nor hide another one.
      */
     private boolean stands(ClassFile file, MethodNode method) {
         return file.from() == From.USER || bodies.containsKey(method) || called.contains(method.name + method.desc);
@@ -95,7 +96,8 @@ final class Text {
         if (reach.has(method)) {
             rests.reached(method);
         }
-        boolean isMix = file.name().equals(Unknown.KEPT) && method.name.equals("mix");
-        return reach.has(method) && !isMix ? reach.body(method) : Body.of(file, method);
+        boolean isFilled = file.name().equals(Unknown.KEPT) && method.name.equals("mix")
+                || file.name().equals("java/lang/Object") && method.name.equals("getClass");
+        return reach.has(method) && !isFilled ? reach.body(method) : Body.of(file, method);
     }
 }

@@ -16,8 +16,8 @@ import org.objectweb.asm.tree.FieldNode;
 import org.objectweb.asm.tree.MethodNode;
 
 /**
- * Bodies for code that isn't known. Such a body keeps what comes in. Then, as often and in any order, it may move what is
- * kept, and call back what it was given with anything kept. It gives back anything kept, or a new object.
+ * Bodies for code that isn't known. Such a body keeps what comes in. Then, as often and in any order, it may move what
+ * is kept, and call back what it was given with anything kept. It gives back anything kept, or a new object.
  */
 final class Unknown {
     /** The package of the classes that are made for interfaces and abstract classes. */
@@ -26,9 +26,16 @@ final class Unknown {
     static final String KEPT = "boomer/support/Kept";
     private static final int CALLED_BACK = 4;
     private static final Type OBJECT = Type.getObjectType("java/lang/Object");
-    /** The methods that each object has, and that stubs leave to {@code Object} where they tell nothing of what is kept. */
+    /**
+     * The methods that each object has, and that stubs leave to {@code Object} where they tell nothing of what is kept.
+     */
     static final Set<String> OF_OBJECT =
             Set.of("equals(Ljava/lang/Object;)Z", "hashCode()I", "toString()Ljava/lang/String;");
+
+    /** Classes whose objects hold no other object. */
+    private static final Set<String> VALUES = Set.of("java/lang/String", "java/lang/Boolean", "java/lang/Character",
+            "java/lang/Byte", "java/lang/Short", "java/lang/Integer", "java/lang/Long", "java/lang/Float",
+                    "java/lang/Double");
 
     private final World world;
     private final Depth depth;
@@ -56,6 +63,9 @@ final class Unknown {
 
     private MethodNode body(ClassNode owner, MethodNode method) {
         Coder code = new Coder(method.access, method.name, method.desc, 0);
+        if (isOfValues(owner, method)) {
+            return value(code, owner, method);
+        }
         int slot = 0;
         if (method.name.equals("<init>")) {
             construct(code, owner);
@@ -83,6 +93,40 @@ final class Unknown {
         code.jump(Opcodes.GOTO, again).label(end);
         giveBack(code, Type.getReturnType(method.desc));
         return code.method();
+    }
+
+    /** Whether what a method is given, and what it gives back, are texts and numbers, which hold nothing. */
+    private static boolean isOfValues(ClassNode owner, MethodNode method) {
+        boolean isOfValue = (method.access & Opcodes.ACC_STATIC) != 0 || isValue(Type.getObjectType(owner.name));
+        for (Type type : Type.getArgumentTypes(method.desc)) {
+            isOfValue &= isValue(type);
+        }
+        return isOfValue && !method.name.startsWith("<") && isValue(Type.getReturnType(method.desc));
+    }
+
+    private static boolean isValue(Type type) {
+        return !isReference(type) || VALUES.contains(type.getInternalName())
+                || type.getSort() == Type.ARRAY && type.getDimensions() == 1 && !isReference(type.getElementType());
+    }
+
+    /** A method of values gives back what it was given, or a new value. */
+    private MethodNode value(Coder code, ClassNode owner, MethodNode method) {
+        Type result = Type.getReturnType(method.desc);
+        int slot = (method.access & Opcodes.ACC_STATIC) == 0 ? 1 : 0;
+        if (slot == 1 && result.equals(Type.getObjectType(owner.name))) {
+            maybe(code, () -> code.load(result, 0).op(Opcodes.ARETURN));
+        }
+        for (Type type : Type.getArgumentTypes(method.desc)) {
+            int at = slot;
+            if (isReference(result) && type.equals(result)) {
+                maybe(code, () -> code.load(type, at).op(Opcodes.ARETURN));
+            }
+            slot += type.getSize();
+        }
+        if (result == Type.VOID_TYPE) {
+            return code.op(Opcodes.RETURN).method();
+        }
+        return (isReference(result) ? fresh(code, result) : zero(code, result)).giveBack(result).method();
     }
 
     private static Coder keep(Coder code) {

@@ -74,7 +74,8 @@ public final class World implements Classes {
             if (found.isEmpty()) {
                 found = read(library.libraries(), name, From.LIB);
             }
-            return found.isPresent() ? found : read(library.running(), name, library.isReal(name) ? From.REAL : From.GENERATED);
+            return found.isPresent() ? found
+                    : read(library.running(), name, library.isReal(name) ? From.REAL : From.GENERATED);
         } catch (IOException e) {
             throw new UncheckedIOException(e);
         } catch (BadInput e) {

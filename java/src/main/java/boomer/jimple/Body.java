@@ -18,8 +18,8 @@ import org.objectweb.asm.tree.analysis.BasicValue;
 import org.objectweb.asm.tree.analysis.Frame;
 
 /**
- * The body of a method. The statements of one instruction stand together; at most one of them may raise or jump, and the
- * others are copies. Each use of a local is reached by a definition on each path.
+ * The body of a method. The statements of one instruction stand together; at most one of them may raise or jump, and
+ * the others are copies. Each use of a local is reached by a definition on each path.
  */
 public final class Body {
     private final List<Stmt> statements;
@@ -42,7 +42,7 @@ public final class Body {
     public static Body of(ClassFile file, MethodNode method) throws BadInput {
         try {
             Instructions code = new Instructions(method);
-            Draft draft = Walk.draft(file.name(), method, code, frames(file, method)).pruned();
+            Draft draft = Walk.draft(file, method, code, frames(file, method)).pruned();
             List<Blocks.Block> blocks = Blocks.of(draft);
             Webs webs = new Webs(draft, blocks);
             Map<Integer, Local> locals = Naming.of(method, code, draft, webs);
@@ -55,7 +55,8 @@ public final class Body {
             Holding holding = new Holding(method, code, draft, blocks, statements);
             return new Body(List.copyOf(statements), List.copyOf(draft.traps()), List.copyOf(all), holding);
         } catch (AnalyzerException | IllegalStateException | IndexOutOfBoundsException | NullPointerException e) {
-            throw new BadInput(file.name() + "." + method.name + method.desc + " can't be converted: " + e.getMessage(), e);
+            throw new BadInput(file.name() + "." + method.name + method.desc + " can't be converted: " + e.getMessage(),
+                    e);
         }
     }
 
@@ -91,8 +92,8 @@ public final class Body {
     }
 
     /**
-     * For each instruction that has statements, just before it: for each slot that surely holds a reference the one local
-     * that has it.
+     * For each instruction that has statements, just before it: for each slot that surely holds a reference the one
+     * local that has it.
      */
     public Map<Integer, Map<Integer, Local>> held() {
         Map<Integer, Map<Integer, Local>> held = new LinkedHashMap<>();

@@ -36,7 +36,8 @@ public final class Converter {
 
     /** A class of the path, rewritten, and behind it those that stand for its lambdas. */
     public List<ClassFile> classes(String internalName) throws BadInput, IOException {
-        byte[] bytes = path.find(internalName).orElseThrow(() -> new BadInput(internalName + ": there is no such class"));
+        byte[] bytes = path.find(internalName).orElseThrow(() -> new BadInput(internalName
+                + ": there is no such class"));
         ClassFile file = ClassFile.read(bytes, from, internalName);
         List<ClassFile> all = new ArrayList<>(List.of(file));
         all.addAll(Rewriting.rewrite(file, this::look));

@@ -10,7 +10,10 @@ import org.objectweb.asm.Type;
 import org.objectweb.asm.tree.LocalVariableNode;
 import org.objectweb.asm.tree.MethodNode;
 
-/** Which local has what a slot of the JVM holds, where that is one local on all paths. It is worked out where it is asked. */
+/**
+ * Which local has what a slot of the JVM holds, where that is one local on all paths. It is worked out where it is
+ * asked.
+ */
 final class Holding {
     private static final Local NONE = new Local("", Type.VOID_TYPE, null);
 

@@ -51,7 +51,8 @@ final class Lambdas {
         node.sourceFile = outer.sourceFile;
         node.nestHostClass = outer.nestHostClass == null ? outer.name : outer.nestHostClass;
         for (int i = 0; i < captured.length; i++) {
-            node.fields.add(new FieldNode(Opcodes.ACC_PRIVATE | Opcodes.ACC_FINAL, field(i), captured[i].getDescriptor(),
+            node.fields.add(new FieldNode(Opcodes.ACC_PRIVATE | Opcodes.ACC_FINAL, field(i),
+                    captured[i].getDescriptor(),
                     null, null));
         }
         node.methods.add(constructor());

@@ -26,8 +26,8 @@ public final class MapFile {
      * @param file the class's package as a folder, and its source file; or null
      * @param reached whether a run may reach it, as far as that is known
      * @param statements the statements by their numbers
-     * @param slots before each instruction that has statements, by its number, the slots that surely hold references, and
-     *     the local that has each
+     * @param slots before each instruction that has statements, by its number, the slots that surely hold references,
+     *     and the local that has each
      */
     @JsonInclude(JsonInclude.Include.NON_NULL)
     public record OfMethod(String method, String owner, String file, From from, boolean reached,

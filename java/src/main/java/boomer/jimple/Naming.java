@@ -139,7 +139,8 @@ final class Naming {
     }
 
     private static String temporary(Type type, Map<Character, Integer> counts, Set<String> taken) {
-        char letter = Variable.isReference(type) ? 'r' : Character.toLowerCase(Variable.kind(type).getDescriptor().charAt(0));
+        char letter = Variable.isReference(type) ? 'r'
+                : Character.toLowerCase(Variable.kind(type).getDescriptor().charAt(0));
         while (true) {
             String name = "$" + letter + counts.merge(letter, 1, Integer::sum);
             if (taken.add(name)) {

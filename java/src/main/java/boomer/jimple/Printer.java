@@ -147,7 +147,8 @@ public final class Printer {
             }
             case CAUGHT -> Names.ofMember(it.to().name()) + " := @caughtexception";
             case GOTO -> "goto " + labels.get(it.jumps().get(0));
-            case IF -> "if " + word(it, 0) + " " + sign(it) + " " + word(it, 1) + " goto " + labels.get(it.jumps().get(0));
+            case IF -> "if " + word(it, 0) + " " + sign(it) + " " + word(it, 1) + " goto "
+                    + labels.get(it.jumps().get(0));
             case SWITCH -> cases(it, labels);
             case RETURN -> it.words().isEmpty() ? "return" : "return " + word(it, 0);
             case THROW -> "throw " + word(it, 0);
@@ -220,7 +221,8 @@ public final class Printer {
     }
 
     private static String words(Stmt it, int from) {
-        return it.words().subList(from, it.words().size()).stream().map(Printer::value).collect(Collectors.joining(", "));
+        return it.words().subList(from, it.words().size()).stream()
+                .map(Printer::value).collect(Collectors.joining(", "));
     }
 
     private static String value(Value value) {

@@ -52,7 +52,8 @@ final class Records {
                 case Type.LONG -> coder.op(Opcodes.LCMP).jump(Opcodes.IFNE, no);
                 case Type.FLOAT -> coder.op(Opcodes.FCMPL).jump(Opcodes.IFNE, no);
                 case Type.DOUBLE -> coder.op(Opcodes.DCMPL).jump(Opcodes.IFNE, no);
-                default -> coder.call(Opcodes.INVOKESTATIC, OBJECTS, "equals", "(Ljava/lang/Object;Ljava/lang/Object;)Z")
+                default -> coder.call(Opcodes.INVOKESTATIC, OBJECTS, "equals",
+                        "(Ljava/lang/Object;Ljava/lang/Object;)Z")
                         .jump(Opcodes.IFEQ, no);
             }
         }

@@ -5,7 +5,9 @@ import boomer.classes.Classes;
 import java.util.ArrayList;
 import java.util.List;
 import org.objectweb.asm.Handle;
+import org.objectweb.asm.Opcodes;
 import org.objectweb.asm.tree.AbstractInsnNode;
+import org.objectweb.asm.tree.FieldNode;
 import org.objectweb.asm.tree.InvokeDynamicInsnNode;
 import org.objectweb.asm.tree.MethodInsnNode;
 import org.objectweb.asm.tree.MethodNode;
@@ -17,6 +19,7 @@ import org.objectweb.asm.tree.MethodNode;
 public final class Rewriting {
     private static final String FACTORIES = "java/lang/invoke/";
 
+    static final String INITIALIZER = "<clinit>";
     private final ClassFile file;
     private final List<ClassFile> added = new ArrayList<>();
     private final List<MethodNode> members = new ArrayList<>();
@@ -42,10 +45,21 @@ public final class Rewriting {
             calls.rewrite(member);
             file.node().methods.add(member);
         }
+        if (!texts(file).isEmpty() && file.method(INITIALIZER, "()V") == null) {
+            file.node().methods.add(new Coder(Opcodes.ACC_STATIC, INITIALIZER, "()V", 0).op(Opcodes.RETURN).method());
+        }
         for (ClassFile each : rewriting.added) {
             each.node().methods.forEach(new Calls(each, name -> find(name, file, classes))::rewrite);
         }
         return rewriting.added;
+    }
+
+    /**
+     * The static fields that have a text as their constant. There is no code for these: {@code Walk} puts it in front.
+     */
+    static List<FieldNode> texts(ClassFile file) {
+        return file.node().fields.stream()
+                .filter(field -> (field.access & Opcodes.ACC_STATIC) != 0 && field.value instanceof String).toList();
     }
 
     private static java.util.Optional<ClassFile> find(String name, ClassFile file, Classes classes) {

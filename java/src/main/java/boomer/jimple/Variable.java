@@ -3,8 +3,8 @@ package boomer.jimple;
 import org.objectweb.asm.Type;
 
 /**
- * What becomes locals: a slot, a place of the stack at borders, or a value that one instruction makes. Slots and places of
- * the stack are told apart by the kind of what they hold, too: no instruction reads a number that another wrote as a
+ * What becomes locals: a slot, a place of the stack at borders, or a value that one instruction makes. Slots and places
+ * of the stack are told apart by the kind of what they hold, too: no instruction reads a number that another wrote as a
  * reference.
  *
  * @param number the slot, the depth, or the number of the value

@@ -1,5 +1,6 @@
 package boomer.jimple;
 
+import boomer.classes.ClassFile;
 import java.util.ArrayList;
 import java.util.Collections;
 import java.util.LinkedHashMap;
@@ -10,6 +11,7 @@ import org.objectweb.asm.Opcodes;
 import org.objectweb.asm.Type;
 import org.objectweb.asm.tree.AbstractInsnNode;
 import org.objectweb.asm.tree.FieldInsnNode;
+import org.objectweb.asm.tree.FieldNode;
 import org.objectweb.asm.tree.IincInsnNode;
 import org.objectweb.asm.tree.IntInsnNode;
 import org.objectweb.asm.tree.InvokeDynamicInsnNode;
@@ -27,8 +29,8 @@ import org.objectweb.asm.tree.analysis.BasicValue;
 import org.objectweb.asm.tree.analysis.Frame;
 
 /**
- * One pass over the instructions of a method, which turns the stack into statements. Loads of locals and constants make no
- * statement; each other instruction makes its own at its place, so nothing that may raise moves.
+ * One pass over the instructions of a method, which turns the stack into statements. Loads of locals and constants make
+ * no statement; each other instruction makes its own at its place, so nothing that may raise moves.
  */
 final class Walk {
     private static final Type THROWABLE = Type.getObjectType("java/lang/Throwable");
@@ -53,9 +55,23 @@ final class Walk {
         parameters(Type.getObjectType(owner));
     }
 
+    /**
+     * The fields that the JVM sets by itself before the initializer runs: the static ones that have a text as a
+     * constant.
+     */
+    private void constants(ClassFile file) {
+        for (FieldNode field : Rewriting.texts(file)) {
+            emit(Kind.STORE_STATIC, null, List.of(Constant.text((String) field.value)),
+                    new Named.Field(file.name(), field.name, field.desc));
+        }
+    }
+
     /** The lines of a method. The frames are those before each of its instructions, null where no path leads. */
-    static Draft draft(String owner, MethodNode method, Instructions code, Frame<BasicValue>[] frames) {
-        Walk walk = new Walk(owner, method, code, frames);
+    static Draft draft(ClassFile file, MethodNode method, Instructions code, Frame<BasicValue>[] frames) {
+        Walk walk = new Walk(file.name(), method, code, frames);
+        if (method.name.equals(Rewriting.INITIALIZER)) {
+            walk.constants(file);
+        }
         walk.all();
         return new Draft(walk.lines, walk.traps());
     }

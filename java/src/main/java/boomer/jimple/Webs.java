@@ -10,8 +10,8 @@ import java.util.Map;
 /**
  * The webs of a draft: two definitions of a variable are in one web where they reach one use. Each web becomes a local.
  *
- * <p>Along each edge between blocks the web of a variable that is live behind it goes on; where several edges meet, their
- * webs are one. Edges to handlers leave before each line of a block that a trap covers.
+ * <p>Along each edge between blocks the web of a variable that is live behind it goes on; where several edges meet,
+ * their webs are one. Edges to handlers leave before each line of a block that a trap covers.
  */
 final class Webs {
     private final Draft draft;

@@ -8,8 +8,8 @@ import java.util.List;
 import java.util.Map;
 
 /**
- * Which program is asked: the one that {@code BOOMER} names; else the one that the script {@code ./boomer} keeps, proved or,
- * where none is, tried. Each kept one has a stamp beside it.
+ * Which program is asked: the one that {@code BOOMER} names; else the one that the script {@code ./boomer} keeps,
+ * proved or, where none is, tried. Each kept one has a stamp beside it.
  */
 public final class Programs {
     private Programs() { }
@@ -54,7 +54,8 @@ public final class Programs {
                     .redirectError(ProcessBuilder.Redirect.INHERIT).start();
             script.getOutputStream().close();
             if (script.waitFor() != 0) {
-                throw new ProgramFailed("./boomer " + String.join(" ", words) + " ended with status " + script.exitValue());
+                throw new ProgramFailed("./boomer " + String.join(" ", words) + " ended with status "
+                        + script.exitValue());
             }
         } catch (IOException e) {
             throw new ProgramFailed("./boomer can't be run: " + e.getMessage());
