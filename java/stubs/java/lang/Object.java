@@ -2,13 +2,13 @@ package java.lang;
 
 import boomer.support.Keeps;
 
-@Keeps("nothing; a copy by clone is the object itself, and the class is any one that the text names, or another")
+@Keeps("nothing; a copy by clone is the object itself, and the class is any that the text has as a constant")
 public class Object {
     public Object() { }
 
-    /** Closing a text puts the class constants of the text in front. */
+    /** Closing a text puts its class constants in front. That of Object stands for all classes that have none. */
     public final Class<?> getClass() {
-        return Class.ANY;
+        return Object.class;
     }
 
     public int hashCode() {

@@ -4,10 +4,12 @@ import boomer.classes.BadInput;
 import boomer.classes.ClassFile;
 import boomer.classes.From;
 import boomer.classes.Names;
+import boomer.jimple.Body;
 import boomer.jimple.MapFile;
 import java.util.Comparator;
 import java.util.List;
 import java.util.Map;
+import org.objectweb.asm.tree.MethodNode;
 
 /**
  * A text from whose entry a run finds all that it may reach.
@@ -30,15 +32,26 @@ public record Closed(String entry, byte[] text, MapFile map, Rests rests, Reach 
                 .sorted(Comparator.comparing((ClassFile file) -> file.from() != From.USER)
                         .thenComparing(ClassFile::name))
                 .toList();
-        if (depth == Depth.DEEP) {
-            files.stream().filter(file -> file.name().equals(Unknown.KEPT)).forEach(file ->
-                    world.unknown().mix(file.method("mix", "()V"),
-                            files.stream().filter(each -> each.from() != From.USER && !isSupport(each)).toList()));
+        for (ClassFile file : files) {
+            if (file.name().equals(Unknown.KEPT) && depth == Depth.DEEP) {
+                MethodNode mix = file.method("mix", "()V");
+                world.unknown().mix(mix, files.stream().filter(each -> each.from() != From.USER && !isSupport(each))
+                        .toList());
+                refill(reach, file, mix);
+            } else if (file.name().equals("java/lang/Object")) {
+                MethodNode getClass = file.method("getClass", "()Ljava/lang/Class;");
+                ClassConstants.give(getClass, files, reach);
+                refill(reach, file, getClass);
+            }
         }
-        files.stream().filter(file -> file.name().equals("java/lang/Object"))
-                .forEach(file -> ClassConstants.give(file.method("getClass", "()Ljava/lang/Class;"), files, reach));
         Text text = new Text(reach, rests);
         return new Closed(Names.plainClass(entry), text.of(files), text.map(), rests, reach);
+    }
+
+    private static void refill(Reach reach, ClassFile file, MethodNode method) throws BadInput {
+        if (reach.has(method)) {
+            reach.put(method, Body.of(file, method));
+        }
     }
 
     private static boolean isSupport(ClassFile file) {

@@ -36,11 +36,6 @@ final class Copies {
         return bodies;
     }
 
-    /** Whether a method is a copy. */
-    boolean has(MethodNode method) {
-        return bodies.containsKey(method);
-    }
-
     /** A body, of which each call of a stub has a copy of its own where that tells anything apart. */
     Body calling(ClassFile file, Body body) {
         return file.from() == From.USER ? calling(body, DEPTH) : body;

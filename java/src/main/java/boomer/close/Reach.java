@@ -102,6 +102,11 @@ public final class Reach {
         return bodies.get(method);
     }
 
+    /** A method has this body: it was filled when all classes were known, or it is a copy of one that is reached. */
+    void put(MethodNode method, Body body) {
+        bodies.put(method, body);
+    }
+
     /** The internal names of classes that are named where a run may come, and aren't there. */
     public Set<String> missing() {
         return missing;

@@ -50,11 +50,12 @@ final class Text {
             }
         }
         copies.bodies().forEach(bodies::put);
+        copies.bodies().forEach(reach::put);
         bodies.replaceAll((method, body) -> body.with(targets::decided));
         bodies.values().forEach(body -> body.statements().forEach(this::note));
         StringBuilder text = new StringBuilder();
         for (ClassFile file : files) {
-            text.append(print(file, copies));
+            text.append(print(file));
         }
         return text.toString().getBytes(StandardCharsets.UTF_8);
     }
@@ -66,10 +67,10 @@ final class Text {
         }
     }
 
-    private String print(ClassFile file, Copies copies) throws BadInput {
+    private String print(ClassFile file) throws BadInput {
         for (MethodNode method : file.node().methods) {
             if (bodies.containsKey(method)) {
-                map.add(file, method, bodies.get(method), reach.has(method) || copies.has(method), false);
+                map.add(file, method, bodies.get(method), reach.has(method), false);
             }
         }
         return Printer.print(file, file.node().methods.stream().filter(method -> stands(file, method)).toList(),
@@ -96,8 +97,6 @@ final class Text {
         if (reach.has(method)) {
             rests.reached(method);
         }
-        boolean isFilled = file.name().equals(Unknown.KEPT) && method.name.equals("mix")
-                || file.name().equals("java/lang/Object") && method.name.equals("getClass");
-        return reach.has(method) && !isFilled ? reach.body(method) : Body.of(file, method);
+        return reach.has(method) ? reach.body(method) : Body.of(file, method);
     }
 }
