@@ -54,7 +54,8 @@ public record Closed(String entry, byte[] text, MapFile map, Rests rests, Reach 
         }
     }
 
-    private static boolean isSupport(ClassFile file) {
+    /** Whether a class stands for what the JVM does: its sites are what the JVM makes. */
+    static boolean isSupport(ClassFile file) {
         return file.name().startsWith("boomer/support/");
     }
 }

@@ -69,7 +69,7 @@ final class Copies {
     private boolean isCopied(Targets.Target target) {
         return target.owner().from() == From.STUB && !target.owner().isInterface()
                 && !target.method().name.startsWith("<")
-                && !target.owner().name().equals("java/lang/Object")
+                && !target.owner().name().equals("java/lang/Object") && !Closed.isSupport(target.owner())
                 && (isCallingBack(target.method())
                         || reach.body(target.method()).statements().stream().anyMatch(this::isMaking));
     }
