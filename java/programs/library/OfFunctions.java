@@ -26,7 +26,7 @@ class OfFunctions {
         Object r = h.andThen(Function.identity()).apply(a, b);
         AtomicReference<Object> unknown = new AtomicReference<>(a);
         Object got = unknown.get();
-        Object updated = unknown.updateAndGet(x -> made);
+        Object updated = unknown.updateAndGet(x -> b);
         AtomicReferenceArray<Object> cells = new AtomicReferenceArray<>(new Object[] {words});
         Object inCell = cells.get(0);
     }

@@ -21,6 +21,6 @@ class LibraryTest {
 
     @Test
     void howManyThereAre() {
-        assertEquals(25, Suite.names("library").size());
+        assertEquals(28, Suite.names("library").size());
     }
 }
