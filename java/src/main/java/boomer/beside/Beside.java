@@ -36,11 +36,6 @@ public final class Beside {
         return new Seen(running).compare(program, closed.text(), closed.entry(), refined);
     }
 
-    /** The same, but where a local held the same sites at several places only at the first of them. */
-    Seen.Result seenFirst(Program program, int refined) throws ProgramFailed {
-        return new Seen(running).firsts().compare(program, closed.text(), closed.entry(), refined);
-    }
-
     /** Compares the machine, for at most so many steps. */
     public Drive.Result drive(Program program, int most) throws ProgramFailed {
         return drive(driving(), program, most);

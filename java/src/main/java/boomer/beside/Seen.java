@@ -8,7 +8,6 @@ import boomer.program.Site;
 import java.io.ByteArrayOutputStream;
 import java.nio.charset.StandardCharsets;
 import java.util.ArrayList;
-import java.util.HashSet;
 import java.util.LinkedHashMap;
 import java.util.LinkedHashSet;
 import java.util.List;
@@ -58,14 +57,6 @@ public final class Seen {
                 ofLibrary++;
             }
         });
-    }
-
-    /** Keeps of the places at which a local held the same sites the first one alone, and none where it held no site. */
-    Seen firsts() {
-        Set<List<Object>> known = new HashSet<>();
-        seen.entrySet().removeIf(each -> each.getValue().isEmpty()
-                || !known.add(List.of(each.getKey().method, each.getKey().local, each.getValue())));
-        return this;
     }
 
     /** Asks for each place, and for so many of them with calls refined. */

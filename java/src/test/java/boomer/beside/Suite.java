@@ -70,8 +70,7 @@ final class Suite {
     }
 
     /**
-     * All programs of a folder, each once; with {@code isDriven} beside the machine, too, and at each place of the
-     * answers.
+     * All programs of a folder, each once; with {@code isDriven} beside the machine, too.
      */
     static synchronized Map<String, Outcome> outcomes(String folder, boolean isDriven) throws Exception {
         Map<String, Outcome> done = DONE.get(folder);
@@ -130,10 +129,8 @@ final class Suite {
     private static Outcome compared(String folder, String name, boolean isDriven) throws Exception {
         ClassPath user = classes(folder);
         Beside beside = Beside.run(closed(user, name), user);
-        if (!isDriven) {
-            return new Outcome(beside.seenFirst(program(), 0), null);
-        }
-        return new Outcome(beside.seen(program(), REFINED), beside.drive(program(), MOST_STEPS));
+        Seen.Result seen = beside.seen(program(), REFINED);
+        return new Outcome(seen, isDriven ? beside.drive(program(), MOST_STEPS) : null);
     }
 
     /** The numbers of a folder's programs, in the order of the table in the companion's README. */
