@@ -5,7 +5,15 @@ import java.util.*;
 
 /** Readers, writers and scanners. */
 class OfReaders {
-    static class Entry { final String key; final List<String> values = new ArrayList<>(); Entry(String key) { this.key = key; } }
+    static class Entry {
+        final String key;
+        final List<String> values = new ArrayList<>();
+
+        Entry(String key) {
+            this.key = key;
+        }
+    }
+
     public static void main(String[] args) throws IOException {
         Map<String, Entry> entries = new LinkedHashMap<>();
         try {
@@ -16,7 +24,8 @@ class OfReaders {
         } catch (IOException e) {
             Object caught = e;
         }
-        try (BufferedReader reader = new BufferedReader(new InputStreamReader(new ByteArrayInputStream("a:b".getBytes()), StandardCharsets.UTF_8))) {
+        InputStream bytes = new ByteArrayInputStream("a:b".getBytes());
+        try (BufferedReader reader = new BufferedReader(new InputStreamReader(bytes, StandardCharsets.UTF_8))) {
             String line;
             while ((line = reader.readLine()) != null) {
                 String[] parts = line.split(":");

@@ -117,8 +117,8 @@ public final class Printer {
         }
         label(labels.get(body.statements().size()));
         for (Trap trap : body.traps()) {
-            out.append("        catch ").append(Names.ofClass(trap.type())).append(" from ").append(labels.get(trap.from()))
-                    .append(" to ").append(labels.get(trap.to())).append(" with ").append(labels.get(trap.handler()))
+            out.append("        catch ").append(Names.ofClass(trap.type())).append(" from ")
+                    .append(labels.get(trap.from())).append(" to ").append(labels.get(trap.to())).append(" with ").append(labels.get(trap.handler()))
                     .append(";\n");
         }
     }
@@ -194,7 +194,8 @@ public final class Printer {
 
     private static String arrays(Stmt it) {
         Type type = ((Named.OfType) it.named()).type();
-        StringBuilder text = new StringBuilder("newmultiarray (").append(Names.ofType(type.getElementType())).append(')');
+        StringBuilder text = new StringBuilder("newmultiarray (").append(Names.ofType(type.getElementType()))
+                .append(')');
         it.words().forEach(word -> text.append('[').append(value(word)).append(']'));
         return text.append("[]".repeat(type.getDimensions() - it.words().size())).toString();
     }
@@ -203,7 +204,8 @@ public final class Printer {
         List<Integer> keys = ((Named.Keys) it.named()).keys();
         StringBuilder text = new StringBuilder("lookupswitch(").append(word(it, 0)).append(") {");
         for (int i = 0; i < keys.size(); i++) {
-            text.append(" case ").append(keys.get(i)).append(": goto ").append(labels.get(it.jumps().get(i))).append(';');
+            text.append(" case ").append(keys.get(i)).append(": goto ").append(labels.get(it.jumps().get(i)))
+                    .append(';');
         }
         return text.append(" default: goto ").append(labels.get(it.jumps().get(keys.size()))).append("; }").toString();
     }

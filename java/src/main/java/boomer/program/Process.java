@@ -26,7 +26,8 @@ record Process(Path path, String name, boolean proved, long seconds) implements 
         List<String> command = new ArrayList<>(List.of(path.toString()));
         command.addAll(words);
         try {
-            java.lang.Process process = new ProcessBuilder(command).redirectError(ProcessBuilder.Redirect.DISCARD).start();
+            java.lang.Process process = new ProcessBuilder(command).redirectError(ProcessBuilder.Redirect.DISCARD)
+                    .start();
             CompletableFuture<byte[]> reply = CompletableFuture.supplyAsync(() -> read(process), THREADS);
             CompletableFuture.runAsync(() -> write(process, input), THREADS);
             if (!process.waitFor(seconds, TimeUnit.SECONDS)) {

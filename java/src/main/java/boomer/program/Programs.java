@@ -37,8 +37,9 @@ public final class Programs {
             confirm(top, List.of("--try", "demo", "1"));
             return new Process(out.resolve("tried"), "./boomer --try", false, seconds);
         }
-        throw new ProgramFailed("no program is built. `./boomer demo 1` proves and builds it, in 45 to 95 minutes on four "
-                + "processors; `./boomer --try demo 1` builds one that isn't proved, in two. BOOMER may name another one");
+        throw new ProgramFailed("no program is built. `./boomer demo 1` proves and builds it, in 45 to 95 minutes "
+                + "on four processors; `./boomer --try demo 1` builds one that isn't proved, in two. "
+                + "BOOMER may name another one");
     }
 
     private static boolean isKept(Path program) {

@@ -12,7 +12,8 @@ import java.util.regex.Pattern;
  * @param type what is made there, as replies spell types
  */
 public record Site(String text, Kind kind, String method, int index, String type) {
-    private static final Pattern AT_PLACE = Pattern.compile("(root|<[^<>]*(?:<(?:init|clinit)>[^<>]*)?>) (\\d+) (new|raise) (\\S+)");
+    private static final Pattern AT_PLACE = Pattern.compile(
+            "(root|<[^<>]*(?:<(?:init|clinit)>[^<>]*)?>) (\\d+) (new|raise) (\\S+)");
 
     /** The kinds of sites. */
     public enum Kind {
