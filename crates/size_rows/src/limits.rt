@@ -10,7 +10,7 @@ use std::thread::Threads;
 // A copy of an object, and so many bytes in all: the rest are blanks.
 fn padded(alloc: Global, bytes: usize) -> Result<String, AllocError> {
     let mut text = copies(alloc, 1)?;
-    while text.len() < bytes {
+    for _ in text.len()..bytes {
         text.push(' ')?;
     }
     Ok(text)
