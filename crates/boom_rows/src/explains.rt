@@ -96,15 +96,15 @@ x = virtualinvoke a.<Box: java.lang.Object get()>(); y = virtualinvoke b.<Box: j
 // The lines of an explanation, without those of its certificates.
 fn outline(alloc: Global, reply: &str) -> Result<String, AllocError> {
     let mut text = String::new(alloc);
-    let mut lines = reply.lines();
-    while let Some(line) = lines.next() {
+    let mut skipped: u32 = 0;
+    for line in reply.lines() {
+        if skipped > 0 {
+            skipped -= 1;
+            continue;
+        }
         match line.strip_prefix("certificate ") {
-            Some(count) => {
-                // The query comes first, and isn't counted.
-                for _ in 0..=count.parse::<u32>().unwrap_or(0) {
-                    lines.next();
-                }
-            }
+            // The query comes first, and isn't counted.
+            Some(count) => skipped = count.parse::<u32>().unwrap_or(0).saturating_add(1),
             None => {
                 text.push_str(line)?;
                 text.push('\n')?;
