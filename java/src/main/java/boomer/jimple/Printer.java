@@ -118,7 +118,8 @@ public final class Printer {
         label(labels.get(body.statements().size()));
         for (Trap trap : body.traps()) {
             out.append("        catch ").append(Names.ofClass(trap.type())).append(" from ")
-                    .append(labels.get(trap.from())).append(" to ").append(labels.get(trap.to())).append(" with ").append(labels.get(trap.handler()))
+                    .append(labels.get(trap.from())).append(" to ").append(labels.get(trap.to())).append(" with ")
+                    .append(labels.get(trap.handler()))
                     .append(";\n");
         }
     }
