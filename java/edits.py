@@ -62,7 +62,7 @@ EDITS = [
     ("a default method not reached", CLOSE + "Reach.java", "        for (String above : ancestors(file)) {\n            ClassFile each = world",
      "        for (String above : List.<String>of()) {\n            ClassFile each = world", LIBRARY),
     ("a parent's initializer forgotten", CLOSE + "Reach.java",
-     "        parents(file).forEach(name -> world.find(name).ifPresent(this::initialize));\n", "", LIBRARY),
+     "        parents(file).forEach(name -> world.find(name).ifPresent(this::initialize));\n", ""),
     ("a completed member that keeps nothing", CLOSE + "Unknown.java", "                keep(code.load(type, slot));\n", "", LIBRARY),
     ("no callback", CLOSE + "Unknown.java", "called.size() <= CALLED_BACK ? called", "called.size() < 0 ? called", LIBRARY),
     ("deep without elements", CLOSE + "Unknown.java",
