@@ -7,8 +7,9 @@ usage: tools/build.py TO LOG
 don't stand on each other side by side. There is no pass over all sources at once. What is proved is kept beside the kit, crate by crate, so a build that is broken
 off goes on from there, and what `rt ci` has proved on this machine isn't proved again. The program is what `rt ci` leaves, once it has run it.
 
-It takes at most 6 GB: as many checks run at once as there are processors, and at most four; where they come near that bound, the youngest of them waits until there
-is room again. For each crate a line on standard error has its minutes and what is left. What `rt ci` says goes to LOG. The status is 0 where TO is the program.
+It takes some 6 GB: as many checks run at once as there are processors, and at most three, since one takes up to 3 GB; where they come near that bound, the
+youngest of them waits until there is room again. What waits keeps its memory, so with four at once only one of them goes on for most of the time. For each
+crate a line on standard error has its minutes and what is left. What `rt ci` says goes to LOG. The status is 0 where TO is the program.
 """
 import os
 import re
@@ -24,9 +25,9 @@ import checks
 TOP = os.path.normpath(os.path.join(os.path.dirname(os.path.abspath(__file__)), '..'))
 PROGRAM = 'boomer'
 # In bytes: all processes of a build together, and that from which on a check waits or goes on.
-MOST, WAITS_FROM, GOES_ON_BELOW = 6_000_000_000, 5_200_000_000, 4_200_000_000
+MOST, WAITS_FROM, GOES_ON_BELOW = 6_000_000_000, 5_500_000_000, 5_300_000_000
 # Side by side, and the memory for each of them that has to be free, in bytes.
-MOST_LANES, LANE = 4, 1_500_000_000
+MOST_LANES, LANE = 3, 1_500_000_000
 ROW = re.compile(r'^\| `(\w+)` \| [^|]*\| ([\d.]+)', re.M)
 
 

@@ -2,6 +2,11 @@
 class Finally {
     static Object log;
 
+    /** Only a handler of any class catches it. */
+    static class Grave extends Error {
+        private static final long serialVersionUID = 1;
+    }
+
     static Object way(int way) {
         for (int i = 0; ; i++) {
             try {
@@ -42,12 +47,35 @@ class Finally {
         }
     }
 
-    public static void main(String[] words) {
+    static void left() {
+        try {
+            throw new Grave();
+        } finally {
+            log = "grave";
+        }
+    }
+
+    static Object replaced() throws Throwable {
+        Throwable inner = new Throwable();
+        try {
+            try {
+                throw inner;
+            } finally {
+                left();
+            }
+        } catch (Grave e) {
+            return e;
+        }
+    }
+
+    public static void main(String[] words) throws Throwable {
         Object a = way(0);
         Object b = way(1);
         Object c = way(2);
         Object d = log;
         Object e = swallowed("value");
         Object f = kept(new Object());
+        Object g = replaced();
+        Object h = log;
     }
 }

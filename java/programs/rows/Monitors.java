@@ -22,6 +22,16 @@ class Monitors {
         }
     }
 
+    static Object failed(Object lock, Error error) {
+        try {
+            synchronized (lock) {
+                throw error;
+            }
+        } catch (Error e) {
+            return e;
+        }
+    }
+
     public static void main(String[] words) {
         Monitors m = new Monitors();
         m.set("set", false);
@@ -39,6 +49,7 @@ class Monitors {
         } catch (NullPointerException e) {
             got = e;
         }
+        Object error = failed(got, new AssertionError());
         for (int i = 0; i < 2; i++) {
             synchronized (got) {
                 if (i == 0) {

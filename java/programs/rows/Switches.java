@@ -26,6 +26,17 @@ class Switches {
         return "else";
     }
 
+    static Object middle(int key) {
+        switch (key) {
+            case 7:
+                return "seven";
+            default:
+                key = 0;
+            case 3:
+                return new Object[key];
+        }
+    }
+
     static Object word(String key) {
         return switch (key) {
             case "a" -> "A";
@@ -44,6 +55,9 @@ class Switches {
         Object low = far(-1000);
         Object high = far(1000000);
         Object other = far(0);
+        for (int key = 7; key > 2; key -= 2) {
+            Object o = middle(key);
+        }
         Object a = word("a");
         Object b = word("b");
         Object c = word("c");

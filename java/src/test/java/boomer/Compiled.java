@@ -13,6 +13,8 @@ import java.nio.file.Files;
 import java.nio.file.Path;
 import java.util.ArrayList;
 import java.util.List;
+import java.util.Map;
+import java.util.TreeMap;
 import javax.tools.JavaCompiler;
 import javax.tools.ToolProvider;
 
@@ -44,6 +46,16 @@ public final class Compiled {
     /** The folder of the class files and of the source. */
     public Path folder() {
         return folder;
+    }
+
+    /** The class files by their internal names. */
+    public Map<String, byte[]> files() throws Exception {
+        ClassPath path = ClassPath.of(folder.toString());
+        Map<String, byte[]> files = new TreeMap<>();
+        for (String name : path.names()) {
+            files.put(name, path.find(name).orElseThrow());
+        }
+        return files;
     }
 
     /** The text of a class, and of those that stand for its lambdas. */

@@ -61,7 +61,7 @@ final class Choices {
                 Difference.unless(next != null && next.kind == Event.Kind.AT && next.method.equals(now.method()),
                         "behind a condition Java goes on with " + next);
                 int place = next.spot.index();
-                yield it.kind() == Kind.IF ? jump(it, now, place) : label(it, place);
+                yield it.kind() == Kind.IF ? jump(it, now, place) : label(it, frame.last.key, place);
             }
             case CAST -> covered("reference cast", raises ? 1 : 0);
             case CONVERT -> {
@@ -89,10 +89,13 @@ final class Choices {
         return covered("if", isNext ? 0 : 1);
     }
 
-    private int label(Stmt it, int place) throws Difference {
-        int label = it.jumps().indexOf(place);
-        Difference.unless(label >= 0, "Java goes on at " + place + ", which is no label of the switch");
-        covered.add(label == it.jumps().size() - 1 ? "switch default" : "switch label " + label);
+    /** The label that the statement has for the number by which Java goes: there Java has to go on. */
+    private int label(Stmt it, int key, int place) throws Difference {
+        List<Integer> keys = ((Named.Keys) it.named()).keys();
+        int label = keys.contains(key) ? keys.indexOf(key) : keys.size();
+        Difference.unless(place == it.jumps().get(label),
+                "Java goes on at " + place + " by " + key + ", and the switch at " + it.jumps().get(label));
+        covered.add(label == keys.size() ? "switch default" : "switch label " + label);
         return label;
     }
 

@@ -29,6 +29,8 @@ final class Event {
     /** The array whose element the instruction reads or writes, and the index. */
     Object array;
     int index;
+    /** The number by which a switch goes. */
+    int key;
     /** What {@code clone} made of an array. */
     Object cloned;
 

@@ -117,6 +117,11 @@ public final class Trace {
         now.last.index = index;
     }
 
+    /** The number by which this instruction, a switch, goes. */
+    public static void key(int number) {
+        now.last.key = number;
+    }
+
     /** A handler begins. */
     public static void caught(Throwable thrown, int method) {
         now.raised(thrown);

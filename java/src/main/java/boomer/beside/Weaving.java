@@ -188,6 +188,9 @@ final class Weaving {
         } else if (op >= Opcodes.IASTORE && op <= Opcodes.SASTORE) {
             add(before, Opcodes.DUP_X2, Opcodes.POP, Opcodes.DUP2_X1);
             before.add(call("cell", "(Ljava/lang/Object;I)V"));
+        } else if (op == Opcodes.TABLESWITCH || op == Opcodes.LOOKUPSWITCH) {
+            before.add(new InsnNode(Opcodes.DUP));
+            before.add(call("key", "(I)V"));
         } else if (node instanceof MethodInsnNode call && isCloneOfArray(call)) {
             before.add(new InsnNode(Opcodes.DUP));
             before.add(call("cloning", "(Ljava/lang/Object;)V"));

@@ -10,6 +10,7 @@ import boomer.program.Reply.Refused;
 import java.util.HashMap;
 import java.util.List;
 import java.util.Map;
+import java.util.Set;
 
 /**
  * Closes a text and asks the program whether it links. Where it refuses a body of a library, that body becomes unknown
@@ -37,7 +38,7 @@ public final class Linking {
             OfMethod method = closed.map().method(methodOf(refused));
             boolean isUsers = method == null || method.from() == boomer.classes.From.USER;
             if (isUsers || unknown.size() == TIMES || unknown.put(method.method(), refused.words().get(1)) != null) {
-                throw new NotLinked(refused, said(refused, method));
+                throw new NotLinked(refused, said(refused, method) + missing(refused, closed));
             }
         }
     }
@@ -59,6 +60,13 @@ public final class Linking {
             where = method.file() + (of > 0 ? ":" + of : "") + ": ";
         }
         return where + line + " (status " + refused.status() + "): " + Advice.of(refused);
+    }
+
+    /** The classes that are named and aren't there, where the program refuses since one isn't. */
+    private static String missing(Refused refused, Closed closed) {
+        boolean isMissing = refused.is("NotLinked", "UnknownParent") || refused.is("NotLinked", "UnknownClass");
+        Set<String> names = closed.reach().missing();
+        return !isMissing || names.isEmpty() ? "" : "; not there: " + String.join(", ", names).replace('/', '.');
     }
 
     /** The program refuses the text. Its message has the place and an advice. */

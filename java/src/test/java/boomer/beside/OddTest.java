@@ -3,11 +3,11 @@ package boomer.beside;
 import static org.junit.jupiter.api.Assertions.assertEquals;
 import static org.junit.jupiter.api.Assertions.assertNull;
 
+import boomer.Made;
 import boomer.classes.ClassPath;
 import java.util.LinkedHashMap;
 import java.util.List;
 import java.util.Map;
-import java.util.Optional;
 import java.util.function.Consumer;
 import org.junit.jupiter.api.Test;
 import org.objectweb.asm.ClassWriter;
@@ -20,19 +20,6 @@ class OddTest implements Opcodes {
     private static final String OBJECT = "java/lang/Object";
     private static final String RUNTIME = "java/lang/RuntimeException";
     private static final String GIVEN = "(Ljava/lang/Object;)Ljava/lang/Object;";
-
-    /** Class files that were made here. */
-    private record Made(Map<String, byte[]> files) implements ClassPath {
-        @Override
-        public Optional<byte[]> find(String internalName) {
-            return Optional.ofNullable(files.get(internalName));
-        }
-
-        @Override
-        public List<String> names() {
-            return List.copyOf(files.keySet());
-        }
-    }
 
     private final Map<String, byte[]> files = new LinkedHashMap<>();
 
